@@ -1,0 +1,9 @@
+pub mod Causes
+pub mod MemShelf
+pub mod MemSink
+pub mod Moments
+pub mod Reading
+pub mod Shelves
+pub mod Sinks
+pub mod Statuses
+pub mod Writing
