@@ -48,14 +48,14 @@ after_start shelf name = start_at shelf (bytes_under shelf.files name) (is_due s
 abbrev pub is_started : HeldFiles → List ℕ → Bool
 is_started shelf name = starts_well (bytes_under shelf.files name) (is_due shelf)
 
--- as many bytes as are left and fit
-abbrev pub piece_of : List ℕ → ℕ → Piece
-piece_of [] room = End
-piece_of (byte ∷ bytes) room = Got (min (length (byte ∷ bytes)) room)
+-- so many bytes, or the end where there are none
+abbrev pub piece_of : ℕ → Piece
+piece_of zero = End
+piece_of (suc n) = Got (suc n)
 
--- what a read with so much room gives
+-- what a read with so much room gives: as many bytes as are left and fit
 abbrev pub read_piece : HeldFiles → ℕ → Piece
-read_piece shelf room = if is_due shelf then Failed else piece_of shelf.left room
+read_piece shelf room = if is_due shelf then Failed else piece_of (min (length shelf.left) room)
 
 abbrev pub after_read : HeldFiles → ℕ → HeldFiles
 after_read shelf room = if is_due shelf then failed shelf else record (called shelf) { left = drop room shelf.left }

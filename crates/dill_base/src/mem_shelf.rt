@@ -1,8 +1,8 @@
-ghost use Rattle.std.specs.Prelude.{◌≡◌, ◌<◌, ◌≤◌, ◌++◌, Some, None, Option, length, take, drop, min, [], OnOk, is_ok};
+ghost use Rattle.std.specs.Prelude.{◌≡◌, ◌<◌, ◌+◌, ◌^◌, ◌++◌, Some, None, Option, length, take, drop, min, [], OnOk, is_ok};
 ghost use Rattle.std.specs.Option.{option_map};
 ghost use Rattle.dill_base.specs.Causes.{is_listed};
 ghost use Rattle.dill_base.specs.Shelves.{Files, bytes_under, Starts, StartHasCause, Reads, ReadHasCause};
-ghost use Rattle.dill_base.specs.MemShelf.{left_of, after_start, is_started, after_read, read_piece, buffer_after};
+ghost use Rattle.dill_base.specs.MemShelf.{left_of, after_start, is_started, after_read, read_piece, piece_of, buffer_after};
 
 use crate::{Failed, Octets, Piece, Shelf};
 use std::marker::Model;
@@ -87,7 +87,7 @@ impl Shelf for MemShelf {
         }
         let count = copy_front(left_at(self.held.as_slice(), self.place, self.at), buf);
         self.at += count;
-        if count == 0 { Piece::End } else { Piece::Got(count) }
+        piece(count)
     }
 }
 
@@ -112,13 +112,25 @@ pub(crate) fn listed(fails: &[u64], number: u64) -> bool
 
 /// What is left of the file at a place.
 fn left_at(held: &[(Octets, Octets)], place: usize, at: usize) -> &[u8]
-    ensures { result.now ≡ left_of held.now place at }
+    ensures left { result.now ≡ left_of held.now place at }
+    ensures fits { at + length result.now < 2 ^ 64 }
 {
     if place >= held.len() {
         return &[];
     }
     let bytes = held[place].1.as_slice();
     if at >= bytes.len() { &[] } else { &bytes[at..] }
+}
+
+/// So many bytes, or the end where there are none.
+fn piece(count: usize) -> Piece
+    ensures { result ≡ piece_of count }
+{
+    if count == 0 {
+        Piece::End
+    } else {
+        Piece::Got(count)
+    }
 }
 
 /// Copies as many of the bytes as fit.
