@@ -12,6 +12,8 @@ mod out_sink;
 mod shelf;
 mod sink;
 mod status;
+#[cfg(test)]
+mod tests;
 
 pub use deadline::Deadline;
 pub use errno::{Errno, Failed, Front, NoMemory, WriteFault};
