@@ -61,7 +61,7 @@ resource_length line = prefix_len is_resource_byte line
 
 -- a space, and then a version
 abbrev pub is_version_end : List ℕ → Bool
-is_version_end bytes = stands_at bytes 0 32 && is_version (drop 1 bytes)
+is_version_end bytes = bytes_eq bytes (32 ∷ own_version) || bytes_eq bytes (32 ∷ old_version)
 
 -- the parts of a request line whose token and resource are so long
 abbrev pub request_of : List ℕ → ℕ → ℕ → Option Cut
