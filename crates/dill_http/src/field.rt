@@ -1,4 +1,4 @@
-ghost use Rattle.std.specs.Prelude.{◌≡◌, ◌++◌, IfOk};
+ghost use Rattle.std.specs.Prelude.{◌≡◌, ◌≤◌, ◌++◌, IfOk, length};
 ghost use Rattle.dill_base.specs.Writing.{Writes};
 ghost use Rattle.dill_http.specs.Lines.{crlf};
 ghost use Rattle.dill_http.specs.Heads.{Field, line_of};
@@ -11,25 +11,29 @@ use crate::{Cut, Span};
 use dill_base::{Errno, NoMemory, Octets, WriteFault};
 use std::alloc::Global;
 
+// The value from this place on, without the blanks round it.
+fn bare_span(line: &[u8], place: usize) -> Span
+    requires { place ≤ length line.now }
+    ensures { result ≡ bare_from line.now place }
+{
+    let from = place + blank_length(&line[place..]);
+    Span {
+        from,
+        to: from + bare_length(&line[from..]),
+    }
+}
+
 #[tactic(auto, unfolding(crate::specs::Reading::field_cut))]
 fn cut_field(line: &[u8]) -> Option<Cut>
     ensures { result ≡ field_cut line.now }
 {
     let name = token_length(line);
-    if name == 0 || !stands_at(line, name, b':') {
+    if name == 0 || !stands_at(line, name, b':') || !is_text(&line[name + 1..]) {
         return None;
     }
-    let behind = &line[name + 1..];
-    if !is_text(behind) {
-        return None;
-    }
-    let from = name + 1 + blank_length(behind);
     Some(Cut {
         first: Span { from: 0, to: name },
-        second: Span {
-            from,
-            to: from + bare_length(&line[from..]),
-        },
+        second: bare_span(line, name + 1),
     })
 }
 
