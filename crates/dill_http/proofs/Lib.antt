@@ -1,1 +1,5 @@
 pub mod Ends
+pub mod Runs
+pub mod Shown
+pub mod Fronts
+pub mod Seen
