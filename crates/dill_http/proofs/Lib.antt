@@ -3,3 +3,4 @@ pub mod Runs
 pub mod Shown
 pub mod Fronts
 pub mod Seen
+pub mod Judged
