@@ -4,3 +4,4 @@ pub mod Shown
 pub mod Fronts
 pub mod Seen
 pub mod Judged
+pub mod Requests
