@@ -5,3 +5,5 @@ pub mod Fronts
 pub mod Seen
 pub mod Judged
 pub mod Requests
+pub mod Tails
+pub mod Fields
