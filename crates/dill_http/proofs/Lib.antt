@@ -7,3 +7,4 @@ pub mod Judged
 pub mod Requests
 pub mod Tails
 pub mod Fields
+pub mod Statuses
