@@ -8,3 +8,4 @@ pub mod Requests
 pub mod Tails
 pub mod Fields
 pub mod Statuses
+pub mod Sent
