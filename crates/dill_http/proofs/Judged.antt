@@ -2,7 +2,7 @@
 use Rattle.std.proofs.Common.{◌≡◌, ◌<◌, ◌≤◌, ◌-◌, ◌+◌, ◌++◌, ◌∷◌, [], List, ℕ, suc, zero, length, take, drop, arith, refl, sym, ap, ◌∙◌, subst, Bool, true, false, not, ◌&&◌, ◌||◌, eqb, inl, inr, ◌⊎◌, Option, Some, None, append_assoc, length-append, if◌then◌else◌}
 use Rattle.std.specs.List.{list_all, prefix_len}
 use Rattle.std.proofs.lemmas.Bool.{cases_lt, cases_eq, eqb-true, eqb-false, ne_eqb, eq-eqb}
-use Rattle.std.proofs.lemmas.List.{take_at, drop_at, take-append-le, take-append-drop}
+use Rattle.std.proofs.lemmas.List.{append-nil, take_at, drop_at, take-append-le, take-append-drop}
 use Rattle.std.proofs.Math.Seq.{take-append-add}
 use Rattle.dill_base.specs.Reading.{IsFront, IsWhole, IsOpen, IsShown}
 use Rattle.dill_base.specs.declared.errno.Errno.{Errno}
@@ -293,14 +293,10 @@ pub free : (m n w rest : List ℕ) → LineSpells m w → LineSpells n (w ++ res
 free m n w rest s t =
     let a : prefix_len is_inner (w ++ rest) ≡ length m = message_length m w rest s in
     let b : prefix_len is_inner ((w ++ rest) ++ []) ≡ length n = message_length n (w ++ rest) [] t in
-    let c : prefix_len is_inner ((w ++ rest) ++ []) ≡ prefix_len is_inner (w ++ rest) = ap (prefix_len is_inner) (append_assoc w rest [] ∙ ap (λ x. w ++ x) (append_nil rest)) in
+    let c : prefix_len is_inner ((w ++ rest) ++ []) ≡ prefix_len is_inner (w ++ rest) = ap (prefix_len is_inner) (append_assoc w rest [] ∙ ap (λ x. w ++ x) (append-nil rest)) in
     let k : length w + length rest ≡ length n + 2 = sym (length-append w rest) ∙ ap length t.whole ∙ length-append n crlf in
     let l : length w ≡ length m + 2 = ap length s.whole ∙ length-append m crlf in
     no_length rest (omega arith)
-  where
-    append_nil : (xs : List ℕ) → xs ++ [] ≡ xs
-    append_nil [] = refl
-    append_nil (x ∷ xs) = ap (λ y. x ∷ y) (append_nil xs)
 
 pub one : (m n w : List ℕ) → LineSpells m w → LineSpells n w → m ≡ n
 one m n w s t =
@@ -308,3 +304,15 @@ one m n w s t =
     let b : prefix_len is_inner (w ++ []) ≡ length n = message_length n w [] t in
     let e : m ++ crlf ≡ n ++ crlf = sym s.whole ∙ t.whole in
     sym (take_at m crlf (length m) refl) ∙ ap (take (length m)) e ∙ take_at n crlf (length m) (omega arith)
+
+-- the bytes before the last that shows a refusal aren't refused
+pub least : (e f : Errno) (w rest : List ℕ) → LineShows e w → LineShows f (w ++ rest) → rest ≡ []
+least e f w rest s t = elim (cases_lt 0 (length rest)) [
+  | inl l ↦
+      let n : length w + length rest ≡ length t.before + 1 = sym (length-append w rest) ∙ ap length t.whole ∙ length-append t.before (t.byte ∷ []) in
+      let k : length t.before ≡ length w + (length rest - 1) = omega arith in
+      let cut : t.before ≡ w ++ take (length rest - 1) rest =
+        sym (take_at t.before (t.byte ∷ []) (length t.before) refl) ∙ ap (take (length t.before)) (sym t.whole) ∙ ap (λ i. take i (w ++ rest)) k ∙ take-append-add w rest (length rest - 1) in
+      absurd (not_open (front_of_line t.before) e (ap front_of_line cut ∙ refused e w (take (length rest - 1) rest) s) (cut_waits t.before t.led))
+  | inr l ↦ no_length rest (omega arith)
+]

@@ -3,7 +3,7 @@ use Rattle.std.proofs.Common.{◌≡◌, ◌<◌, ◌≤◌, ◌-◌, ◌+◌, �
 use Rattle.std.specs.List.{list_all, prefix_len}
 use Rattle.std.specs.Str.{bytes_eq}
 use Rattle.std.proofs.lemmas.Bool.{cases_eq, cases_Bool, eqb-true, ne_eqb, and_parts, and_from, or_cases}
-use Rattle.std.proofs.lemmas.List.{take_at, drop_at}
+use Rattle.std.proofs.lemmas.List.{append-nil, take_at, drop_at}
 use Rattle.std.proofs.lemmas.Slice.Eq.{bytes_eq-Decides}
 use Rattle.std.proofs.Math.Seq.{drop-append-add}
 use Rattle.dill_http.specs.declared.span.Span.{Span}
@@ -45,14 +45,11 @@ request_at c b r rest h s k t =
 request_alone : (c : List ℕ) → list_all is_token_byte c ≡ true → request_cut c ≡ None
 unfolding request_cut
 request_alone c h =
-    let n : token_length c ≡ length c = ap token_length (sym (append_nil c)) ∙ length_of_run is_token_byte c [] h refl in
+    let n : token_length c ≡ length c = ap token_length (sym (append-nil c)) ∙ length_of_run is_token_byte c [] h refl in
     ap (λ j. request_of c j (resource_length (drop (j + 1) c))) n
     ∙ ap (λ z. if nat_lt 0 (length c) && (eqb z 32 && (nat_lt 0 (resource_length (drop (length c + 1) c)) && is_version_end (drop (length c + 1 + resource_length (drop (length c + 1) c)) c))) then Some (cut_at (span 0 (length c)) (span (length c + 1) (length c + 1 + resource_length (drop (length c + 1) c)))) else None) (none_behind c)
     ∙ never (cut_at (span 0 (length c)) (span (length c + 1) (length c + 1 + resource_length (drop (length c + 1) c)))) (nat_lt 0 (length c)) (nat_lt 0 (resource_length (drop (length c + 1) c)) && is_version_end (drop (length c + 1 + resource_length (drop (length c + 1) c)) c))
   where
-    append_nil : (xs : List ℕ) → xs ++ [] ≡ xs
-    append_nil [] = refl
-    append_nil (x ∷ xs) = ap (λ y. x ∷ y) (append_nil xs)
     never : (k : Cut) (a x : Bool) → (if a && (false && x) then Some k else None) ≡ None
     never k true x = refl
     never k false x = refl
@@ -127,11 +124,7 @@ asked_at c b r rest h s k t = elim (cases_Bool (nat_lt 0 (length c) && (eqb b 32
 ]
 
 asked_behind : (c rest : List ℕ) → list_all is_token_byte c ≡ true → begins_with is_token_byte rest ≡ false → Asked (c ++ rest) ⊎ (request_cut (c ++ rest) ≡ None)
-asked_behind c [] h s = inr (ap request_cut (append_nil c) ∙ request_alone c h)
-  where
-    append_nil : (xs : List ℕ) → xs ++ [] ≡ xs
-    append_nil [] = refl
-    append_nil (x ∷ xs) = ap (λ y. x ∷ y) (append_nil xs)
+asked_behind c [] h s = inr (ap request_cut (append-nil c) ∙ request_alone c h)
 asked_behind c (b ∷ tail) h s =
     let r : Run is_resource_byte tail = run_of is_resource_byte tail in
     subst (λ (x : List ℕ). Asked (c ++ (b ∷ x)) ⊎ (request_cut (c ++ (b ∷ x)) ≡ None)) (sym r.whole) (asked_at c b r.text r.rest h s r.all r.stop)

@@ -28,6 +28,8 @@ pub record LineLaws : Type 0 where
   -- what is spelled is read again, and what shows a refusal is refused, whatever follows it
   pub again : (m w rest : List ℕ) → LineSpells m w → length m ≤ line_limit → front_of_line (w ++ rest) ≡ Whole 0 (length m) (length w)
   pub refused : (e : Errno) (w rest : List ℕ) → LineShows e w → front_of_line (w ++ rest) ≡ Fault e
+  -- no bytes that show a refusal begin others that show one: the least are refused
+  pub least : (e f : Errno) (w rest : List ℕ) → LineShows e w → LineShows f (w ++ rest) → rest ≡ []
   -- what was judged stays so when more comes
   pub stays : (u v : List ℕ) (f : Front) → front_of_line u ≡ f → IsJudged f → front_of_line (u ++ v) ≡ f
   -- what waits is short, and it waits exactly where more bytes would make it a line
