@@ -1,8 +1,7 @@
 -- The longest run of bytes of a class at the front of a list.
-use Rattle.std.proofs.Common.{◌≡◌, ◌<◌, ◌≤◌, ◌-◌, ◌+◌, ◌++◌, ◌∷◌, [], List, ℕ, suc, zero, length, take, drop, get_or, arith, refl, sym, ap, ◌∙◌, Bool, true, false, ◌&&◌, cond}
+use Rattle.std.proofs.Common.{◌≡◌, ◌<◌, ◌++◌, ◌∷◌, [], List, ℕ, suc, zero, length, take, get_or, arith, refl, ap, Bool, true, false}
 use Rattle.std.specs.List.{list_all, prefix_len}
 use Rattle.std.proofs.lemmas.Bool.{and_parts, and_from}
-use Rattle.std.proofs.lemmas.List.Folds.{list_all-append}
 use Rattle.dill_http.specs.Bytes.{begins_with, ends_with}
 
 pub record Run (p : ℕ → Bool) (u : List ℕ) : Type 0 where

@@ -1,10 +1,10 @@
 -- The longest run of bytes of a class at the end of a list.
-use Rattle.std.proofs.Common.{◌≡◌, ◌<◌, ◌≤◌, ◌-◌, ◌+◌, ◌++◌, ◌∷◌, [], List, ℕ, suc, zero, length, take, drop, get_or, arith, refl, sym, ap, ◌∙◌, Bool, true, false, ◌&&◌, length-append, reverse}
+use Rattle.std.proofs.Common.{◌≡◌, ◌<◌, ◌≤◌, ◌-◌, ◌+◌, ◌++◌, ◌∷◌, [], List, ℕ, length, get_or, arith, refl, sym, ap, ◌∙◌, Bool, true, false, length-append}
 use Rattle.std.specs.List.{list_all, suffix_len}
-use Rattle.std.proofs.lemmas.Bool.{and_parts, and_from}
+use Rattle.std.proofs.lemmas.Bool.{and_from}
 use Rattle.std.proofs.lemmas.List.{get_or-append_right, get_or_append_left}
 use Rattle.std.proofs.lemmas.List.Sums.{suffix_len_is}
-use Rattle.dill_http.specs.Bytes.{begins_with, ends_with}
+use Rattle.dill_http.specs.Bytes.{ends_with}
 use Rattle.dill_http.proofs.Ends.{ends_at}
 use Rattle.dill_http.proofs.Runs.{passes_at}
 

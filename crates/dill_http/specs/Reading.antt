@@ -1,12 +1,12 @@
 -- Where the parts of a line lie.
-use Rattle.std.specs.Prelude.{◌≡◌, ◌≤◌, ◌+◌, ◌-◌, ◌*◌, ◌∷◌, [], ◌==◌, ◌&&◌, ◌||◌, if◌then◌else◌, Bool, true, ℕ, List, length, take, drop, get_or, min, nat_lt, Option, Some, None}
+use Rattle.std.specs.Prelude.{◌≤◌, ◌+◌, ◌-◌, ◌*◌, ◌∷◌, [], ◌==◌, ◌&&◌, ◌||◌, if◌then◌else◌, Bool, true, ℕ, List, length, take, drop, get_or, min, nat_lt, Option, Some, None}
 use Rattle.std.specs.List.{prefix_len, suffix_len, list_all}
 use Rattle.std.specs.Str.{bytes_eq}
 use Rattle.std.specs.Char.{is_ascii_digit}
 use Rattle.dill_http.specs.declared.span.Span.{Span}
 use Rattle.dill_http.specs.declared.span.Cut.{Cut}
 use Rattle.dill_http.specs.Bytes.{is_token_byte, is_resource_byte, is_blank, is_text}
-use Rattle.dill_http.specs.Heads.{Said, Request, Status, Field, LineReads, own_version, old_version, is_code}
+use Rattle.dill_http.specs.Heads.{Said, Status, LineReads, own_version, old_version, is_code}
 
 -- the bytes of a span
 abbrev pub part : List ℕ → Span → List ℕ

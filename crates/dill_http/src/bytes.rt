@@ -37,28 +37,40 @@ pub fn inner_length(bytes: &[u8]) -> usize
     ensures run { result ≡ prefix_len is_inner bytes.now }
     ensures within { result ≤ length bytes.now }
 {
-    bytes.iter().take_while(|byte| is_inner_byte(**byte)).count()
+    bytes
+        .iter()
+        .take_while(|byte| is_inner_byte(**byte))
+        .count()
 }
 
 pub fn token_length(bytes: &[u8]) -> usize
     ensures run { result ≡ prefix_len is_token_byte bytes.now }
     ensures within { result ≤ length bytes.now }
 {
-    bytes.iter().take_while(|byte| is_token_byte(**byte)).count()
+    bytes
+        .iter()
+        .take_while(|byte| is_token_byte(**byte))
+        .count()
 }
 
 pub fn resource_length(bytes: &[u8]) -> usize
     ensures run { result ≡ prefix_len is_resource_byte bytes.now }
     ensures within { result ≤ length bytes.now }
 {
-    bytes.iter().take_while(|byte| is_resource_byte(**byte)).count()
+    bytes
+        .iter()
+        .take_while(|byte| is_resource_byte(**byte))
+        .count()
 }
 
 pub fn blank_length(bytes: &[u8]) -> usize
     ensures run { result ≡ prefix_len is_blank bytes.now }
     ensures within { result ≤ length bytes.now }
 {
-    bytes.iter().take_while(|byte| is_blank_byte(**byte)).count()
+    bytes
+        .iter()
+        .take_while(|byte| is_blank_byte(**byte))
+        .count()
 }
 
 // How long the bytes are without the blanks at their end.

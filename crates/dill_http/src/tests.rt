@@ -8,6 +8,7 @@ use std::process::Abort;
 use std::test::Fail;
 
 const EPROTO: Front = Front::Fault(Errno::Eproto);
+
 const EMSGSIZE: Front = Front::Fault(Errno::Emsgsize);
 
 fn whole(to: usize, used: usize) -> Front {
@@ -60,7 +61,8 @@ fn refused(rt: &impl Abort, answer: Result<Octets, WriteFault>, want: Errno) {
 
 #[test]
 fn a_head_is_read_line_by_line_and_the_body_stays(rt: HostRuntime) {
-    let head = b"POST /a HTTP/1.1\r\nHost: x\r\nUser-Agent: curl/8.0\r\nAccept: */*\r\nContent-Length: 3\r\n\r\nxyz";
+    let head =
+        b"POST /a HTTP/1.1\r\nHost: x\r\nUser-Agent: curl/8.0\r\nAccept: */*\r\nContent-Length: 3\r\n\r\nxyz";
     let wants: [(&[u8], &[u8]); 5] = [
         (b"POST", b"/a"),
         (b"Host", b"x"),
@@ -73,7 +75,11 @@ fn a_head_is_read_line_by_line_and_the_body_stays(rt: HostRuntime) {
         match line_front(rest) {
             Front::Whole { from: 0, to, used } => {
                 let line = &rest[..to];
-                let found = if at == 0 { read_request(line) } else { read_field(line) };
+                let found = if at == 0 {
+                    read_request(line)
+                } else {
+                    read_field(line)
+                };
                 match found {
                     Some(cut) => {
                         assert!(rt; is_part(line, cut.first, first), "line {at}");
@@ -106,10 +112,18 @@ fn a_line_is_judged_at_the_first_byte_that_shows_it(rt: HostRuntime) {
     for (bytes, front) in rows.iter() {
         assert_eq!(rt; line_front(bytes), *front);
         for end in 0..bytes.len() {
-            assert_eq!(rt; line_front(&bytes[..end]), Front::Need, "before the byte at {end}");
+            assert_eq!(rt;
+                line_front(&bytes[..end]),
+                Front::Need,
+                "before the byte at {end}"
+            );
         }
     }
-    assert_eq!(rt; line_front(b"a\r\nb\nc"), whole(1, 3), "what follows isn't judged");
+    assert_eq!(rt;
+        line_front(b"a\r\nb\nc"),
+        whole(1, 3),
+        "what follows isn't judged"
+    );
 }
 
 #[test]
@@ -186,7 +200,11 @@ fn lines_are_read_by_their_forms(rt: HostRuntime) {
 #[test]
 fn lines_are_written_in_one_form_and_no_other_is_sent(rt: HostRuntime) {
     let alloc = rt.alloc();
-    written(&rt, write_request(alloc, b"GET", b"/"), b"GET / HTTP/1.1\r\n");
+    written(
+        &rt,
+        write_request(alloc, b"GET", b"/"),
+        b"GET / HTTP/1.1\r\n",
+    );
     written(&rt, write_status(alloc, 200, b"OK"), b"HTTP/1.1 200 OK\r\n");
     written(&rt, write_status(alloc, 100, b""), b"HTTP/1.1 100 \r\n");
     written(&rt, write_status(alloc, 999, b" a"), b"HTTP/1.1 999  a\r\n");
@@ -214,13 +232,25 @@ fn a_writer_sends_lines_of_8192_bytes_and_none_longer(rt: HostRuntime) -> Result
     assert_eq!(rt; status_fault(200, &longer), Some(Errno::Emsgsize));
     refused(&rt, write_status(alloc, 200, &longer), Errno::Emsgsize);
     refused(&rt, write_status(alloc, 99, &longer), Errno::Einval);
-    assert_eq!(rt; request_fault(b"GET", &longest), None, "3 and 10 bytes more");
+    assert_eq!(rt;
+        request_fault(b"GET", &longest),
+        None,
+        "3 and 10 bytes more"
+    );
     assert!(rt; write_request(alloc, b"GET", &longest).is_ok());
     assert_eq!(rt; request_fault(b"GET", &longer), Some(Errno::Emsgsize));
     refused(&rt, write_request(alloc, &longer, b"abc"), Errno::Emsgsize);
-    assert_eq!(rt; field_fault(b"eleven-byte", &longest), None, "11 and 2 bytes more");
+    assert_eq!(rt;
+        field_fault(b"eleven-byte", &longest),
+        None,
+        "11 and 2 bytes more"
+    );
     assert!(rt; write_field(alloc, b"eleven-byte", &longest).is_ok());
     assert_eq!(rt; field_fault(b"eleven-byte", &longer), Some(Errno::Emsgsize));
-    refused(&rt, write_field(alloc, &longer, b"eleven-byte"), Errno::Emsgsize);
+    refused(
+        &rt,
+        write_field(alloc, &longer, b"eleven-byte"),
+        Errno::Emsgsize,
+    );
     Ok(())
 }
