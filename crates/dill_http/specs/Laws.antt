@@ -24,6 +24,7 @@ pub record LineLies (u : List ℕ) (from to used : ℕ) : Type 0 where
   pub ending : used ≡ to + 2
   pub there : used ≤ length u
 
+-- the laws of lines and of their front
 pub record LineLaws : Type 0 where
   -- what is spelled is read again, and what shows a refusal is refused, whatever follows it
   pub again : (m w rest : List ℕ) → LineSpells m w → length m ≤ line_limit → front_of_line (w ++ rest) ≡ Whole 0 (length m) (length w)
@@ -56,6 +57,7 @@ pub record FindsStatus (line : List ℕ) (found : Option (ℕ × Span)) (code : 
   pub found_it : found ≡ Some (code, place)
   pub holds : part line place ≡ reason
 
+-- the laws of what lines say
 pub record HeadLaws : Type 0 where
   -- what is written is the one line that is sent, and that line is written
   pub written : (said : Said) (w : List ℕ) → line_due said ≡ Ok w → LineWrites said w

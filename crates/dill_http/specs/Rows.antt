@@ -7,6 +7,7 @@ use Rattle.dill_http.specs.Heads.{Request, Status, Field}
 use Rattle.dill_http.specs.Reading.{span, cut_at, request_cut, status_cut, field_cut}
 use Rattle.dill_http.specs.Writing.{line_due}
 
+-- each line and what it is
 pub record LineRows : Type 0 where
   -- the name and the value, without the blanks round it
   pub field : field_cut (codes "Host:  x ") ≡ Some (cut_at (span 0 4) (span 7 8))
