@@ -1,6 +1,6 @@
 -- Files by their places.
 use Rattle.std.proofs.Common.{◌≡◌, ◌∙◌, ℕ, zero, suc, ◌+◌, ◌-◌, ◌<◌, ◌≤◌, true, List, [], ◌∷◌, ◌++◌, length, take, drop, get_or, Some, false, refl, sym, ap, subst, arith, min, take-append-drop, length-drop, length-take, length-append}
-use Rattle.std.proofs.lemmas.List.{take_all, drop-drop, drop_all, take-append-le, nil_from_length}
+use Rattle.std.proofs.lemmas.List.{take_all, drop-drop, take-append-le, nil_from_length}
 use Rattle.std.specs.Str.{bytes_eq}
 use Rattle.dill_base.specs.Shelves.{Files, bytes_under, Reads}
 use Rattle.dill_base.specs.Causes.{one_more, is_listed}

@@ -1,7 +1,11 @@
 -- Moments and deadlines, in milliseconds, after libdill's manual.
-use Rattle.std.specs.Prelude.{ℕ, ◌+◌, min, Bool, false, nat_le}
+use Rattle.std.specs.Prelude.{ℕ, ◌+◌, min, max, Bool, false, nat_le}
 use Rattle.dill_base.specs.declared.deadline.Deadline.{Deadline}
 use Rattle.dill_base.specs.declared.deadline.Deadline.TheVariants.{Never, At, After}
+
+-- The moment is 0 at first, and then the greatest that a wait has told.
+abbrev pub moment_after : ℕ → ℕ → ℕ
+moment_after moment told = max moment told
 
 -- a deadline after a while is set at the entry of its call, and no later than this
 abbrev pub at_entry : ℕ → Deadline → Deadline

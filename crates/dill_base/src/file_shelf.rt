@@ -14,6 +14,7 @@ pub struct FileShelf<'a, R: Files> {
 }
 
 impl<'a, R: Files> FileShelf<'a, R> {
+    /// No file is begun yet.
     pub fn new(rt: &'a R) -> FileShelf<'a, R> {
         FileShelf {
             rt,

@@ -45,6 +45,7 @@ impl Octets {
         }
     }
 
+    /// The bytes in their order.
     pub fn as_slice(&self) -> &[u8]
         ensures { result.now ≡ self.now }
     {

@@ -11,6 +11,7 @@ pub struct OutSink<W> {
 }
 
 impl<W: Write> OutSink<W> {
+    /// A sink that writes and flushes at each call.
     pub fn new(inner: W) -> OutSink<W> {
         OutSink { inner, count: 0 }
     }

@@ -4,15 +4,25 @@ ghost use Rattle.dill_base.specs.Statuses.{code_of};
 /// What the program ends with, from 0 to 9.
 #[derive(Clone, Copy, Debug, PartialEq, Eq)]
 pub enum Status {
+    /// `main` ended well, or the canonical text was written.
     Well,
+    /// `main` ended with an errno.
     Fault,
+    /// The words were refused.
     Words,
+    /// Want of memory before anything ran.
     Memory,
+    /// The script was refused.
     Script,
+    /// The script was not read.
     Shelf,
+    /// Output was not written.
     Sink,
+    /// Turns and rounds reached the budget.
     Spent,
+    /// Nobody could go on.
     Stuck,
+    /// A wait failed.
     Wait,
 }
 
@@ -36,7 +46,7 @@ impl Status {
     }
 }
 
-/// An IPv4 address and a port.
+/// An IPv4 address, its first byte first, and a port.
 #[derive(Clone, Copy, Debug, PartialEq, Eq)]
 pub struct Address {
     pub ip: [u8; 4],

@@ -68,7 +68,8 @@ pub record Begins {V : Type 0} (p : Program V) (view : V) : Type 0 where
 -- the law of programs
 pub record IsLawful {V : Type 0} (p : Program V) : Type 0 where
   pub small : (view : V) → p.real view ≡ true → p.most view < 2 ^ 32
-  pub moves : (view : V) (answer : Answer) → p.real view ≡ true → 1 ≤ p.left view → p.left view ≤ p.most view → Moves p view answer (p.next view answer)
+  pub within : (view : V) → p.real view ≡ true → 1 ≤ p.left view → p.left view ≤ p.most view
+  pub moves : (view : V) (answer : Answer) → p.real view ≡ true → 1 ≤ p.left view → Moves p view answer (p.next view answer)
   pub child : (view : V) (program : ℕ) (args : List ℕ) → p.real view ≡ true → p.knows view program (length args) ≡ true → Begins p (p.child view program args)
 
 -- the word of the call, where there is one

@@ -35,16 +35,14 @@ pub trait Body: Sized + Drop {
         requires { means.knows self.now program (length args.now) ≡ true }
         ensures { IfOk result (λ made. made ≡ means.child self.now program args.now) };
 
+    /// How many such answers it can still be given. It is at least 1 until the end, and at most `most`.
     fn left(&self) -> u64
-        ensures { result ≡ means.left self.now };
+        ensures value { result ≡ means.left self.now }
+        ensures real { means.real self.now ≡ true };
 
     /// What `left` is at the start, at most 4,294,967,295.
     fn most(&self) -> u64
         ensures { result ≡ means.most self.now };
-
-    /// Changes nothing. What it is called on is a coroutine of its program.
-    fn known(&self)
-        ensures { means.real self.now ≡ true };
 
     ghost lawful: { IsLawful means };
 }

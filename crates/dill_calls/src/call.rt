@@ -1,8 +1,8 @@
 use crate::{Args, Clauses, Word};
 use dill_base::{Address, Deadline, Errno, Octets};
 
-/// A call of a program, with its operands in the order of libdill's manual: handles first, the deadline last.
-/// Sizes are in bytes.
+/// A call of a program, with its operands in the order in which a script writes them: a handle, then what the call is
+/// about, and a deadline last, but for `choose`, whose deadline comes first. Sizes are in bytes, deadlines in milliseconds.
 #[derive(Debug, Drop)]
 pub enum Call {
     /// The text of the line.

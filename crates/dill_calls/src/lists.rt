@@ -47,6 +47,7 @@ impl Args {
         }
     }
 
+    /// The arguments in their order.
     pub fn as_slice(&self) -> &[Arg]
         ensures { result.now ≡ self.now }
     {
@@ -97,6 +98,7 @@ impl Clauses {
         }
     }
 
+    /// The clauses in their order.
     pub fn as_slice(&self) -> &[Clause]
         ensures { result.now ≡ self.now }
     {

@@ -1,8 +1,8 @@
 -- Links are closed once.
-use Rattle.std.specs.Prelude.{◌≡◌, ℕ, List, [], ◌∷◌, ◌++◌, Option, Some, None, Bool, true, false, ◌==◌}
+use Rattle.std.specs.Prelude.{◌≡◌, ℕ, List, ◌∷◌, ◌++◌, Option, Some, None, Bool, true, false, ◌||◌, ◌==◌}
 use Rattle.std.specs.List.{list_any, count_by}
 use Rattle.dill_kernel.specs.declared.replies.KernelAsk.{KernelAsk}
-use Rattle.dill_kernel.specs.declared.replies.KernelAsk.TheVariants.{Wait, Listen, Connect, Finish, Accept, Write, Shut, Read, Close}
+use Rattle.dill_kernel.specs.declared.replies.KernelAsk.TheVariants.{Listen, Connect, Finish, Accept, Write, Shut, Read, Close}
 use Rattle.dill_kernel.specs.declared.replies.KernelReply.{KernelReply}
 use Rattle.dill_kernel.specs.declared.replies.KernelReply.TheVariants.{Done}
 use Rattle.dill_kernel.specs.Entry.{Entry}
@@ -28,6 +28,13 @@ abbrev pub closed_by : KernelAsk → Option ℕ
 closed_by (Close link) = Some link
 closed_by ask = None
 
+-- the link that a call is to make
+abbrev pub wanted_by : KernelAsk → Option ℕ
+wanted_by (Listen link at backlog) = Some link
+wanted_by (Connect link to) = Some link
+wanted_by (Accept listener link) = Some link
+wanted_by ask = None
+
 abbrev pub is_link : ℕ → Option ℕ → Bool
 is_link link None = false
 is_link link (Some other) = other == link
@@ -38,11 +45,15 @@ makes link entry = is_link link (made_by entry.ask entry.reply)
 abbrev pub names : ℕ → Entry → Bool
 names link entry = is_link link (named_by entry.ask)
 
+-- the call speaks of the link, also where it is to make it
+abbrev pub speaks : ℕ → Entry → Bool
+speaks link entry = names link entry || is_link link (wanted_by entry.ask)
+
 abbrev pub closes : ℕ → Entry → Bool
 closes link entry = is_link link (closed_by entry.ask)
 
--- Each link that was made is closed exactly once later, nothing names it after that, and nothing names a link that wasn't made before.
+-- Each link that was made is closed exactly once later, nothing speaks of it after that, and nothing names a link that wasn't made before.
 pub record Balanced (entries : List Entry) : Type 0 where
   pub once : (before after : List Entry) (entry : Entry) (link : ℕ) → entries ≡ before ++ entry ∷ after → makes link entry ≡ true → count_by (closes link) after ≡ 1
-  pub last : (before after : List Entry) (entry : Entry) (link : ℕ) → entries ≡ before ++ entry ∷ after → closes link entry ≡ true → list_any (names link) after ≡ false
+  pub last : (before after : List Entry) (entry : Entry) (link : ℕ) → entries ≡ before ++ entry ∷ after → closes link entry ≡ true → list_any (speaks link) after ≡ false
   pub first : (before after : List Entry) (entry : Entry) (link : ℕ) → entries ≡ before ++ entry ∷ after → names link entry ≡ true → list_any (makes link) before ≡ true

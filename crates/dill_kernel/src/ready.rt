@@ -37,6 +37,7 @@ impl Model for ReadyList {
 }
 
 impl ReadyList {
+    /// No link.
     pub fn new() -> ReadyList
         ensures { result ≡ [] }
     {
@@ -51,12 +52,14 @@ impl ReadyList {
         }
     }
 
+    /// Takes all links out.
     pub fn clear(&mut self)
         ensures { self.new ≡ [] }
     {
         self.count = 0;
     }
 
+    /// How many links, at most 256.
     pub fn len(&self) -> usize
         ensures len { result ≡ length self.now }
         ensures most { result ≤ 256 }
@@ -73,6 +76,7 @@ impl ReadyList {
         self.count += 1;
     }
 
+    /// The link at a place below the length, counted from 0.
     pub fn get(&self, at: usize) -> Ready
         requires { at < length self.now }
         ensures { slice_get self.now at ≡ Some result }

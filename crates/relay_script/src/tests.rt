@@ -103,6 +103,12 @@ fn too_many_prints_are_told_before_another_line(rt: HostRuntime) -> Result<(), F
 fn a_refusal_has_a_text(rt: HostRuntime) -> Result<(), Fail> {
     let text = format!(in rt.alloc(); "{}", Refusal::NoMemory)?;
     assert_eq!(rt; text.as_str(), "want of memory");
+    let refusal = Refusal::At {
+        line: 7,
+        reason: Reason::NotBuilt,
+    };
+    let line = format!(in rt.alloc(); "{refusal}")?;
+    assert_eq!(rt; line.as_str(), "script line 7: not built");
     let texts = Octets::from_slice(rt.alloc(), b"a").map_err(|_| Fail::from("memory"))?;
     let mut all = Vec::new(rt.alloc());
     all.push(texts)?;

@@ -118,6 +118,11 @@ fn a_long_line_goes_out_in_pieces_of_4096_bytes(rt: HostRuntime) -> Result<(), F
     let mut out = sink(alloc, 0)?;
     assert!(rt; write_line(long.as_slice(), &mut out).is_ok());
     assert_eq!(rt; out.bytes().len(), 8193);
+    let mut once = sink(alloc, 2)?;
+    assert!(rt;
+        write_line(&long.as_slice()[..4095], &mut once).is_ok(),
+        "with its LF it is one piece"
+    );
     let mut broken = sink(alloc, 3)?;
     assert!(rt;
         write_line(long.as_slice(), &mut broken).is_err(),

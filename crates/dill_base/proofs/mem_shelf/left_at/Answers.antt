@@ -1,4 +1,4 @@
-use Rattle.std.proofs.Common.{◌≡◌, ◌∙◌, ◌-◌, sym, ap, arith, List, ℕ, length, take, drop}
+use Rattle.std.proofs.Common.{◌∙◌, sym, ap, arith, drop}
 use Rattle.std.proofs.lemmas.List.{drop_all}
 use Rattle.dill_base.proofs.Held.{left_past, left_is, rest_from}
 use Rattle.dill_base.proofs.mem_shelf.left_at.Goals as goal
