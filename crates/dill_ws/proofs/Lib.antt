@@ -3,3 +3,4 @@ pub mod Controls
 pub mod Heads
 pub mod Lengths
 pub mod Openings
+pub mod Shown
