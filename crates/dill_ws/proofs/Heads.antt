@@ -13,7 +13,8 @@ use Rattle.dill_ws.specs.declared.head.HeadFront.{HeadFront}
 use Rattle.dill_ws.specs.declared.head.HeadFront.TheVariants.{Whole, Need, Fault}
 use Rattle.dill_ws.specs.Frames.{peer_of, first_byte, second_byte, length_bits, length_tail, key_bytes, head_bytes, HasKeyOf, may_follow}
 use Rattle.dill_ws.specs.Fronts.{HeadSpells, bits_of, length_size, key_size, key_at, told, may_start, is_least, head_at, head_front}
-use Rattle.dill_ws.proofs.Lengths.{AreBytes, IsForm, form_of, least_of_form, IsReadForm, read_form, front_bytes, bits_follow, size_bound}
+use Rattle.dill_ws.specs.FrameLaws.{AreBytes}
+use Rattle.dill_ws.proofs.Lengths.{IsForm, form_of, least_of_form, IsReadForm, read_form, front_bytes, bits_follow, size_bound}
 use Rattle.dill_ws.proofs.Openings.{TellsFirst, first_tells, first_is, TellsSecond, second_tells, second_is, key_length, small_opcode, Starts, starts_by, may_start_by, written_starts}
 
 -- where the bytes of the length end
@@ -141,7 +142,7 @@ open_is_short r j u q =
 abbrev pub head_of : Bool → ℕ → Option (List ℕ) → ℕ → ℕ → Head
 head_of f o k s n = record { fin = f; opcode = o; key = k; start = s; length = n }
 
-head_same : (f g : Bool) (o p : ℕ) (k l : Option (List ℕ)) (s t n m : ℕ) → f ≡ g → o ≡ p → k ≡ l → s ≡ t → n ≡ m → head_of f o k s n ≡ head_of g p l t m
+pub head_same : (f g : Bool) (o p : ℕ) (k l : Option (List ℕ)) (s t n m : ℕ) → f ≡ g → o ≡ p → k ≡ l → s ≡ t → n ≡ m → head_of f o k s n ≡ head_of g p l t m
 head_same f g o p k l s t n m a b c d e = cc
 
 key_again : (r : Side) (key : Option (List ℕ)) (v : List ℕ) → HasKeyOf (peer_of r) key → key_at r (key_bytes key ++ v) ≡ key

@@ -5,10 +5,7 @@ use Rattle.std.proofs.lemmas.Bool.{cases_lt, eqb-true, ltb-true, lt-leb, and_par
 use Rattle.std.proofs.lemmas.Nat.{be_bytes_2, be_bytes_8}
 use Rattle.dill_ws.specs.Frames.{length_bits, length_tail, may_follow}
 use Rattle.dill_ws.specs.Fronts.{length_size, told, is_least}
-
--- each is a byte
-abbrev pub AreBytes : List ℕ → Type 0
-AreBytes bytes = (k : ℕ) → get_or bytes k 0 < 256
+use Rattle.dill_ws.specs.FrameLaws.{AreBytes}
 
 -- bits and tail are the length n in its least form
 pub record IsForm (n bits : ℕ) (tail : List ℕ) : Type 0 where
@@ -161,6 +158,7 @@ read_form bits v h seven l s =
   where
     at_126 : (b : ℕ) → 126 ≡ b → length_size b ≤ length v → is_least b (told b v) ≡ true → IsReadForm b (told b v) v
     at_126 b e = subst (λ (b : ℕ). length_size b ≤ length v → is_least b (told b v) ≡ true → IsReadForm b (told b v) v) e (read_middle v h)
+
     at_127 : (b : ℕ) → 127 ≡ b → length_size b ≤ length v → is_least b (told b v) ≡ true → IsReadForm b (told b v) v
     at_127 b e = subst (λ (b : ℕ). length_size b ≤ length v → is_least b (told b v) ≡ true → IsReadForm b (told b v) v) e (read_long v h)
 

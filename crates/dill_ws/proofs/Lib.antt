@@ -4,3 +4,4 @@ pub mod Heads
 pub mod Lengths
 pub mod Openings
 pub mod Shown
+pub mod Whole

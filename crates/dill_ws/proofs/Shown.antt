@@ -11,7 +11,8 @@ use Rattle.dill_ws.specs.declared.head.HeadFront.{HeadFront}
 use Rattle.dill_ws.specs.declared.head.HeadFront.TheVariants.{Whole, Need, Fault}
 use Rattle.dill_ws.specs.Frames.{peer_of, length_bits, length_tail, key_bytes, HasKeyOf}
 use Rattle.dill_ws.specs.Fronts.{HeadSpells, HeadShows, IsJudged, NoneBegins, IsHead, IsOpenHead, IsRefusedHead, IsHeadFront, bits_of, length_size, key_size, told, is_least, head_front}
-use Rattle.dill_ws.proofs.Lengths.{AreBytes, IsReadForm, read_form, front_bytes, some_length, told_more}
+use Rattle.dill_ws.specs.FrameLaws.{AreBytes}
+use Rattle.dill_ws.proofs.Lengths.{IsReadForm, read_form, front_bytes, some_length, told_more}
 use Rattle.dill_ws.proofs.Heads.{length_end, is_start, has_least, Reads, front_reads, Refuses, front_refuses, refused_early, refused_late, head_again, from_parts, read_spells, head_of}
 
 some_key : (r : Side) → (key : Option (List ℕ)) × HasKeyOf (peer_of r) key
@@ -104,6 +105,7 @@ late_least r j a b v small s size (suc (suc n)) l judged none = at_two judged
   where
     count : length (take n v) ≡ n
     count = length-take-le n v (omega arith)
+
     at_two : IsJudged (a ∷ b ∷ take n v) → ⊥
     at_two (inl two) =
         let k : Begins r j (a ∷ b ∷ []) = two_begin r j a b small s in
