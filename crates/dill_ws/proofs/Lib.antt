@@ -4,4 +4,5 @@ pub mod Heads
 pub mod Lengths
 pub mod Openings
 pub mod Shown
+pub mod Splits
 pub mod Whole

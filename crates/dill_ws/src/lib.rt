@@ -5,10 +5,12 @@
 mod accept;
 mod close;
 mod control;
+mod fields;
 mod frame;
 mod front;
 mod head;
 mod laws;
+mod line;
 mod masking;
 mod response;
 mod side;
