@@ -5,3 +5,7 @@ pub mod Fronts
 pub mod Seen
 pub mod Judged
 pub mod Requests
+pub mod Tails
+pub mod Fields
+pub mod Statuses
+pub mod Sent

@@ -141,7 +141,7 @@ asked_of line =
     let r : Run is_token_byte line = run_of is_token_byte line in
     subst (λ (x : List ℕ). Asked x ⊎ (request_cut x ≡ None)) (sym r.whole) (asked_behind r.text r.rest r.all r.stop)
 
-parts_of : (line c r v : List ℕ) → line ≡ c ++ (32 ∷ r ++ (32 ∷ v)) → (part line (span 0 (length c)) ≡ c) × (part line (span (length c + 1) (length c + 1 + length r)) ≡ r) × (length c + 1 + length r ≤ length line)
+pub parts_of : (line c r v : List ℕ) → line ≡ c ++ (32 ∷ r ++ (32 ∷ v)) → (part line (span 0 (length c)) ≡ c) × (part line (span (length c + 1) (length c + 1 + length r)) ≡ r) × (length c + 1 + length r ≤ length line)
 parts_of line c r v e = (
   ap (λ x. part x (span 0 (length c))) e ∙ part_first c (32 ∷ r ++ (32 ∷ v)),
   ap (λ x. part x (span (length c + 1) (length c + 1 + length r))) e ∙ part_behind c 32 r (32 ∷ v),
