@@ -1,5 +1,5 @@
-ghost use Rattle.std.specs.Prelude.{◌≡◌, ◌<◌, ◌∷◌, [], true, length, map, nat_lt, option_map, IfSome, IfNone, is_some, bytes_eq};
-ghost use Rattle.std.specs.List.{list_any};
+ghost use Rattle.std.specs.Prelude.{◌≡◌, ◌<◌, ◌≤◌, ◌-◌, ◌∷◌, [], true, length, map, nat_lt, option_map, IfSome, IfNone, is_some, bytes_eq};
+ghost use Rattle.std.specs.List.{list_any, prefix_len, suffix_len};
 ghost use Rattle.dill_http.specs.Bytes.{is_blank};
 ghost use Rattle.dill_ws.specs.HeadLines.{lines_at};
 ghost use Rattle.dill_ws.specs.Offers.{same_word, bare, lists_item, value_under, named, only, has_field, has_item, are_fields};
@@ -108,14 +108,29 @@ fn lists_item(value: &[u8], word: &[u8]) -> bool
 fn bare(item: &[u8]) -> &[u8]
     ensures { result.now ≡ bare item.now }
 {
-    let start = item.iter().take_while(|byte| is_blank(**byte)).count();
+    let start = blank_count(item);
     let rest = &item[start..];
-    let end = rest
-        .iter()
-        .rev()
-        .take_while(|byte| is_blank(**byte))
-        .count();
-    &rest[..rest.len() - end]
+    &rest[..bare_length(rest)]
+}
+
+// How many spaces and TABs stand in front.
+fn blank_count(item: &[u8]) -> usize
+    ensures count { result ≡ prefix_len is_blank item.now }
+    ensures within { result ≤ length item.now }
+{
+    item.iter().take_while(|byte| is_blank(**byte)).count()
+}
+
+// How long it is without the spaces and TABs at its end.
+fn bare_length(item: &[u8]) -> usize
+    ensures count { result ≡ length item.now - suffix_len is_blank item.now }
+    ensures within { result ≤ length item.now }
+{
+    let mut end = item.len();
+    while 0 < end && is_blank(item[end - 1]) {
+        end -= 1;
+    }
+    end
 }
 
 fn is_blank(byte: u8) -> bool

@@ -2,7 +2,7 @@ ghost use Rattle.std.specs.Prelude.{◌≡◌, ◌<◌, ◌∷◌, [], length, I
 ghost use Rattle.dill_ws.specs.HeadLines.{next_line, lines_at, behind};
 
 use dill_base::Front;
-use dill_http::{line_front, line_laws};
+use dill_http::{line_front, http_laws};
 
 /// A line of a head, without its CRLF, and what stands behind it.
 #[derive(Clone, Copy, Debug)]
@@ -18,7 +18,7 @@ pub fn first_line(bytes: &[u8]) -> Option<Line<'_>>
     ensures rest { IfSome result (λ l. behind bytes.now ≡ behind l.rest.now) }
     ensures less { IfSome result (λ l. length l.rest.now < length bytes.now) }
 {
-    line_laws();
+    http_laws();
     cut_line(bytes)
 }
 
