@@ -10,7 +10,7 @@ use Rattle.dill_base.specs.declared.errno.Front.TheVariants.{Whole, Need, Fault}
 use Rattle.dill_base.specs.Reading.{IsFront, IsShown}
 use Rattle.dill_http.specs.Lines.{line_limit, crlf, front_of_line, LineSpells, LineShows, IsCutLine}
 use Rattle.dill_http.specs.Laws.{LineLaws}
-use Rattle.dill_ws.specs.HeadLines.{are_full, lines_text, next_line, lines_at, behind, head_limit, at_limit, limited, head_stop, head_size, judged_by, head_front_by, IsHeadText, IsCutHead, IsTooLong, HasBadLine, IsBadHead, HeadShows}
+use Rattle.dill_ws.specs.HeadLines.{are_full, lines_text, next_line, lines_at, behind, head_limit, at_limit, limited, head_stop, head_size, judged_by, head_front_by, HasLineFront, IsHeadText, IsCutHead, IsTooLong, HasBadLine, IsBadHead, HeadShows}
 use Rattle.dill_ws.proofs.Texts.{Splits, split_text, IsMade, is_made, no_line_open, no_line_bad, no_line_empty, empty_line, half_end, Ends, ends_at}
 
 pub limited_short : (n : ℕ) (f last : Front) → n < head_limit → limited n f last ≡ f
@@ -129,7 +129,7 @@ pub front_of_fault : (test : List (List ℕ) → Bool) (u : List ℕ) (e : Errno
 unfolding head_front_by
 front_of_fault test u e h = ap (judged_by (test (lines_at u)) (head_size u)) h
 
-not_open : (e : Errno) → Fault e ≡ Need → ⊥
+pub not_open : (e : Errno) → Fault e ≡ Need → ⊥
 not_open e h = cc h
 
 bad_line_again : LineLaws → (e : Errno) (w rest : List ℕ) → HasBadLine e w → head_stop (w ++ rest) ≡ Fault e
@@ -195,6 +195,11 @@ shown_again laws test e w rest s =
       ]
     ]
 
+length_most : (n : ℕ) (u : List ℕ) → length (take n u) ≤ n
+length_most zero u = omega arith
+length_most (suc n) [] = omega arith
+length_most (suc n) (x ∷ u) = let l : length (take n u) ≤ n = length_most n u in omega arith
+
 -- a head at the front of the bytes
 pub record HasHead (u : List ℕ) : Type 0 where
   pub there : head_size u ≤ length u
@@ -225,11 +230,6 @@ head_within laws n u a b c h e =
         short = let l : length (take (head_size u) u) ≡ length w = ap length front in omega arith;
       };
     }
-  where
-    length_most : (n : ℕ) (u : List ℕ) → length (take n u) ≤ n
-    length_most zero u = omega arith
-    length_most (suc n) [] = omega arith
-    length_most (suc n) (x ∷ u) = let l : length (take n u) ≤ n = length_most n u in omega arith
 
 limited_whole : (n : ℕ) (f last : Front) (a b c : ℕ) → limited n f last ≡ Whole a b c → (f ≡ Whole a b c) ⊎ (last ≡ Whole a b c)
 limited_whole n (Whole x y z) last a b c e = inl e
@@ -296,11 +296,6 @@ bad_line_shown laws test u e k =
         shown = inr (inl (record { lines = lines; last = last; full = m.full; shown = s; whole = refl; within = omega (arith, k.there) }));
       });
     }
-  where
-    length_most : (n : ℕ) (u : List ℕ) → length (take n u) ≤ n
-    length_most zero u = omega arith
-    length_most (suc n) [] = omega arith
-    length_most (suc n) (x ∷ u) = let l : length (take n u) ≤ n = length_most n u in omega arith
 
 too_long_shown : LineLaws → (test : List (List ℕ) → Bool) (u : List ℕ) (e : Errno) → head_limit ≤ length u → stop_at (early u) ≡ Need → at_limit (stop_at (take head_limit u)) ≡ Fault e → IsShown (HeadShows test) u e
 too_long_shown laws test u e l need h =
@@ -413,3 +408,17 @@ limited_need n Need last h =
 pub open_is_short : (test : List (List ℕ) → Bool) (u : List ℕ) → head_front_by test u ≡ Need → length u < head_limit
 unfolding head_front_by head_stop
 open_is_short test u h = limited_need (length u) (stop_at (early u)) (stop_at (take head_limit u)) (judged_need (test (lines_at u)) (head_size u) (head_stop u) h)
+
+pub line_of_short : (u : List ℕ) (f : Front) → length u < head_limit → f ≡ stop_at u → IsFront LineSpells LineShows line_limit (behind u) f → HasLineFront u
+line_of_short u f h e line =
+    let all : early u ≡ u = take_all (head_limit - 1) u (omega arith) in
+    subst (λ (x : List ℕ). IsFront LineSpells LineShows line_limit (behind x) (stop_at x)) (sym all) (subst (λ (g : Front). IsFront LineSpells LineShows line_limit (behind u) g) e line)
+
+pub line_of_long : (u : List ℕ) (f : Front) → f ≡ stop_at (early u) → IsFront LineSpells LineShows line_limit (behind (early u)) f → HasLineFront u
+line_of_long u f e line = subst (λ (g : Front). IsFront LineSpells LineShows line_limit (behind (early u)) g) e line
+
+pub size_by_rest : LineLaws → (u : List ℕ) → length u ≡ length (lines_text (lines_at u)) + length (behind u)
+size_by_rest laws u = ap length (is_made laws u).whole ∙ length-append (lines_text (lines_at u)) (behind u)
+
+pub lines_again : LineLaws → (lines : List (List ℕ)) (w rest : List ℕ) → IsHeadText lines w → lines_at (w ++ rest) ≡ lines
+lines_again laws lines w rest t = (head_found laws lines w rest t).lines_are

@@ -1,3 +1,4 @@
+pub mod Asking
 pub mod Closes
 pub mod Controls
 pub mod HeadReads
