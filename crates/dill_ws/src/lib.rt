@@ -27,6 +27,6 @@ pub use head::{Head, HeadFront};
 pub use laws::frame_laws;
 pub use masking::mask;
 pub use request::{Asked, read_client_head};
-pub use response::server_head;
+pub use response::{read_server_head, server_head};
 pub use side::Side;
 pub use worked::{accept_row, rows};
