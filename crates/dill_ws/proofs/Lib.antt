@@ -6,6 +6,7 @@ pub mod HeadReads
 pub mod Heads
 pub mod Items
 pub mod Lengths
+pub mod Offered
 pub mod Openings
 pub mod Shown
 pub mod Splits
