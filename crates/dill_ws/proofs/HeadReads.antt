@@ -48,7 +48,7 @@ unfolding head_stop
 stop_late u h e = ap (λ x. limited (length u) x (stop_at (take head_limit u))) e ∙ limited_long (length u) (stop_at (take head_limit u)) h
 
 -- what some bytes at the front of a list are, and what is cut off them
-front_part : (n : ℕ) (w rest : List ℕ) → length w ≤ n → take n (w ++ rest) ≡ w ++ take (n - length w) rest
+pub front_part : (n : ℕ) (w rest : List ℕ) → length w ≤ n → take n (w ++ rest) ≡ w ++ take (n - length w) rest
 front_part n w rest h = ap (λ m. take m (w ++ rest)) (let e : n ≡ length w + (n - length w) = omega arith in e) ∙ take-append-add w rest (n - length w)
 
 -- the stop at the empty line behind some lines
@@ -250,7 +250,7 @@ head_there laws u a b c e =
       | inr p ↦ head_within laws head_limit u a b c (omega arith) p
     ]
 
-limited_fault : (n : ℕ) (f last : Front) (e : Errno) → limited n f last ≡ Fault e → (f ≡ Fault e) ⊎ ((head_limit ≤ n) × (f ≡ Need) × (at_limit last ≡ Fault e))
+pub limited_fault : (n : ℕ) (f last : Front) (e : Errno) → limited n f last ≡ Fault e → (f ≡ Fault e) ⊎ ((head_limit ≤ n) × (f ≡ Need) × (at_limit last ≡ Fault e))
 limited_fault n (Whole x y z) last e h = absurd (cc h)
 limited_fault n (Fault f) last e h = inl h
 limited_fault n Need last e h =
@@ -340,7 +340,7 @@ bad_head_shown test u k fails =
       };
     }
 
-judged_fault : (p : Bool) (n : ℕ) (f : Front) (e : Errno) → judged_by p n f ≡ Fault e → (f ≡ Fault e) ⊎ ((a : ℕ) × (b : ℕ) × (c : ℕ) × (f ≡ Whole a b c) × (p ≡ false) × (e ≡ Eproto))
+pub judged_fault : (p : Bool) (n : ℕ) (f : Front) (e : Errno) → judged_by p n f ≡ Fault e → (f ≡ Fault e) ⊎ ((a : ℕ) × (b : ℕ) × (c : ℕ) × (f ≡ Whole a b c) × (p ≡ false) × (e ≡ Eproto))
 judged_fault true n (Whole a b c) e h = absurd (cc h)
 judged_fault false n (Whole a b c) e h = inr (a, b, c, refl, refl, cc)
 judged_fault p n Need e h = absurd (cc h)

@@ -2,6 +2,7 @@ pub mod Agreeing
 pub mod Asking
 pub mod Closes
 pub mod Controls
+pub mod HeadLaws
 pub mod HeadReads
 pub mod Heads
 pub mod Items

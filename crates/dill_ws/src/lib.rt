@@ -25,7 +25,7 @@ pub use control::{Control, control_write};
 pub use frame::frame_write;
 pub use front::frame_front;
 pub use head::{Head, HeadFront};
-pub use laws::frame_laws;
+pub use laws::{frame_laws, handshake_laws};
 pub use masking::mask;
 pub use offer::{client_head, head_fault};
 pub use request::{Asked, read_client_head};
