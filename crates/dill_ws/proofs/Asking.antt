@@ -59,20 +59,23 @@ asks_says_by first fields h =
     let f = and_parts (has_item (codes "Upgrade") (codes "websocket") fields) (has_item (codes "Connection") (codes "upgrade") fields) d.1 in
     let k : OnlyOne is_key (keys fields) = only_one is_key (keys fields) a.1 in
     let v : OnlyOne (bytes_eq (codes "13")) (versions fields) = only_one (bytes_eq (codes "13")) (versions fields) c.1 in
-    let thirteen : codes "13" ≡ v.value = (bytes_eq-Decides (codes "13") v.value).0 v.passed in
-    (k.value, ap only k.one, record {
-      first = first;
-      fields = fields;
-      lines_are = refl;
-      asked = b.0;
-      read = e.0;
-      host = e.1;
-      upgrade = f.0;
-      connection = f.1;
-      key_is = k.one;
-      strict = k.passed;
-      version = v.one ∙ ap (λ (x : List ℕ). x ∷ []) (sym thirteen);
-    })
+    let thirteen : codes "13" ≡ v.value = (bytes_eq-Decides (codes "13") v.value).0 v.passed in (
+      k.value,
+      ap only k.one,
+      record {
+        first = first;
+        fields = fields;
+        lines_are = refl;
+        asked = b.0;
+        read = e.0;
+        host = e.1;
+        upgrade = f.0;
+        connection = f.1;
+        key_is = k.one;
+        strict = k.passed;
+        version = v.one ∙ ap (λ (x : List ℕ). x ∷ []) (sym thirteen);
+      },
+    )
 
 pub asks_says : (lines : List (List ℕ)) → client_asks lines ≡ true → ClientSays (key_of lines) lines
 unfolding client_asks

@@ -54,9 +54,9 @@ unfolding head_front_by head_stop
 fault_stays laws test u v e h =
     elim (judged_fault (test (lines_at u)) (head_size u) (head_stop u) e h) [
       | inl p ↦ front_of_fault test (u ++ v) e (elim (limited_fault (length u) (stop_at (early u)) (stop_at (take head_limit u)) e p) [
-          | inl q ↦ early_bad laws u v e (cases_lt (length u) head_limit) q
-          | inr q ↦ late_bad u v e q.0 q.1 q.2
-        ])
+        | inl q ↦ early_bad laws u v e (cases_lt (length u) head_limit) q
+        | inr q ↦ late_bad u v e q.0 q.1 q.2
+      ])
       | inr p ↦
           let k : HasHead u = head_there laws u p.0 p.1 p.2 p.3 in
           let size = head_size u in

@@ -84,19 +84,21 @@ head_found laws lines w rest t =
     let s : Splits (lines_text lines ++ (crlf ++ rest)) lines (crlf ++ rest) = stop_of_lines laws lines rest t.full in
     let are : lines_at u ≡ lines = ap lines_at grouped ∙ s.lines_are in
     record {
-      stop = elim (cases_lt (length w) head_limit) [ | inl h ↦ before_limit h | inr h ↦ at_the_limit (omega (arith, t.short)) ];
+      stop = elim (cases_lt (length w) head_limit) [ inl h ↦ before_limit h | inr h ↦ at_the_limit (omega (arith, t.short)) ];
       lines_are = are;
       size_is = ap (λ (l : List (List ℕ)). length (lines_text l) + 2) are ∙ sym (text_length lines) ∙ ap length (sym t.whole);
     }
   where
     not_need : Whole 0 0 2 ≡ Need → ⊥
     not_need e = cc e
+
     before_limit : length w < head_limit → head_stop (w ++ rest) ≡ Whole 0 0 2
     before_limit h =
         let more = take (head_limit - 1 - length w) rest in
         let cut : early (w ++ rest) ≡ w ++ more = front_part (head_limit - 1) w rest (omega arith) in
         let grouped : w ++ more ≡ lines_text lines ++ (crlf ++ more) = ap (λ x. x ++ more) t.whole ∙ append_assoc (lines_text lines) crlf more in
         stop_settled (w ++ rest) (Whole 0 0 2) (ap stop_at (cut ∙ grouped) ∙ stops_there laws lines more t.full) not_need
+
     at_the_limit : length w ≡ head_limit → head_stop (w ++ rest) ≡ Whole 0 0 2
     at_the_limit h =
         let half = lines_text lines ++ (13 ∷ []) in
@@ -147,9 +149,11 @@ last_byte xs before byte front e = by_length (cases_lt (length before) (length f
   where
     sizes : length front + length xs ≡ length before + 1
     sizes = sym (length-append front xs) ∙ ap length e ∙ length-append before (byte ∷ [])
+
     nothing : (ys : List ℕ) → length ys ≡ 0 → ys ≡ []
     nothing [] h = refl
     nothing (y ∷ ys) h = absurd (omega arith)
+
     by_length : (length before < length front) ⊎ (length front ≤ length before) → (xs ≡ []) ⊎ ((ys : List ℕ) × (before ≡ front ++ ys))
     by_length (inl l) = inl (nothing xs (omega (arith, sizes)))
     by_length (inr l) =
@@ -166,9 +170,9 @@ no_end laws w before byte whole open_before all endless (Whole a b c) e =
     let lines = lines_at w in
     let ended : w ≡ (lines_text lines ++ crlf) ++ n.more = m.whole ∙ ap (λ x. lines_text lines ++ x) n.whole ∙ sym (append_assoc (lines_text lines) crlf n.more) in
     absurd (elim (last_byte n.more before byte (lines_text lines ++ crlf) (sym ended ∙ whole)) [
-        | inl none ↦ endless lines (record { full = m.full; whole = ended ∙ ap (λ x. (lines_text lines ++ crlf) ++ x) none ∙ append-nil (lines_text lines ++ crlf); short = omega arith })
-        | inr k ↦ clash (sym open_before ∙ ap stop_at (k.1 ∙ append_assoc (lines_text lines) crlf k.0) ∙ stops_there laws lines k.0 m.full)
-      ])
+      | inl none ↦ endless lines (record { full = m.full; whole = ended ∙ ap (λ x. (lines_text lines ++ crlf) ++ x) none ∙ append-nil (lines_text lines ++ crlf); short = omega arith })
+      | inr k ↦ clash (sym open_before ∙ ap stop_at (k.1 ∙ append_assoc (lines_text lines) crlf k.0) ∙ stops_there laws lines k.0 m.full)
+    ])
   where
     clash : Need ≡ Whole 0 0 2 → ⊥
     clash h = cc h

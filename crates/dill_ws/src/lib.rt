@@ -17,6 +17,8 @@ mod reading;
 mod request;
 mod response;
 mod side;
+#[cfg(test)]
+mod tests;
 mod worked;
 
 pub use accept::accept_of;

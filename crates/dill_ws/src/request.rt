@@ -11,7 +11,7 @@ use dill_base::{Errno, Front};
 use dill_http::{http_laws, read_request};
 
 /// What stands at the front of what a client sent: its head with the key, too little to judge yet, or a refusal.
-#[derive(Clone, Copy, Debug)]
+#[derive(Clone, Copy, Debug, PartialEq, Eq)]
 pub enum Asked {
     Whole { key: [u8; 24], used: usize },
     Need,
