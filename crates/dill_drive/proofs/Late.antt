@@ -1,5 +1,5 @@
 -- After a stop a run goes to its end, and after a failed write it shows nothing more.
-use Rattle.std.proofs.Common.{◌≡◌, ◌⊎◌, inl, inr, ◌∙◌, ℕ, ◌-◌, List, [], Option, Some, None, Bool, true, false, ◌||◌, if◌then◌else◌, refl, sym, ap, subst}
+use Rattle.std.proofs.Common.{◌≡◌, ◌⊎◌, inl, inr, ◌∙◌, ℕ, ◌-◌, List, [], ◌++◌, Option, Some, None, Bool, true, false, ◌||◌, if◌then◌else◌, refl, sym, ap, subst}
 use Rattle.dill_base.specs.declared.status.Status.{Status}
 use Rattle.dill_base.specs.declared.status.Status.TheVariants as status
 use Rattle.dill_calls.specs.declared.ran.LackPlace.{LackPlace}
@@ -131,9 +131,9 @@ module _ {S : Type 0} (m : Machine S) (traced : Bool) (most : ℕ) where
 
   turned_good : (c : Config S) (place : Place) (lack : Option LackPlace) (next : Config S) → c.place ≡ place → Good c → by_turn m traced most c place lack ≡ Some next → Good next
   turned_good c (Due left) lack next is good e = subst Good (tested (may_be m traced most c.state lack) e).1
-      (shows_good (turned_by c lack (one_turn c.tally lack)) (Turns (left - 1)) (ran_bytes traced (m.ran c.state lack)) (inl (is_early c (Due left) is refl good)) refl)
+      (shows_good (turned_by c lack (one_turn c.tally lack)) (Turns (left - 1)) (ran_bytes traced (m.ran c.state lack) ++ notes_of m traced most (m.turn c.state lack c.keys).0) (inl (is_early c (Due left) is refl good)) refl)
   turned_good c Last lack next is good e = subst Good (tested (may_be m traced most c.state lack) e).1
-      (shows_good (turned_by c lack (one_last c.tally lack)) Closing (ran_bytes traced (m.ran c.state lack)) (inr refl) refl)
+      (shows_good (turned_by c lack (one_last c.tally lack)) Closing (ran_bytes traced (m.ran c.state lack) ++ notes_of m traced most (m.turn c.state lack c.keys).0) (inr refl) refl)
   turned_good c Round lack next is good e = cc
   turned_good c Asking lack next is good e = cc
   turned_good c Trying lack next is good e = cc
@@ -279,7 +279,7 @@ module _ {S : Type 0} (m : Machine S) (traced : Bool) (most : ℕ) where
   replied_silent c (Some ask) r next due silent e = heard_silent c c.place ask r next refl due silent (tested (fits ask r) e).1
 
   turned_silent : (c : Config S) (place : Place) (lack : Option LackPlace) (next : Config S) → c.place ≡ place → Silent c → by_turn m traced most c place lack ≡ Some next → Silent next
-  turned_silent c Last lack next is silent e = silent_at (turned_by c lack (one_last c.tally lack)) next Closing (ran_bytes traced (m.ran c.state lack)) silent.failed refl (tested (may_be m traced most c.state lack) e).1
+  turned_silent c Last lack next is silent e = silent_at (turned_by c lack (one_last c.tally lack)) next Closing (ran_bytes traced (m.ran c.state lack) ++ notes_of m traced most (m.turn c.state lack c.keys).0) silent.failed refl (tested (may_be m traced most c.state lack) e).1
   turned_silent c (Due left) lack next is silent e = cc (ap ends is, silent.place)
   turned_silent c Round lack next is silent e = cc
   turned_silent c Asking lack next is silent e = cc
