@@ -1,0 +1,16 @@
+pub mod World
+pub mod Naming
+pub mod Owning
+pub mod Kinds
+pub mod Taking
+pub mod Refusals
+pub mod Answers
+pub mod Effects
+pub mod Channeling
+pub mod Entering
+pub mod Settling
+pub mod Turning
+pub mod Expiring
+pub mod State
+pub mod Waiting
+pub mod Debts
