@@ -1,0 +1,6 @@
+pub mod Play
+pub mod Runs
+pub mod Playing
+pub mod Bundles
+pub mod Closing
+pub mod Channels
