@@ -6,7 +6,7 @@ use Rattle.dill_frames.specs.declared.prefix.PrefixForm.{PrefixForm}
 use Rattle.dill_frames.specs.Prefix.{prefix_front, prefix_due, PrefixSpells, PrefixShows}
 use Rattle.dill_frames.specs.Suffix.{suffix_front, suffix_due, SuffixSpells, SuffixShows}
 use Rattle.dill_base.specs.Reading.{IsWhole, IsFront}
-use Rattle.dill_frames.specs.Laws.{IsJudged, LiesIn}
+use Rattle.dill_frames.specs.Judging.{IsJudged, LiesIn}
 use Rattle.dill_frames.proofs.Fronts.{prefix_whole_more, prefix_fault_more, prefix_need_below, says_whole, SaysWhole}
 use Rattle.dill_frames.proofs.PrefixLaws.{prefix_is_front}
 use Rattle.dill_frames.proofs.SuffixLaws.{suffix_whole_more, suffix_fault_more, suffix_says_need, suffix_says_whole, suffix_is_front, place_some, place_room}

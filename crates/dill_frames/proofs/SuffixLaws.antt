@@ -218,6 +218,10 @@ occurs_more t w v k h o = (o.0 ++ v, drop-append-le k w v h ∙ ap (λ x. x ++ v
 front_of : (n : ℕ) (u : List ℕ) → n ≤ length u → (length (take n u) ≡ n) × (take n u ++ drop n u ≡ u)
 front_of n u h = (length-take-le n u h, take-append-drop n u)
 
+-- The terminator starts behind the message.
+pub end_starts : (t m : List ℕ) → starts t (drop (length m) (m ++ t)) ≡ true
+end_starts t m = front_starts t (drop (length m) (m ++ t)) (sym (ap (take (length t)) (drop_at m t (length m) refl) ∙ take_all (length t) t (omega arith)))
+
 -- A spelling at the front says where the first place is.
 pub spelled_place : (t m w rest : List ℕ) → 0 < length t → SuffixSpells t m w → IsPlace t (w ++ rest) (length m)
 spelled_place t m w rest z s =
@@ -282,10 +286,16 @@ is_whole t u l a b c w =
       };
     }
 
+-- Where a refusal is shown, as many bytes as the limit and the terminator have are there.
+pub suffix_fault_room : (t u : List ℕ) (l : ℕ) (e : Errno) → suffix_front t u l ≡ Fault e → l + length t ≤ length u
+suffix_fault_room t u l e h =
+    let w : (e ≡ Emsgsize) × (((k : ℕ) × (place_of t u ≡ Some k) × (l < k)) ⊎ ((place_of t u ≡ None) × (l + length t ≤ length u))) = suffix_says_fault t u l e h in
+    elim w.1 [ inl k ↦ omega (arith, place_room t u k.0 (place_some t u k.0 k.1), k.2) | inr k ↦ k.1 ]
+
 is_fault : (t u : List ℕ) (l : ℕ) (e : Errno) → 0 < length t → suffix_front t u l ≡ Fault e → IsShown (SuffixShows t l) u e
 is_fault t u l e z h =
     let w : (e ≡ Emsgsize) × (((k : ℕ) × (place_of t u ≡ Some k) × (l < k)) ⊎ ((place_of t u ≡ None) × (l + length t ≤ length u))) = suffix_says_fault t u l e h in
-    let r : l + length t ≤ length u = elim w.1 [ inl k ↦ (let x = place_room t u k.0 (place_some t u k.0 k.1) in omega (arith, place_room t u k.0 (place_some t u k.0 k.1), k.2)) | inr k ↦ k.1 ] in
+    let r : l + length t ≤ length u = suffix_fault_room t u l e h in
     let f = front_of (l + length t) u r in
     record {
       count = l + length t;

@@ -1,13 +1,18 @@
-ghost use Rattle.std.specs.Prelude.{◌≡◌, ◌++◌, IfSome};
+ghost use Rattle.std.specs.Prelude.{◌++◌, Ok};
+ghost use Rattle.dill_base.specs.Writing.{Writes};
 
-use dill_base::Octets;
+use dill_base::{Octets, WriteFault};
 use std::alloc::Global;
 
-/// One behind the other, or None for want of memory.
-pub(crate) fn joined(alloc: Global, first: &[u8], second: &[u8]) -> Option<Octets>
-    ensures { IfSome result (λ o. o ≡ first.now ++ second.now) }
+/// One behind the other.
+pub(crate) fn joined(alloc: Global, first: &[u8], second: &[u8]) -> Result<Octets, WriteFault>
+    ensures due { Writes result (Ok (first.now ++ second.now)) }
 {
-    let mut bytes = Octets::from_slice(alloc, first).ok()?;
-    bytes.push_all(second).ok()?;
-    Some(bytes)
+    let Ok(mut bytes) = Octets::from_slice(alloc, first) else {
+        return Err(WriteFault::NoMemory);
+    };
+    match bytes.push_all(second) {
+        Ok(()) => Ok(bytes),
+        Err(_) => Err(WriteFault::NoMemory),
+    }
 }
