@@ -35,12 +35,10 @@ pub record Rows : Type 0 where
   pub hello_little_read : prefix_front (little 2) (5 ∷ 0 ∷ hello) 5 ≡ Whole 2 7 7
   pub empty : prefix_due (big 2) [] ≡ Ok (0 ∷ 0 ∷ [])
   pub empty_read : prefix_front (big 2) (0 ∷ 0 ∷ []) 5 ≡ Whole 2 2 2
-
   -- PREFIX, a length that says too much
   pub highest_waits : map (λ n. prefix_front (big 8) (replicate n 255) 10) (1 ∷ 2 ∷ 3 ∷ 4 ∷ 5 ∷ 6 ∷ 7 ∷ []) ≡ Need ∷ Need ∷ Need ∷ Need ∷ Need ∷ Need ∷ Need ∷ []
   pub highest_refused : prefix_front (big 8) (replicate 8 255) 10 ≡ Fault Emsgsize
   pub five_refused : prefix_front (big 1) (5 ∷ []) 4 ≡ Fault Emsgsize
-
   -- SUFFIX, lines
   pub cr_sent : suffix_due crlf (97 ∷ 98 ∷ 13 ∷ []) ≡ Ok (97 ∷ 98 ∷ 13 ∷ 13 ∷ 10 ∷ [])
   pub cr_read : suffix_front crlf (97 ∷ 98 ∷ 13 ∷ 13 ∷ 10 ∷ []) 3 ≡ Whole 0 3 5

@@ -7,8 +7,9 @@ mod laws;
 mod prefix;
 mod suffix;
 mod terminal;
+#[cfg(test)]
+mod tests;
 mod worked;
-
 
 pub use laws::{prefix_laws, suffix_laws, term_laws};
 pub use prefix::{PrefixForm, prefix_fits, prefix_read, prefix_write};
