@@ -1,0 +1,5 @@
+pub mod Closes
+pub mod Controls
+pub mod Heads
+pub mod Lengths
+pub mod Openings

@@ -1,0 +1,9 @@
+use Rattle.std.proofs.Common.{sym}
+use Rattle.dill_ws.proofs.Closes.{test_of_text, test_of_no_text}
+use Rattle.dill_ws.proofs.close.is_text.Goals as goal
+
+pub returns-in-Ok : goal.returns-in-Ok
+returns-in-Ok c = sym (test_of_text _ c.in-Ok.ensures.cases.1)
+
+pub returns-in-Err : goal.returns-in-Err
+returns-in-Err c = sym (test_of_no_text _ c.in-Err.ensures.cases.0)

@@ -1,0 +1,4 @@
+pub mod Closing
+pub mod Frames
+pub mod Fronts
+pub mod Handshakes
