@@ -1,26 +1,16 @@
 -- The payload of a close frame, read and written.
 use Rattle.std.proofs.Common.{◌≡◌, ℕ, ◌+◌, ◌*◌, Bool, true, false, ◌&&◌, List, [], ◌∷◌, Option, Some, None, refl, sym, ◌∙◌}
-use Rattle.std.specs.Prelude.{IsUtf8, IfSome, IfNone, chars, bytes_eq, encode_utf8_all, if◌then◌else◌}
-use Rattle.std.proofs.lemmas.Str.{encodes-chars, scalars-chars}
-use Rattle.std.proofs.lemmas.Slice.Eq.{bytes_eq-Decides}
-use Rattle.dill_ws.specs.Closing.{is_utf8, is_close_code, close_of, ClosePayload}
-
-both : (a b : Bool) → (a && b) ≡ true → (a ≡ true) × (b ≡ true)
-both true b h = (refl, h)
-both false b h = absurd (cc h)
-
-pub text_from_test : (bs : List ℕ) → is_utf8 bs ≡ true → IsUtf8 bs
-text_from_test bs h = (chars bs, ((both _ _ h).0, (bytes_eq-Decides _ _).0 (both _ _ h).1))
-
-pub test_of_text : (bs : List ℕ) → IsUtf8 bs → is_utf8 bs ≡ true
-test_of_text bs h = rw (scalars-chars bs h) ((bytes_eq-Decides _ _).1 (encodes-chars bs h))
+use Rattle.std.specs.Prelude.{IsUtf8, IfSome, IfNone, if◌then◌else◌}
+use Rattle.std.specs.Str.{is_utf8}
+use Rattle.std.proofs.lemmas.Str.{IsUtf8-from_is_utf8, is_utf8-from_IsUtf8}
+use Rattle.dill_ws.specs.Closing.{is_close_code, close_of, ClosePayload}
 
 not_true : (b : Bool) → (b ≡ true → ⊥) → b ≡ false
 not_true true h = absurd (h refl)
 not_true false h = refl
 
 pub test_of_no_text : (bs : List ℕ) → ¬ (IsUtf8 bs) → is_utf8 bs ≡ false
-test_of_no_text bs h = not_true (is_utf8 bs) (λ e. h (text_from_test bs e))
+test_of_no_text bs h = not_true (is_utf8 bs) (λ e. h (IsUtf8-from_is_utf8 bs e))
 
 given : (a b : Bool) (n m : ℕ) → (if a && b then Some n else None) ≡ Some m → (a ≡ true) × (b ≡ true) × (m ≡ n)
 given true true n m h = (refl, refl, cc)
@@ -38,7 +28,7 @@ close_is [] code h = cc
 close_is (half ∷ []) code h = absurd (cc h)
 close_is (high ∷ low ∷ reason) code h =
     let k = given (is_close_code (high * 256 + low)) (is_utf8 reason) (high * 256 + low) code h in
-    (k.2, rw k.2 k.0, text_from_test reason k.1)
+    (k.2, rw k.2 k.0, IsUtf8-from_is_utf8 reason k.1)
 
 -- each payload is read
 pub close_of_payload : (payload : List ℕ) (code : ℕ) → ClosePayload code payload → close_of payload ≡ Some code
@@ -46,7 +36,7 @@ close_of_payload [] code h = cc
 close_of_payload (half ∷ []) code h = absurd h
 close_of_payload (high ∷ low ∷ reason) code h =
     let known : is_close_code (high * 256 + low) ≡ true = rw (← h.0) h.1 in
-    rw (known, test_of_text reason h.2) (sym (ap_some code (high * 256 + low) h.0))
+    rw (known, is_utf8-from_IsUtf8 reason h.2) (sym (ap_some code (high * 256 + low) h.0))
   where
     ap_some : (m n : ℕ) → m ≡ n → Some m ≡ Some n
     ap_some m n e = cc

@@ -5,10 +5,7 @@ use Rattle.std.proofs.lemmas.Bool.{cases_lt, eqb-true, ltb-true, lt-leb, and_par
 use Rattle.std.proofs.lemmas.Nat.{be_bytes_2, be_bytes_8}
 use Rattle.dill_ws.specs.Frames.{length_bits, length_tail, may_follow}
 use Rattle.dill_ws.specs.Fronts.{length_size, told, is_least}
-
--- each is a byte
-abbrev pub AreBytes : List ℕ → Type 0
-AreBytes bytes = (k : ℕ) → get_or bytes k 0 < 256
+use Rattle.dill_ws.specs.FrameLaws.{AreBytes}
 
 -- bits and tail are the length n in its least form
 pub record IsForm (n bits : ℕ) (tail : List ℕ) : Type 0 where
@@ -161,6 +158,7 @@ read_form bits v h seven l s =
   where
     at_126 : (b : ℕ) → 126 ≡ b → length_size b ≤ length v → is_least b (told b v) ≡ true → IsReadForm b (told b v) v
     at_126 b e = subst (λ (b : ℕ). length_size b ≤ length v → is_least b (told b v) ≡ true → IsReadForm b (told b v) v) e (read_middle v h)
+
     at_127 : (b : ℕ) → 127 ≡ b → length_size b ≤ length v → is_least b (told b v) ≡ true → IsReadForm b (told b v) v
     at_127 b e = subst (λ (b : ℕ). length_size b ≤ length v → is_least b (told b v) ≡ true → IsReadForm b (told b v) v) e (read_long v h)
 
@@ -202,3 +200,28 @@ size_bound bits =
     two_or_eight : (b : Bool) → (if b then 2 else 8) ≤ 8
     two_or_eight true = omega arith
     two_or_eight false = omega arith
+
+told_two : (v rest : List ℕ) → 2 ≤ length v → from_be_bytes w16 (v ++ rest) ≡ from_be_bytes w16 v
+told_two [] rest l = absurd (omega arith)
+told_two (a ∷ []) rest l = absurd (omega arith)
+told_two (a ∷ b ∷ v) rest l = refl
+
+told_eight : (v rest : List ℕ) → 8 ≤ length v → from_be_bytes w64 (v ++ rest) ≡ from_be_bytes w64 v
+told_eight [] rest l = absurd (omega arith)
+told_eight (a ∷ []) rest l = absurd (omega arith)
+told_eight (a ∷ b ∷ []) rest l = absurd (omega arith)
+told_eight (a ∷ b ∷ c ∷ []) rest l = absurd (omega arith)
+told_eight (a ∷ b ∷ c ∷ d ∷ []) rest l = absurd (omega arith)
+told_eight (a ∷ b ∷ c ∷ d ∷ e ∷ []) rest l = absurd (omega arith)
+told_eight (a ∷ b ∷ c ∷ d ∷ e ∷ f ∷ []) rest l = absurd (omega arith)
+told_eight (a ∷ b ∷ c ∷ d ∷ e ∷ f ∷ g ∷ []) rest l = absurd (omega arith)
+told_eight (a ∷ b ∷ c ∷ d ∷ e ∷ f ∷ g ∷ i ∷ v) rest l = refl
+
+-- what comes behind changes no length
+pub told_more : (bits : ℕ) (v rest : List ℕ) → length_size bits ≤ length v → told bits (v ++ rest) ≡ told bits v
+told_more bits v rest l = by_tests (ltb bits 126) (eqb bits 126) l
+  where
+    by_tests : (p q : Bool) → (if p then 0 else if q then 2 else 8) ≤ length v → (if p then bits else if q then from_be_bytes w16 (v ++ rest) else from_be_bytes w64 (v ++ rest)) ≡ (if p then bits else if q then from_be_bytes w16 v else from_be_bytes w64 v)
+    by_tests true q l = refl
+    by_tests false true l = told_two v rest l
+    by_tests false false l = told_eight v rest l

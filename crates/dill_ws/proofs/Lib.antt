@@ -3,3 +3,5 @@ pub mod Controls
 pub mod Heads
 pub mod Lengths
 pub mod Openings
+pub mod Shown
+pub mod Whole

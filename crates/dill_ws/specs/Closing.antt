@@ -1,6 +1,6 @@
 -- The payload of a close frame (RFC 6455, sections 5.5.1 and 7.4).
-use Rattle.std.specs.Prelude.{◌≡◌, ◌+◌, ◌*◌, ◌&&◌, ◌||◌, if◌then◌else◌, ℕ, Bool, true, List, [], ◌∷◌, leb, Option, Some, None, IsUtf8, chars, bytes_eq, encode_utf8_all}
-use lib.Utf8.{scalars}
+use Rattle.std.specs.Prelude.{◌≡◌, ◌+◌, ◌*◌, ◌&&◌, ◌||◌, if◌then◌else◌, ℕ, Bool, true, List, [], ◌∷◌, leb, Option, Some, None, IsUtf8}
+use Rattle.std.specs.Str.{is_utf8}
 
 -- The codes that a close frame may carry.
 abbrev pub is_close_code : ℕ → Bool
@@ -11,10 +11,6 @@ abbrev pub ClosePayload : ℕ → List ℕ → Type 0
 ClosePayload code [] = code ≡ 0
 ClosePayload code (half ∷ []) = ⊥
 ClosePayload code (high ∷ low ∷ reason) = (code ≡ high * 256 + low) × (is_close_code code ≡ true) × IsUtf8 reason
-
--- The bytes spell characters, and are what those encode to (RFC 3629).
-abbrev pub is_utf8 : List ℕ → Bool
-is_utf8 bytes = scalars (chars bytes) && bytes_eq (encode_utf8_all (chars bytes)) bytes
 
 -- The code that a payload carries.
 abbrev pub close_of : List ℕ → Option ℕ

@@ -107,8 +107,8 @@ head_front receiver joining u =
     let bits = bits_of (slice_index u 1) in
     if ltb (length u) 2 then Need
     else if may_start receiver joining (slice_index u 0) (slice_index u 1) then (
-      if ltb (length u) (2 + length_size bits) then Need
-      else if is_least bits (told bits (drop 2 u)) then (
-        if ltb (length u) (2 + length_size bits + key_size receiver) then Need else Whole (head_at receiver u)
-      ) else Fault Eproto
+    if ltb (length u) (2 + length_size bits) then Need
+    else if is_least bits (told bits (drop 2 u)) then (
+    if ltb (length u) (2 + length_size bits + key_size receiver) then Need else Whole (head_at receiver u)
+    ) else Fault Eproto
     ) else Fault Eproto

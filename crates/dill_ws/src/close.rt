@@ -1,5 +1,6 @@
 ghost use Rattle.std.specs.Prelude.{◌≡◌, ◌+◌, ◌*◌, ℕ, true, IfSome, IfNone};
-ghost use Rattle.dill_ws.specs.Closing.{ClosePayload, close_of, is_close_code, is_utf8};
+ghost use Rattle.std.specs.Str.{is_utf8};
+ghost use Rattle.dill_ws.specs.Closing.{ClosePayload, close_of, is_close_code};
 
 /// The code of a close frame's payload, 0 where it is empty. `None` is `Eproto`: half a code, a code that mustn't be sent
 /// (RFC 6455, section 7.4), or a reason that isn't UTF-8.

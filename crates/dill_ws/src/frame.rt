@@ -91,11 +91,7 @@ fn push_length(bytes: &mut Vec<u8>, length: u64) -> Result<(), AllocError>
     bytes.extend_from_slice(&length.to_be_bytes())
 }
 
-fn push_masked(
-    bytes: &mut Vec<u8>,
-    key: Option<[u8; 4]>,
-    payload: &[u8],
-) -> Result<(), AllocError>
+fn push_masked(bytes: &mut Vec<u8>, key: Option<[u8; 4]>, payload: &[u8]) -> Result<(), AllocError>
     ensures { OnOk result (bytes.new.items ≡ bytes.old.items ++ masked key payload.now) }
 {
     let start = bytes.len();
