@@ -1,5 +1,5 @@
 -- What a stack sends for a message: the spelling by the top layer, spelled again by each layer below.
-use Rattle.std.specs.Prelude.{◌×◌, ℕ, List, [], ◌∷◌, Bool, true, false, not, ◌&&◌, ◌||◌, bytes_eq, length, nat_lt, if◌then◌else◌, Option, Some, None, Result, Ok, Err}
+use Rattle.std.specs.Prelude.{ℕ, List, [], ◌∷◌, Bool, true, false, not, ◌&&◌, ◌||◌, bytes_eq, length, nat_lt, if◌then◌else◌, Option, Some, None, Result, Ok, Err}
 use Rattle.std.specs.List.{list_any}
 use Rattle.std.specs.Int.{w32, to_be_bytes}
 use Rattle.rand_core.specs.Stream.{Stream, next_u32}
@@ -9,7 +9,7 @@ use Rattle.dill_frames.specs.Prefix.{prefix_due}
 use Rattle.dill_frames.specs.Suffix.{suffix_due}
 use Rattle.dill_ws.specs.declared.side.Side.{Side}
 use Rattle.dill_ws.specs.declared.side.Side.TheVariants.{Client, Server}
-use Rattle.dill_ws.specs.Closing.{is_utf8}
+use Rattle.std.specs.Str.{is_utf8}
 use Rattle.dill_ws.specs.Frames.{frame_bytes}
 use Rattle.dill_stack.specs.Layers.{Placed, Prefix, Suffix, Term, Http, Ws, WsLayer}
 

@@ -1,3 +1,12 @@
 pub mod Layers
 pub mod Held
 pub mod Composed
+pub mod Refusals
+pub mod Sending
+pub mod WsReading
+pub mod Read
+pub mod Dropping
+pub mod Receiving
+pub mod Attaching
+pub mod Parting
+pub mod Interface
