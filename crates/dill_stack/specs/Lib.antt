@@ -10,3 +10,7 @@ pub mod Receiving
 pub mod Attaching
 pub mod Parting
 pub mod Interface
+pub mod RowWords
+pub mod Rows
+pub mod HttpRows
+pub mod WsRows

@@ -6,8 +6,10 @@ mod fault;
 mod layer;
 mod parting;
 mod want;
+mod worked;
 
 pub use fault::StackFault;
 pub use layer::{Layer, Top};
 pub use parting::Parting;
 pub use want::{ReadOut, Want};
+pub use worked::{http_rows, rows, ws_rows};
