@@ -1,0 +1,6 @@
+pub mod Bytes
+pub mod Lines
+pub mod Heads
+pub mod Reading
+pub mod Writing
+pub mod Rows

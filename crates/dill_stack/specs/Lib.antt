@@ -1,0 +1,16 @@
+pub mod Layers
+pub mod Held
+pub mod Composed
+pub mod Refusals
+pub mod Sending
+pub mod WsReading
+pub mod Read
+pub mod Dropping
+pub mod Receiving
+pub mod Attaching
+pub mod Parting
+pub mod Interface
+pub mod RowWords
+pub mod Rows
+pub mod HttpRows
+pub mod WsRows

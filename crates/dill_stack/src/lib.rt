@@ -1,0 +1,15 @@
+//! Sockets that stand on one another: layers over a link, with what came, what is to be sent and what is refused.
+//! It performs no call on the network: the machine above it hands the bytes in and takes them out.
+#![tactic(auto)]
+
+mod fault;
+mod layer;
+mod parting;
+mod want;
+mod worked;
+
+pub use fault::StackFault;
+pub use layer::{Layer, Top};
+pub use parting::Parting;
+pub use want::{ReadOut, Want};
+pub use worked::{http_rows, rows, ws_rows};

@@ -1,0 +1,6 @@
+pub mod Closing
+pub mod FrameLaws
+pub mod Frames
+pub mod Fronts
+pub mod Handshakes
+pub mod Rows

@@ -1,0 +1,27 @@
+//! Frames and handshake heads of the WebSocket protocol (RFC 6455), over bytes that the caller owns.
+//! It opens no socket, keeps no state between calls and joins no message.
+#![tactic(auto)]
+
+mod accept;
+mod close;
+mod control;
+mod frame;
+mod front;
+mod head;
+mod laws;
+mod masking;
+mod response;
+mod side;
+mod worked;
+
+pub use accept::accept_of;
+pub use close::close_code;
+pub use control::{Control, control_write};
+pub use frame::frame_write;
+pub use front::frame_front;
+pub use head::{Head, HeadFront};
+pub use laws::frame_laws;
+pub use masking::mask;
+pub use response::server_head;
+pub use side::Side;
+pub use worked::{accept_row, rows};
