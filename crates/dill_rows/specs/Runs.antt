@@ -7,8 +7,8 @@ use Rattle.dill_calls.specs.declared.ran.Ran.{Ran}
 use Rattle.dill_calls.specs.declared.word.Word.{Word}
 use Rattle.dill_calls.specs.Program.{Program}
 use Rattle.dill_handles.specs.Handles.{gone}
-use Rattle.dill_kernel.specs.declared.replies.Limit.{Limit}
-use Rattle.dill_kernel.specs.declared.replies.Limit.TheVariants.{NoWait, Until, Forever}
+use Rattle.dill_kernel.specs.declared.ready.Limit.{Limit}
+use Rattle.dill_kernel.specs.declared.ready.Limit.TheVariants.{NoWait, Until, Forever}
 use Rattle.dill_maps.specs.Maps.{if_some}
 use Rattle.dill_rules.specs.State.{State, opening_state, is_answered, turned, ran, expired, shut, at_moment}
 use Rattle.dill_rules.specs.Waiting.{Waiter, waiters, limit, is_stuck}

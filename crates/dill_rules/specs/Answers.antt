@@ -22,6 +22,7 @@ use Rattle.dill_rules.specs.Naming.{end_of_clause}
 use Rattle.dill_rules.specs.Owning.{entry_of, is_dead_as}
 use Rattle.dill_rules.specs.Kinds.{is_dead}
 use Rattle.dill_rules.specs.Taking.{is_cancelled, bundle_named}
+use Rattle.dill_rules.specs.LinkAnswers.{link_answer}
 
 -- a test's answer
 abbrev pub when : Bool → Answer → Option Answer
@@ -66,7 +67,7 @@ module _ {V : Type 0} where
   own_answer w (calls.Chsend number bytes deadline) = if_some (clause_fault w number (Send bytes)) None (λ e. Some (Fault e))
   own_answer w (calls.Chrecv number size deadline) = if_some (clause_fault w number (Recv size)) None (λ e. Some (Fault e))
   own_answer w (calls.Choose deadline all) = choice_fault w 0 all
-  own_answer w _ = None
+  own_answer w call = link_answer w call
 
   -- the number that the call names is dead; that of `hclose` died by the call itself
   abbrev pub lost_its_number : World V → Call → Bool

@@ -8,7 +8,7 @@ use Rattle.dill_maps.specs.Maps.{if_some}
 use Rattle.dill_rules.specs.declared.coroutine.Coroutine.{Coroutine}
 use Rattle.dill_rules.specs.World.{World, call_of, pending_call}
 use Rattle.dill_rules.specs.Entering.{late_answer}
-use Rattle.dill_rules.specs.Settling.{give}
+use Rattle.dill_rules.specs.Giving.{give}
 
 -- the moment of a deadline that is one
 abbrev pub moment_of : Deadline → Option ℕ

@@ -9,6 +9,7 @@ use Rattle.dill_maps.specs.Maps.{if_some, without}
 use Rattle.dill_rules.specs.declared.coroutine.Closing.{Closing}
 use Rattle.dill_rules.specs.declared.thing.Thing.{Thing}
 use Rattle.dill_rules.specs.declared.thing.Thing.TheVariants as things
+use Rattle.dill_rules.specs.Links.{change_link, as_closing}
 use Rattle.dill_rules.specs.World.{World, note}
 
 abbrev pub is_closing_of : ℕ → Closing → Bool
@@ -37,9 +38,11 @@ module _ {V : Type 0} where
   move w number owner =
       if_some (entry_of w number) w (λ x. note (take_thing (record w { handles = handles.renumber w.handles number x.thing owner }) x.thing owner) (Moved number (handles.next_number w.handles)))
 
-  -- what becomes of a thing that is released
+  -- what becomes of a thing that is released: an end is gone, and the `close` of a link is due
   abbrev pub drop : World V → Thing → World V
   drop w (things.End end) = record w { channels = channels.drop_end w.channels end }
+  drop w (things.Listener link) = record w { links = change_link w.links link as_closing }
+  drop w (things.Socket link) = record w { links = change_link w.links link as_closing }
   drop w thing = w
 
   -- the number is dead, and its thing is gone

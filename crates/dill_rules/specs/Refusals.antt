@@ -1,5 +1,5 @@
 -- The refusals at entry: a condition for each errno, and the one order in which they are tried.
-use Rattle.std.specs.Prelude.{ℕ, ◌==◌, List, [], ◌∷◌, length, find, Bool, true, false, not, ◌&&◌, ◌||◌, Option, Some, None, if◌then◌else◌, nat_lt, nat_le, is_none}
+use Rattle.std.specs.Prelude.{ℕ, ◌+◌, ◌==◌, List, [], ◌∷◌, length, find, Bool, true, false, not, ◌&&◌, ◌||◌, Option, Some, None, if◌then◌else◌, nat_lt, nat_le, is_none}
 use Rattle.std.specs.List.{list_any, list_all}
 use Rattle.dill_base.specs.declared.errno.Errno.{Errno}
 use Rattle.dill_base.specs.declared.errno.Errno.TheVariants as errnos
@@ -7,21 +7,41 @@ use Rattle.dill_calls.specs.declared.call.Call.{Call}
 use Rattle.dill_calls.specs.declared.call.Call.TheVariants as calls
 use Rattle.dill_calls.specs.declared.lists.Clause.{Clause}
 use Rattle.dill_calls.specs.declared.lists.Clause.TheVariants as clauses
-use Rattle.dill_calls.specs.CallTable.{word_of, blocks, makes, gives_up}
+use Rattle.dill_calls.specs.declared.word.Word.{Word}
+use Rattle.dill_calls.specs.declared.word.Word.TheVariants as words
+use Rattle.dill_calls.specs.CallTable.{word_of, blocks, makes, gives_up, named_by}
 use Rattle.dill_calls.specs.Program.{Program}
 use Rattle.dill_handles.specs.Handles as handles
 use Rattle.dill_scope.specs.Scopes as scopes
 use Rattle.dill_maps.specs.Maps.{if_some}
 use Rattle.dill_rules.specs.World.{World}
-use Rattle.dill_rules.specs.Naming.{gifts_of, draws_of, bears}
+use Rattle.dill_rules.specs.Naming.{gifts_of, draws_of, bears, links}
+use Rattle.dill_rules.specs.Directions.{is_send, is_receive}
+use Rattle.dill_rules.specs.Sockets.{stack_of, faults_by}
 use Rattle.dill_rules.specs.Owning.{entry_of}
 use Rattle.dill_rules.specs.Kinds.{names_dead, names_other}
-use Rattle.dill_rules.specs.Taking.{is_cancelled, is_leaving, takes_anothers, bundle_named, cannot_take, is_occupied}
+use Rattle.dill_rules.specs.Taking.{is_on, is_pending, is_cancelled, is_leaving, takes_anothers, bundle_named, cannot_take, is_occupied}
 use Rattle.dill_rules.specs.Naming.{taken_by}
 
 -- the most bytes of a message, of an item of a channel and of a receive
 abbrev pub most_bytes : ℕ
 most_bytes = 1048576
+
+-- the place of an errno among those that a stack refuses with
+abbrev pub place_of : Errno → ℕ
+place_of errnos.Einval = 1
+place_of errnos.Ebusy = 2
+place_of errnos.Epipe = 3
+place_of errnos.Econnreset = 4
+place_of errnos.Emsgsize = 5
+place_of _ = 0
+
+abbrev pub is_same : Errno → Errno → Bool
+is_same e f = nat_lt 0 (place_of e) && place_of e == place_of f
+
+abbrev pub is_accept : Word → Bool
+is_accept words.TcpAccept = true
+is_accept _ = false
 
 -- a number stands twice in the list
 abbrev pub has_twice : List ℕ → Bool
@@ -45,6 +65,7 @@ is_invalid p view (calls.BundleGo number program args) = not (can_bear p view pr
 is_invalid p view (calls.Chsend number bytes deadline) = nat_lt most_bytes (length bytes)
 is_invalid p view (calls.Chrecv number size deadline) = nat_lt most_bytes size
 is_invalid p view (calls.Choose deadline all) = length all == 0 || (nat_lt 16 (length all) || list_any is_over_limit all)
+is_invalid p view (calls.TcpListen address backlog) = nat_lt backlog 1 || nat_lt 4096 backlog
 is_invalid p view _ = false
 
 module _ {V : Type 0} where
@@ -66,27 +87,48 @@ module _ {V : Type 0} where
   is_closed_bundle w who (calls.BundleWait number deadline) = waits_inside w who number
   is_closed_bundle w who _ = false
 
-  -- EBUSY: a handle may not be taken, or is occupied, or the bundle is closed to the call
+  -- one of the sort is pending on the number
+  abbrev pub is_second : World V → ℕ → (Word → Bool) → Bool
+  is_second w number sort = is_pending w (λ call. sort (word_of call) && is_on number call)
+
+  -- the direction that the call uses is in use: a send, a receive or an accept is pending
+  abbrev pub is_in_use : World V → Call → Bool
+  is_in_use w call = if_some (named_by call) false (λ number. (is_send (word_of call) && is_second w number is_send)
+      || ((is_receive (word_of call) && is_second w number is_receive) || (is_accept (word_of call) && is_second w number is_accept)))
+
+  -- EBUSY: a handle may not be taken, or is occupied, or a direction is in use, or the bundle is closed to the call
   abbrev pub is_busy : World V → ℕ → Call → Bool
-  is_busy w who call = list_any (cannot_take w who call) (taken_by call) || (is_occupied w call || is_closed_bundle w who call)
+  is_busy w who call = list_any (cannot_take w who call) (taken_by call) || (is_occupied w call || (is_in_use w call || is_closed_bundle w who call))
+
+  -- the stack of the call refuses it so
+  abbrev pub is_refused_by_stack : World V → Call → Errno → Bool
+  is_refused_by_stack w call e = if_some (stack_of w call) false (λ s. list_any (is_same e) (faults_by call (is_in_use w call) s))
 
   -- neither a coroutine nor a number for one is left
   abbrev pub has_no_coroutine : World V → Bool
   has_no_coroutine w = nat_le 65536 (length w.coroutines) || nat_le 18446744073709551615 w.last_coroutine
 
-  -- EMFILE: too few handles or numbers, or no coroutine is left
+  -- neither a link nor a number for one is left
+  abbrev pub has_no_link : World V → Bool
+  has_no_link w = nat_le 4096 (length w.links.all + w.links.kept) || nat_le 18446744073709551615 (w.links.last + w.links.kept)
+
+  -- EMFILE: too few handles or numbers, or no coroutine or no link is left
   abbrev pub is_short : World V → Call → Bool
-  is_short w call = not (handles.has_room w.handles (draws_of call)) || (bears (word_of call) && has_no_coroutine w)
+  is_short w call = not (handles.has_room w.handles (draws_of call)) || ((bears (word_of call) && has_no_coroutine w) || (links (word_of call) && has_no_link w))
+
+  -- the condition of an errno, but for what a stack refuses
+  abbrev pub holds_of_itself : Program V → World V → ℕ → V → Call → Errno → Bool
+  holds_of_itself p w who view call errnos.Ecanceled = is_called_off w who call
+  holds_of_itself p w who view call errnos.Ebadf = names_dead w call
+  holds_of_itself p w who view call errnos.Enotsup = names_other w call
+  holds_of_itself p w who view call errnos.Einval = is_invalid p view call
+  holds_of_itself p w who view call errnos.Ebusy = is_busy w who call
+  holds_of_itself p w who view call errnos.Emfile = is_short w call
+  holds_of_itself p w who view call _ = false
 
   -- the condition of an errno
   abbrev pub holds : Program V → World V → ℕ → V → Call → Errno → Bool
-  holds p w who view call errnos.Ecanceled = is_called_off w who call
-  holds p w who view call errnos.Ebadf = names_dead w call
-  holds p w who view call errnos.Enotsup = names_other w call
-  holds p w who view call errnos.Einval = is_invalid p view call
-  holds p w who view call errnos.Ebusy = is_busy w who call
-  holds p w who view call errnos.Emfile = is_short w call
-  holds p w who view call _ = false
+  holds p w who view call e = holds_of_itself p w who view call e || is_refused_by_stack w call e
 
 -- the order of refusals; want of memory is the last
 abbrev pub order : List Errno

@@ -19,7 +19,10 @@ use Rattle.dill_rules.specs.declared.thing.Thing.{Thing}
 use Rattle.dill_rules.specs.World.{World, is_coroutine, is_ending, pending_call, call_of, set_mode, reply}
 use Rattle.dill_rules.specs.Owning.{is_dead_as, release, close_bundle, free_bundle}
 use Rattle.dill_rules.specs.Taking.{bundle_of}
+use Rattle.dill_rules.specs.Directions.{is_send}
+use Rattle.dill_rules.specs.LinkAnswers.{is_on_stack}
 use Rattle.dill_rules.specs.Answers.{answer_of}
+use Rattle.dill_rules.specs.Giving.{give, look_on}
 
 -- the one of a higher number first
 abbrev pub placed : Closing → List Closing → List Closing
@@ -80,15 +83,6 @@ module _ {V : Type 0} where
   abbrev pub finish : World V → Coroutine V → World V
   finish w c = leave (release_all (free_all w c.number) c.number) c
 
-  -- the answer of `hclose` of a bundle frees the bundle
-  abbrev pub give_close : World V → ℕ → ℕ → Answer → World V
-  give_close w who number answer = reply (if_some (find (is_dead_as number) w.closings) w (free_bundle w)) who words.Hclose answer
-
-  -- a pending call is answered
-  abbrev pub give : World V → ℕ → Call → Answer → World V
-  give w who (calls.Hclose number) answer = give_close w who number answer
-  give w who call answer = reply w who (word_of call) answer
-
   -- the answer that a coroutine can be given, with its call
   abbrev pub answer_due : World V → Coroutine V → Option (ℕ × Call × Answer)
   answer_due w c = if_some (pending_call c.mode) None (λ call. if_some (answer_of w c.number call) None (λ answer. Some (c.number, call, answer)))
@@ -106,6 +100,13 @@ module _ {V : Type 0} where
   settle_within zero w = w
   settle_within (suc k) w = settle_within k (settle_one w)
 
-  -- each time one coroutine fewer is pending or ending
+  -- a call that stays pending uses what its look passes: frames that come before a message, what a detach drops, a client's head
+  abbrev pub pass_one : World V → Coroutine V → World V
+  pass_one w c = if_some (pending_call c.mode) w (λ call. if is_on_stack (word_of call) && not (is_send (word_of call)) then look_on w call else w)
+
+  abbrev pub pass_all : World V → World V
+  pass_all w = fold pass_one w w.coroutines
+
+  -- each time one coroutine fewer is pending or ending, until nothing is due
   abbrev pub settle : World V → World V
-  settle w = settle_within (length w.coroutines) w
+  settle w = pass_all (settle_within (length w.coroutines) w)

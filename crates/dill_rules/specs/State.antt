@@ -7,6 +7,7 @@ use Rattle.dill_calls.specs.declared.ran.Ran.{Ran}
 use Rattle.dill_calls.specs.Program.{Program}
 use Rattle.dill_scope.specs.declared.forest.Bundle.{Bundle}
 use Rattle.dill_scope.specs.Scopes as scopes
+use Rattle.rand_core.specs.Stream.{Stream}
 use Rattle.dill_maps.specs.Maps.{if_some}
 use Rattle.dill_rules.specs.declared.coroutine.Coroutine.{Coroutine}
 use Rattle.dill_rules.specs.declared.coroutine.Mode.{Mode}
@@ -84,8 +85,8 @@ module _ {V : Type 0} where
   after s w = line_up w s.answers s.closings s.next
 
   -- `main` has the first answer
-  abbrev pub opening_state : V → State V
-  opening_state view = record { world = opening view; answers = record { of = 1; at = 0 } ∷ []; closings = []; next = 1 }
+  abbrev pub opening_state : V → Stream → State V
+  opening_state view words = record { world = opening view words; answers = record { of = 1; at = 0 } ∷ []; closings = []; next = 1 }
 
   -- whose turn it is: the coroutine whose answer came first
   abbrev pub next_turn : State V → Option ℕ

@@ -3,8 +3,8 @@ use Rattle.std.specs.Prelude.{ℕ, List, [], ◌∷◌, map, filter_map, fold, f
 use Rattle.std.specs.List.{reduce, list_any}
 use Rattle.dill_calls.specs.declared.word.Word.{Word}
 use Rattle.dill_calls.specs.CallTable.{word_of}
-use Rattle.dill_kernel.specs.declared.replies.Limit.{Limit}
-use Rattle.dill_kernel.specs.declared.replies.Limit.TheVariants.{NoWait, Until, Forever}
+use Rattle.dill_kernel.specs.declared.ready.Limit.{Limit}
+use Rattle.dill_kernel.specs.declared.ready.Limit.TheVariants.{NoWait, Until, Forever}
 use Rattle.dill_maps.specs.Maps.{if_some}
 use Rattle.dill_rules.specs.declared.coroutine.Coroutine.{Coroutine}
 use Rattle.dill_rules.specs.World.{World, pending_call}

@@ -10,20 +10,35 @@ use Rattle.dill_calls.specs.declared.word.Word.TheVariants.{Start}
 use Rattle.dill_handles.specs.Handles.{Handles, no_handles}
 use Rattle.dill_scope.specs.Scopes.{Scopes, opening_scopes}
 use Rattle.dill_chan.specs.Channels.{Channels, no_channels, leave}
+use Rattle.rand_core.specs.Stream.{Stream}
 use Rattle.dill_maps.specs.Maps.{if_some, change}
+use Rattle.dill_rules.specs.Links.{Links, no_links}
 use Rattle.dill_rules.specs.declared.coroutine.Coroutine.{Coroutine}
 use Rattle.dill_rules.specs.declared.coroutine.Closing.{Closing}
 use Rattle.dill_rules.specs.declared.coroutine.Mode.{Mode}
 use Rattle.dill_rules.specs.declared.coroutine.Mode.TheVariants as modes
 use Rattle.dill_rules.specs.declared.thing.Thing.{Thing}
 
--- the coroutines by rising number, the bundles that are closing with the numbers that died, how the program of `main` ended once it has, and the notes of this step
+-- the place in a round: the kind and the number of the last ask; kinds count from 1 in their order
+pub record Place : Type 0 where
+  pub kind : ℕ
+  pub number : ℕ
+
+-- before the first kind
+abbrev pub at_start : Place
+at_start = record { kind = 0; number = 0 }
+
+-- The coroutines by rising number, the bundles that are closing with the numbers that died, how the program of `main` ended once it has, and the notes of this step. `wrote` are the links that had a `write` in this round, and `words` the random words that are still to come.
 pub record World (V : Type 0) : Type 0 where
   pub coroutines : List (Coroutine V)
   pub handles : Handles Thing
   pub scopes : Scopes
   pub closings : List Closing
   pub channels : Channels
+  pub links : Links
+  pub place : Place
+  pub wrote : List ℕ
+  pub words : Stream
   pub moment : ℕ
   pub last_coroutine : ℕ
   pub last_bundle : ℕ
@@ -72,18 +87,26 @@ module _ {V : Type 0} where
   abbrev pub note : World V → Note → World V
   note w one = record w { notes = w.notes ++ one ∷ [] }
 
+  -- a round goes on from before its first kind
+  abbrev pub from_start : World V → World V
+  from_start w = record w { place = at_start; wrote = [] }
+
   -- a step begins
   abbrev pub begin : World V → World V
   begin w = record w { notes = [] }
 
   -- `main` has the answer of its start, and nothing else is there
-  abbrev pub opening : V → World V
-  opening view = record {
+  abbrev pub opening : V → Stream → World V
+  opening view words = record {
     coroutines = record { number = 1; body = view; mode = modes.Answered Start (Number 0) } ∷ [];
     handles = no_handles;
     scopes = opening_scopes;
     closings = [];
     channels = no_channels;
+    links = no_links;
+    place = at_start;
+    wrote = [];
+    words = words;
     moment = 0;
     last_coroutine = 1;
     last_bundle = 0;
