@@ -15,12 +15,14 @@ use Rattle.dill_calls.specs.Program.{Program}
 use Rattle.dill_handles.specs.Handles as handles
 use Rattle.dill_maps.specs.Maps.{if_some}
 use Rattle.dill_rules.specs.World.{World, call_of, reply, pend}
-use Rattle.dill_rules.specs.Naming.{draws_of, uses_link}
+use Rattle.dill_rules.specs.Naming.{draws_of, links, uses_link}
+use Rattle.dill_rules.specs.Directions.{is_send, is_receive}
 use Rattle.dill_rules.specs.Taking.{is_cancelled}
 use Rattle.dill_rules.specs.Refusals.{refuse}
 use Rattle.dill_rules.specs.Answers.{answer_of}
 use Rattle.dill_rules.specs.Effects.{make_value, make_bundle, query, own, close, go, bundle_go, passed_answer}
 use Rattle.dill_rules.specs.Channeling.{make_channel, channel_done, enter_channel}
+use Rattle.dill_rules.specs.Linking.{enter_send, enter_receive, enter_link, enter_attach, enter_giving_up}
 
 -- a call with the deadline that it has from its entry on
 abbrev pub entered : ℕ → Call → Call
@@ -66,6 +68,14 @@ module _ {V : Type 0} where
   abbrev pub keep_for : World V → Call → World V
   keep_for w call = record w { handles = handles.keep w.handles (draws_of call) }
 
+  -- the effect of a call on a link that isn't refused, by its class
+  abbrev pub perform_on_link : World V → ℕ → Call → World V
+  perform_on_link w who call = if is_send (word_of call) then enter_send w who call
+      else (if is_receive (word_of call) then enter_receive w who call
+      else (if gives_up (word_of call) then enter_giving_up w who call (draws_of call)
+      else (if links (word_of call) then enter_link w who call
+      else enter_attach w who call)))
+
   -- the effect of a call that isn't refused
   abbrev pub perform : Program V → World V → ℕ → V → Call → World V
   perform p w who view (calls.Print text) = reply w who words.Print (Number 0)
@@ -86,7 +96,7 @@ module _ {V : Type 0} where
   perform p w who view (calls.Chdone number) = channel_done w who number
   perform p w who view (calls.Choose deadline all) = enter_channel w who (calls.Choose deadline all)
   perform p w who view (calls.Pass word fault) = reply w who word (passed_answer fault)
-  perform p w who view call = w
+  perform p w who view call = perform_on_link w who call
 
   -- Pending without an answer, with a passed deadline and without a link.
   abbrev pub is_too_late : World V → ℕ → Call → Bool

@@ -17,6 +17,8 @@ pub mod Giving
 pub mod Settling
 pub mod Turning
 pub mod Expiring
+pub mod Trying
+pub mod Hearing
 pub mod State
 pub mod Waiting
 pub mod Debts

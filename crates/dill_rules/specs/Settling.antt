@@ -16,7 +16,7 @@ use Rattle.dill_rules.specs.declared.coroutine.Coroutine.{Coroutine}
 use Rattle.dill_rules.specs.declared.coroutine.Mode.{Mode}
 use Rattle.dill_rules.specs.declared.coroutine.Mode.TheVariants as modes
 use Rattle.dill_rules.specs.declared.thing.Thing.{Thing}
-use Rattle.dill_rules.specs.World.{World, is_coroutine, is_ending, pending_call, call_of, set_mode, reply}
+use Rattle.dill_rules.specs.World.{World, is_coroutine, is_ending, pending_call, call_of, set_mode, reply, from_start}
 use Rattle.dill_rules.specs.Owning.{is_dead_as, release, close_bundle, free_bundle}
 use Rattle.dill_rules.specs.Taking.{bundle_of}
 use Rattle.dill_rules.specs.Directions.{is_send}
@@ -71,9 +71,9 @@ module _ {V : Type 0} where
   abbrev pub release_all : World V → ℕ → World V
   release_all w who = fold release w (reverse (handles.numbers_of w.handles who))
 
-  -- how `main` ended is kept
+  -- how `main` ended is kept, and what is asked from then on is asked from the start
   abbrev pub keep_end : World V → Coroutine V → World V
-  keep_end w c = if c.number == 1 then record w { ended = Some (outcome_of c.mode) } else w
+  keep_end w c = if c.number == 1 then from_start (record w { ended = Some (outcome_of c.mode) }) else w
 
   -- a coroutine is gone
   abbrev pub leave : World V → Coroutine V → World V

@@ -7,12 +7,16 @@ use Rattle.dill_calls.specs.declared.ran.Ran.{Ran}
 use Rattle.dill_calls.specs.Program.{Program}
 use Rattle.dill_scope.specs.declared.forest.Bundle.{Bundle}
 use Rattle.dill_scope.specs.Scopes as scopes
+use Rattle.dill_kernel.specs.declared.ready.Ready.{Ready}
+use Rattle.dill_kernel.specs.declared.replies.KernelReply.{KernelReply}
 use Rattle.rand_core.specs.Stream.{Stream}
 use Rattle.dill_maps.specs.Maps.{if_some}
 use Rattle.dill_rules.specs.declared.coroutine.Coroutine.{Coroutine}
 use Rattle.dill_rules.specs.declared.coroutine.Mode.{Mode}
 use Rattle.dill_rules.specs.declared.coroutine.Mode.TheVariants as modes
-use Rattle.dill_rules.specs.World.{World, opening, begin, coroutine_of}
+use Rattle.dill_rules.specs.World.{World, opening, begin, from_start, coroutine_of}
+use Rattle.dill_rules.specs.Trying.{next_try}
+use Rattle.dill_rules.specs.Hearing.{heard, woken}
 use Rattle.dill_rules.specs.Settling.{settle}
 use Rattle.dill_rules.specs.Turning.{turn, shown, may_lack_move, move_of}
 use Rattle.dill_rules.specs.Expiring.{passed, expire_one}
@@ -124,8 +128,12 @@ module _ {V : Type 0} where
 
   -- the root is closed: everybody is cancelled
   abbrev pub shut : State V → State V
-  shut s = after s (settle (record (begin s.world) { scopes = scopes.close s.world.scopes 0 }))
+  shut s = after s (settle (record (from_start (begin s.world)) { scopes = scopes.close s.world.scopes 0 }))
 
-  -- the moment is the greatest that a wait told
-  abbrev pub at_moment : State V → ℕ → State V
-  at_moment s told = record s { world = record s.world { moment = max s.world.moment told } }
+  -- after a wait: the moment is the greatest that was told
+  abbrev pub woke : State V → ℕ → List Ready → State V
+  woke s told ready = record s { world = record (woken (begin s.world) ready) { moment = max s.world.moment told } }
+
+  -- the reply to the next try is heard, and then the world settles
+  abbrev pub hear : State V → Option KernelReply → State V
+  hear s said = if_some (next_try s.world) s (λ x. after s (settle (heard (begin s.world) x said)))

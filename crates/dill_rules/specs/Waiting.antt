@@ -1,5 +1,5 @@
 -- Who waits, for how long the next wait may last, and when nobody can go on.
-use Rattle.std.specs.Prelude.{ℕ, List, [], ◌∷◌, map, filter_map, fold, find, Bool, true, false, not, ◌&&◌, ◌||◌, Option, Some, None, option_map, if◌then◌else◌, is_some, is_none, nat_lt, min}
+use Rattle.std.specs.Prelude.{ℕ, length, List, [], ◌∷◌, map, filter_map, fold, find, Bool, true, false, not, ◌&&◌, ◌||◌, Option, Some, None, option_map, if◌then◌else◌, is_some, is_none, nat_lt, min}
 use Rattle.std.specs.List.{reduce, list_any}
 use Rattle.dill_calls.specs.declared.word.Word.{Word}
 use Rattle.dill_calls.specs.CallTable.{word_of}
@@ -10,6 +10,7 @@ use Rattle.dill_rules.specs.declared.coroutine.Coroutine.{Coroutine}
 use Rattle.dill_rules.specs.World.{World, pending_call}
 use Rattle.dill_rules.specs.Naming.{uses_link}
 use Rattle.dill_rules.specs.Expiring.{timers}
+use Rattle.dill_rules.specs.Trying.{tries, closes}
 use Rattle.dill_rules.specs.State.{State, is_answered}
 
 -- a coroutine that is pending, and the word of its call
@@ -42,10 +43,18 @@ module _ {V : Type 0} where
   abbrev pub awaits_link : World V → Bool
   awaits_link w = list_any (λ x. uses_link x.word) (waiters w)
 
-  -- how long the next wait may last: not at all where somebody has an answer
-  abbrev pub limit : State V → Limit
-  limit s = if is_answered s then NoWait else until (least_due s.world)
+  -- somebody has an answer, or some try is due, wherever the round stands
+  abbrev pub can_go_on : State V → Bool
+  can_go_on s = is_answered s || nat_lt 0 (length (tries s.world))
 
-  -- nobody has an answer, no call on a link is pending, and none expires
+  -- how long the next wait may last
+  abbrev pub limit : State V → Limit
+  limit s = if can_go_on s then NoWait else until (least_due s.world)
+
+  -- a `close` is due
+  abbrev pub has_close : World V → Bool
+  has_close w = nat_lt 0 (length (closes w))
+
+  -- Nobody has an answer, no `close` is due, no call on a link is pending, and none expires.
   abbrev pub is_stuck : State V → Bool
-  is_stuck s = not (is_answered s) && (not (awaits_link s.world) && is_none (least_due s.world))
+  is_stuck s = not (is_answered s || has_close s.world) && (not (awaits_link s.world) && is_none (least_due s.world))
