@@ -4,3 +4,5 @@ pub mod Playing
 pub mod Bundles
 pub mod Closing
 pub mod Channels
+pub mod Connecting
+pub mod Sockets

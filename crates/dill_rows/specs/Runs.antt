@@ -1,109 +1,208 @@
--- A whole run over no links, with a clock that goes on to each deadline: its lines and its counts.
-use Rattle.std.specs.Prelude.{ℕ, zero, suc, ◌+◌, ◌-◌, ◌==◌, List, [], ◌∷◌, ◌++◌, map, filter_map, Bool, true, false, not, ◌&&◌, ◌||◌, Option, Some, None, option_map, if◌then◌else◌, is_some, max}
+-- A whole run over a kernel that is a function: its lines, its asks and its counts.
+use Rattle.std.specs.Prelude.{codes, decimal, bytes_eq, flat_map, ℕ, zero, suc, ◌+◌, ◌-◌, ◌==◌, List, [], ◌∷◌, ◌++◌, map, filter_map, length, drop, Bool, true, false, not, ◌&&◌, ◌||◌, Option, Some, None, option_map, if◌then◌else◌, is_some, max}
+use Rattle.rand_core.specs.Stream.{Stream}
 use Rattle.dill_base.specs.declared.errno.Errno.{Errno}
+use Rattle.dill_base.specs.declared.status.Status.{Status}
+use Rattle.dill_base.specs.declared.status.Status.TheVariants as status
 use Rattle.dill_calls.specs.declared.answer.Answer.{Answer}
 use Rattle.dill_calls.specs.declared.ran.Note.{Note}
 use Rattle.dill_calls.specs.declared.ran.Ran.{Ran}
 use Rattle.dill_calls.specs.declared.word.Word.{Word}
 use Rattle.dill_calls.specs.Program.{Program}
 use Rattle.dill_handles.specs.Handles.{gone}
+use Rattle.dill_kernel.specs.declared.ready.Ready.{Ready}
 use Rattle.dill_kernel.specs.declared.ready.Limit.{Limit}
 use Rattle.dill_kernel.specs.declared.ready.Limit.TheVariants.{NoWait, Until, Forever}
+use Rattle.dill_kernel.specs.declared.replies.KernelAsk.{KernelAsk}
+use Rattle.dill_kernel.specs.declared.replies.KernelAsk.TheVariants as asks
+use Rattle.dill_kernel.specs.declared.replies.KernelFault.TheVariants.{Other}
+use Rattle.dill_kernel.specs.declared.replies.KernelReply.{KernelReply}
+use Rattle.dill_kernel.specs.declared.replies.KernelReply.TheVariants as replies
+use Rattle.relay_trace.specs.declared.summary.Summary.{Summary}
+use Rattle.relay_trace.specs.Lines.{line, sized, ran_bytes, note_line, waiting_line, summary_line}
 use Rattle.dill_maps.specs.Maps.{if_some}
-use Rattle.dill_rules.specs.State.{State, opening_state, is_answered, turned, ran, expired, shut, at_moment}
+use Rattle.dill_rules.specs.Trying.{Try, next_try}
+use Rattle.dill_rules.specs.State.{State, opening_state, is_answered, turned, ran, expired, shut, woke, hear}
 use Rattle.dill_rules.specs.Waiting.{Waiter, waiters, limit, is_stuck}
-
--- a line of a trace
-pub data Line : Type 0 where
-  Gives : (who : ℕ) → Word → Answer → Line
-  Stops : (who : ℕ) → Option Errno → Line
-  Says : List ℕ → Line
-  Notes : Note → Line
-  Waits : (who : ℕ) → Word → Line
 
 pub data Phase : Type 0 where
   Round : Phase
+  Tries : Phase
   Turns : ℕ → Phase
   Closing : Phase
+  Closes : Phase
   Over : Phase
 
+-- a kernel as a function: its reply, and what it is after it
+pub record Outside (N : Type 0) : Type 0 where
+  pub says : N → KernelAsk → Option KernelReply
+  pub goes : N → KernelAsk → N
+
 -- a run so far
-pub record Run (V : Type 0) : Type 0 where
+pub record Run (V N : Type 0) : Type 0 where
   pub state : State V
+  pub net : N
   pub phase : Phase
-  pub status : ℕ
+  pub status : Status
   pub turns : ℕ
   pub rounds : ℕ
   pub closing : ℕ
-  pub lines : List Line
+  pub out : List ℕ
+  pub asks : List ℕ
 
--- the lines of a turn: the answer, the end, the text
-abbrev pub lines_of : Ran → List Line
-lines_of r = Gives r.who r.word r.given ∷ (if_some r.«end» [] (λ outcome. Stops r.who outcome ∷ []) ++ if_some r.text [] (λ text. Says text ∷ []))
+-- an ask as a line: its word and its link, with the moment of a wait and the bytes of a write
+abbrev pub limit_text : Limit → List ℕ
+limit_text NoWait = codes "wait 0"
+limit_text (Until due) = codes "wait until " ++ decimal due
+limit_text Forever = codes "wait"
 
--- the moment that the clock tells after a wait
-abbrev pub told_after : ℕ → Limit → Option ℕ
-told_after moment NoWait = Some moment
-told_after moment (Until due) = Some (max moment due)
-told_after moment Forever = None
+abbrev pub numbered : List ℕ → ℕ → List ℕ
+numbered word link = word ++ codes " " ++ decimal link
 
-module _ {V : Type 0} (p : Program V) (most : ℕ) where
-  abbrev pub noted : Run V → Run V
-  noted r = record r { lines = r.lines ++ map (λ n. Notes n) r.state.world.notes }
+abbrev pub ask_text : KernelAsk → List ℕ
+ask_text (asks.Wait most) = limit_text most
+ask_text (asks.Listen link address backlog) = numbered (codes "listen") link
+ask_text (asks.Connect link address) = numbered (codes "connect") link
+ask_text (asks.Finish link) = numbered (codes "finish") link
+ask_text (asks.Accept listener link) = numbered (numbered (codes "accept") listener) link
+ask_text (asks.Write link bytes) = numbered (codes "write") link ++ codes " " ++ sized bytes
+ask_text (asks.Shut link) = numbered (codes "shut") link
+ask_text (asks.Read link size) = numbered (codes "read") link
+ask_text (asks.Close link) = numbered (codes "close") link
+
+-- no link, and a clock that goes on to each deadline
+abbrev pub clock_says : ℕ → KernelAsk → Option KernelReply
+clock_says moment (asks.Wait NoWait) = Some (replies.Woke moment [])
+clock_says moment (asks.Wait (Until due)) = Some (replies.Woke (max moment due) [])
+clock_says moment other = None
+
+abbrev pub clock_goes : ℕ → KernelAsk → ℕ
+clock_goes moment (asks.Wait (Until due)) = max moment due
+clock_goes moment other = moment
+
+abbrev pub clock : Outside ℕ
+clock = record { says = clock_says; goes = clock_goes }
+
+-- replies from a list, one for each ask
+abbrev pub first_reply : List KernelReply → Option KernelReply
+first_reply [] = None
+first_reply (reply ∷ rest) = Some reply
+
+abbrev pub list_says : List KernelReply → KernelAsk → Option KernelReply
+list_says replies ask = first_reply replies
+
+abbrev pub rest_of : List KernelReply → List KernelReply
+rest_of [] = []
+rest_of (reply ∷ rest) = rest
+
+-- a close takes none
+abbrev pub list_goes : List KernelReply → KernelAsk → List KernelReply
+list_goes replies (asks.Close link) = replies
+list_goes replies ask = rest_of replies
+
+abbrev pub listed : Outside (List KernelReply)
+listed = record { says = list_says; goes = list_goes }
+
+-- a close is done whatever is said
+abbrev pub reply_to : {N : Type 0} → Outside N → N → KernelAsk → Option KernelReply
+reply_to outside net (asks.Close link) = Some replies.Done
+reply_to outside net ask = outside.says net ask
+
+module _ {V N : Type 0} (p : Program V) (outside : Outside N) (traced : Bool) (most : ℕ) where
+  -- some bytes go out
+  abbrev pub says : Run V N → List ℕ → Run V N
+  says r bytes = record r { out = r.out ++ bytes }
+
+  -- the notes of a step, where they are traced
+  abbrev pub noted : Run V N → Run V N
+  noted r = says r (if traced then flat_map note_line r.state.world.notes else [])
+
+  -- an ask is made
+  abbrev pub asking : Run V N → KernelAsk → Run V N
+  asking r ask = record r { net = outside.goes r.net ask; asks = r.asks ++ line (ask_text ask) }
 
   -- the root is closed
-  abbrev pub stopped : Run V → ℕ → Run V
-  stopped r status = noted (record r { state = shut r.state; phase = Closing; status = status })
+  abbrev pub stopped : Run V N → Status → Run V N
+  stopped r end = noted (record r { state = shut r.state; phase = Closing; status = end })
 
-  abbrev pub is_spent : Run V → Bool
+  abbrev pub is_spent : Run V N → Bool
   is_spent r = r.turns + r.rounds == most
 
-  abbrev pub has_ended : Run V → Bool
+  abbrev pub has_ended : Run V N → Bool
   has_ended r = is_some r.state.world.ended
 
-  abbrev pub one_turn : Run V → Run V
-  one_turn r = noted (record r { state = turned p None r.state; lines = r.lines ++ if_some (ran p None r.state) [] lines_of })
+  abbrev pub one_turn : Run V N → Run V N
+  one_turn r = noted (record r { state = turned p None r.state; out = r.out ++ if_some (ran p None r.state) [] (ran_bytes traced) })
 
-  -- a round of one wait and the expiry
-  abbrev pub one_round : Run V → Option ℕ → Run V
-  one_round r None = stopped (record r { rounds = r.rounds + 1 }) 9
-  one_round r (Some moment) = noted (record r { rounds = r.rounds + 1; state = expired (at_moment r.state moment); phase = Turns 64 })
+  -- after the wait of a round
+  abbrev pub waited : Run V N → Option KernelReply → Run V N
+  waited r (Some (replies.Woke moment ready)) = record r { state = woke r.state moment ready; phase = Tries }
+  waited r other = stopped r status.Wait
+
+  -- a round begins by its wait
+  abbrev pub one_wait : Run V N → KernelAsk → Run V N
+  one_wait r ask = waited (record (asking r ask) { rounds = r.rounds + 1 }) (outside.says r.net ask)
+
+  -- a try of the round, or a close behind the run
+  abbrev pub one_try : Run V N → Try → Run V N
+  one_try r x = noted (record (asking r x.ask) { state = hear r.state (reply_to outside r.net x.ask) })
 
   -- status 1 where `main` ended with an errno
-  abbrev pub final : ℕ → Option (Option Errno) → ℕ
-  final zero (Some (Some errno)) = 1
-  final status outcome = status
+  abbrev pub final : Status → Option (Option Errno) → Status
+  final status.Well (Some (Some errno)) = status.Fault
+  final other outcome = other
 
-  abbrev pub waits : Run V → List Line
-  waits r = map (λ x. Waits x.who x.word) (waiters r.state.world)
+  -- which errno the summary names
+  abbrev pub named : Status → Option (Option Errno) → Option Errno
+  named status.Fault (Some outcome) = outcome
+  named other outcome = None
 
-  abbrev pub step_at : Run V → Phase → Run V
-  step_at r Round = if has_ended r then record r { phase = Over; status = final r.status r.state.world.ended }
-      else (if is_stuck r.state then stopped (record r { lines = r.lines ++ waits r }) 8
-      else (if is_spent r then stopped r 7 else one_round r (told_after r.state.world.moment (limit r.state))))
+  abbrev pub summary_of : Run V N → Status → Summary
+  summary_of r end = record {
+    status = end;
+    errno = named end r.state.world.ended;
+    turns = r.turns;
+    rounds = r.rounds;
+    closing = r.closing;
+    counts = record { made = r.state.world.handles.last; gone = gone r.state.world.handles; lacks = 0 };
+  }
+
+  -- the summary is the last line
+  abbrev pub finished : Run V N → Status → Run V N
+  finished r end = says (record r { phase = Over; status = end }) (summary_line (summary_of r end))
+
+  abbrev pub waits : Run V N → List ℕ
+  waits r = flat_map (λ x. waiting_line x.who x.word) (waiters r.state.world)
+
+  abbrev pub step_at : Run V N → Phase → Run V N
+  step_at r Round = if has_ended r then record r { phase = Closes }
+      else (if is_stuck r.state then stopped (says r (waits r)) status.Stuck
+      else (if is_spent r then stopped r status.Spent else one_wait r (asks.Wait (limit r.state))))
+  step_at r Tries = if_some (next_try r.state.world) (noted (record r { state = expired r.state; phase = Turns 64 })) (one_try r)
   step_at r (Turns left) = if has_ended r || (not (is_answered r.state) || left == 0) then record r { phase = Round }
-      else (if is_spent r then stopped r 7 else record (one_turn r) { phase = Turns (left - 1); turns = r.turns + 1 })
-  step_at r Closing = if has_ended r then record r { phase = Over } else record (one_turn r) { closing = r.closing + 1 }
+      else (if is_spent r then stopped r status.Spent else record (one_turn r) { phase = Turns (left - 1); turns = r.turns + 1 })
+  step_at r Closing = if has_ended r then record r { phase = Closes } else record (one_turn r) { closing = r.closing + 1 }
+  step_at r Closes = if_some (next_try r.state.world) (finished r (final r.status r.state.world.ended)) (one_try r)
   step_at r Over = r
 
-  abbrev pub step : Run V → Run V
+  abbrev pub step : Run V N → Run V N
   step r = step_at r r.phase
 
-  abbrev pub run_within : ℕ → Run V → Run V
+  abbrev pub run_within : ℕ → Run V N → Run V N
   run_within zero r = r
   run_within (suc k) r = run_within k (step r)
 
-abbrev pub begun : {V : Type 0} → V → Run V
-begun view = record { state = opening_state view; phase = Round; status = 0; turns = 0; rounds = 0; closing = 0; lines = [] }
+abbrev pub begun : {V N : Type 0} → V → Stream → N → Run V N
+begun view words net = record { state = opening_state view words; net = net; phase = Round; status = status.Well; turns = 0; rounds = 0; closing = 0; out = []; asks = [] }
 
--- status, turns, rounds, closing turns, numbers made, numbers dead
-abbrev pub counts_of : {V : Type 0} → Run V → List ℕ
-counts_of r = r.status ∷ r.turns ∷ r.rounds ∷ r.closing ∷ r.state.world.handles.last ∷ gone r.state.world.handles ∷ []
+-- lines as one text
+abbrev pub text : List (List ℕ) → List ℕ
+text lines = flat_map line lines
 
-abbrev pub text_said : Line → Option (List ℕ)
-text_said (Says text) = Some text
-text_said line = None
+-- a run printed these lines
+abbrev pub prints : {V N : Type 0} → Run V N → List (List ℕ) → Bool
+prints r lines = bytes_eq r.out (text lines)
 
--- what a run prints untraced
-abbrev pub texts_of : List Line → List (List ℕ)
-texts_of lines = filter_map text_said lines
+-- a run printed these lines and asked so
+abbrev pub does : {V N : Type 0} → Run V N → List (List ℕ) → List (List ℕ) → Bool
+does r lines asks = bytes_eq r.out (text lines) && bytes_eq r.asks (text asks)

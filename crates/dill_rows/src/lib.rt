@@ -4,6 +4,8 @@
 ghost use Rattle.dill_rows.specs.Bundles.{EqualDeadlines, SleepForever, RenumberedHandle, BundleClosedWhole};
 ghost use Rattle.dill_rows.specs.Closing.{OwnBundle, CrossedGifts, NestedClose, CountedSleeps, FaultEndsMain, RenumberedWithoutClose, OwnBundleBusy, SleeperAndYielder};
 ghost use Rattle.dill_rows.specs.Channels.{UnequalSizes, ChoosesEarliest, ChoiceMeetsChoice};
+ghost use Rattle.dill_rows.specs.Connecting.{ConnectAndReceive, RefusedConnections, BrokenConnections};
+ghost use Rattle.dill_rows.specs.Sockets.{SendGivenUp, TriedOnce, EndInside, DetachKeepsUnread, CancelledDetach, FailedWait};
 
 /// Three deadlines at one moment pass in the order of the coroutines.
 pub fn equal_deadlines_lower_first()
@@ -45,7 +47,7 @@ pub fn counted_sleeps()
     ensures { CountedSleeps }
 {}
 
-/// A call on a number that isn't live.
+/// A call on a number that isn't live ends a program that doesn't try it.
 pub fn fault_ends_main()
     ensures { FaultEndsMain }
 {}
@@ -78,4 +80,49 @@ pub fn choose_earliest_clause()
 /// The choice that is entered decides by its own least clause.
 pub fn choice_meets_choice()
     ensures { ChoiceMeetsChoice }
+{}
+
+/// A connection is made, read and closed once, and no wait lasts.
+pub fn connect_and_receive()
+    ensures { ConnectAndReceive }
+{}
+
+/// A connection that isn't made ends the run with the kernel's reason, and is closed if it was begun.
+pub fn refused_connections()
+    ensures { RefusedConnections }
+{}
+
+/// A connection that fails or ends too early is an errno of the receive, and is closed once.
+pub fn broken_connections()
+    ensures { BrokenConnections }
+{}
+
+/// A send that is given up in the middle breaks its direction.
+pub fn send_given_up_midway()
+    ensures { SendGivenUp }
+{}
+
+/// A call on a link with a passed deadline is tried in one round, and no bytes are sent at once.
+pub fn deadline_passed_is_tried_once()
+    ensures { TriedOnce }
+{}
+
+/// The end inside a message breaks the receiving direction.
+pub fn end_inside_a_message()
+    ensures { EndInside }
+{}
+
+/// Detaches hand the lower socket back with exactly the bytes that were not used.
+pub fn detach_keeps_unread()
+    ensures { DetachKeepsUnread }
+{}
+
+/// A detach that is cancelled releases the whole stack, whose link is closed once.
+pub fn cancelled_detach()
+    ensures { CancelledDetach }
+{}
+
+/// A wait that fails stops the run.
+pub fn failed_wait()
+    ensures { FailedWait }
 {}

@@ -1,5 +1,7 @@
 use Rattle.std.proofs.Common.{refl}
+use Rattle.std.specs.Fmt.{digits}
 use Rattle.dill_rows.proofs.choice_meets_choice.Goals as goal
 
 pub returns : goal.returns
-returns c = record { lines = refl }
+unfolding digits
+returns c = record { run = refl }

@@ -1,5 +1,7 @@
 use Rattle.std.proofs.Common.{refl}
+use Rattle.std.specs.Fmt.{digits}
 use Rattle.dill_rows.proofs.counted_sleeps.Goals as goal
 
 pub returns : goal.returns
-returns c = record { counts = refl; lines = refl; spent = refl }
+unfolding digits
+returns c = record { run = refl; spent = refl }
