@@ -9,6 +9,8 @@ pub mod Dropping
 pub mod Receiving
 pub mod Attaching
 pub mod Parting
+pub mod Needs
+pub mod Spelling
 pub mod Interface
 pub mod RowWords
 pub mod Rows

@@ -105,9 +105,14 @@ taken_back Ending layers = undone layers
 taken_back (Line place) layers = at_place place layers
 taken_back origin layers = layers
 
--- Without layers and without an item, the end of the link's direction is taken back. An item of which nothing has gone leaves the queue; else the direction is broken.
+-- the end of the link's direction is taken back, where no layer stands on it
+abbrev pub reopened : List Placed → Held → Held
+reopened [] s = record s { sending = record s.sending { done = false } }
+reopened (layer ∷ below) s = s
+
+-- What has no item is the end of the link's direction. An item of which nothing has gone leaves the queue; else the direction is broken.
 abbrev pub given_up : Option Item → Held → Held
-given_up None s = record s { sending = record s.sending { done = false } }
+given_up None s = reopened s.layers s
 given_up (Some item) s = if item.gone == 0 then record s { queue = filter is_pong s.queue; layers = taken_back item.origin s.layers } else broken_off s
 
 -- The pending send, or the pending end of a direction, is given up.

@@ -3,12 +3,14 @@
 #![tactic(auto)]
 
 mod fault;
+mod laws;
 mod layer;
 mod parting;
 mod want;
 mod worked;
 
 pub use fault::StackFault;
+pub use laws::framing_laws;
 pub use layer::{Layer, Top};
 pub use parting::Parting;
 pub use want::{ReadOut, Want};
