@@ -7,4 +7,5 @@ pub use Rattle.dill_stack.specs.Sending.{is_sent, offered, took, frame, line, do
 pub use Rattle.dill_stack.specs.Needs.{need, head_need, parting_need, closing_need, needs_bytes}
 pub use Rattle.dill_stack.specs.Receiving.{Looked, read}
 pub use Rattle.dill_stack.specs.Attaching.{attach, expect_greet}
+pub use Rattle.dill_stack.specs.Greeting.{greet, Heard, greeted}
 pub use Rattle.dill_stack.specs.Parting.{parting_fault, detach_start, detach_finish}

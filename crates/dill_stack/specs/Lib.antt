@@ -9,6 +9,7 @@ pub mod Dropping
 pub mod Receiving
 pub mod Attaching
 pub mod Parting
+pub mod Greeting
 pub mod Needs
 pub mod Spelling
 pub mod Interface
@@ -16,3 +17,4 @@ pub mod RowWords
 pub mod Rows
 pub mod HttpRows
 pub mod WsRows
+pub mod HandshakeRows

@@ -1,6 +1,7 @@
 ghost use Rattle.dill_stack.specs.Rows.{StackRows};
 ghost use Rattle.dill_stack.specs.HttpRows.{HttpReads, HttpAnswers, HttpPlaces, HttpEnds, HttpDrops};
 ghost use Rattle.dill_stack.specs.WsRows.{WsRows};
+ghost use Rattle.dill_stack.specs.HandshakeRows.{ServerRows, SessionRows, HandshakeRows};
 
 /// Stacks worked by hand, with and without framings, are what the definitions compute.
 pub fn rows()
@@ -19,4 +20,11 @@ pub fn http_rows()
 /// A WebSocket session worked by hand is what the definitions compute.
 pub fn ws_rows()
     ensures { WsRows }
+{}
+
+/// Handshakes worked by hand, and a session behind one, are what the definitions compute.
+pub fn handshake_rows()
+    ensures server { ServerRows }
+    ensures session { SessionRows }
+    ensures handshakes { HandshakeRows }
 {}
