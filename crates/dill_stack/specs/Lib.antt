@@ -18,3 +18,4 @@ pub mod Rows
 pub mod HttpRows
 pub mod WsRows
 pub mod HandshakeRows
+pub mod CutRows

@@ -14,4 +14,4 @@ pub use laws::framing_laws;
 pub use layer::{Layer, Top};
 pub use parting::Parting;
 pub use want::{ReadOut, Want};
-pub use worked::{handshake_rows, http_rows, rows, ws_rows};
+pub use worked::{cut_rows, handshake_rows, http_rows, rows, ws_rows};
