@@ -4,6 +4,7 @@ pub mod Composed
 pub mod Refusals
 pub mod Sending
 pub mod WsReading
+pub mod Passing
 pub mod Read
 pub mod Dropping
 pub mod Receiving

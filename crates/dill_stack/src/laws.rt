@@ -1,6 +1,8 @@
+ghost use Rattle.dill_stack.specs.Passing.{PassesFrames};
 ghost use Rattle.dill_stack.specs.Spelling.{FramingLaws};
 
 use dill_frames::{prefix_laws, suffix_laws};
+use dill_ws::frame_laws;
 
 /// A message that isn't refused is sent in the spelling by each layer.
 pub fn framing_laws()
@@ -8,4 +10,11 @@ pub fn framing_laws()
 {
     prefix_laws();
     suffix_laws();
+}
+
+/// A WebSocket layer passes whole frames that don't end a message, and all of them.
+pub fn passing_laws()
+    ensures { PassesFrames }
+{
+    frame_laws();
 }
