@@ -1,7 +1,6 @@
 -- What a WebSocket layer passes is whole frames.
-use Rattle.std.proofs.Common.{◌≡◌, ◌<◌, ◌≤◌, ◌+◌, [], ◌∷◌, ◌++◌, List, ℕ, zero, suc, length, take, drop, arith, sym, ap, ◌∙◌, refl, subst, Bool, true, false, not, ◌&&◌, ◌||◌, Some, None, Option, append_assoc, append-nil}
-use Rattle.std.specs.Prelude.{◌==◌, if◌then◌else◌, is_some, map, filter, flat_map, slice_index, nat_lt, cond}
-use Rattle.std.specs.List.{list_all}
+use Rattle.std.proofs.Common.{◌≡◌, ◌<◌, ◌≤◌, ◌+◌, [], ◌∷◌, ◌++◌, List, ℕ, zero, suc, length, take, drop, arith, sym, ap, ◌∙◌, refl, subst, Bool, true, false, not, ◌&&◌, Some, None, Option, append_assoc, append-nil}
+use Rattle.std.specs.Prelude.{◌==◌, if◌then◌else◌, is_some, map, filter, flat_map, nat_lt, cond}
 use Rattle.std.specs.Option.{unwrap_or}
 use Rattle.std.proofs.lemmas.Bool.{eqb-true, ltb-false}
 use Rattle.std.proofs.lemmas.List.{get_or-drop, length-take-le, drop-drop, length-drop}
@@ -14,8 +13,8 @@ use Rattle.dill_ws.specs.Frames.{Part, Frame, peer_of, data_parts}
 use Rattle.dill_ws.specs.FrameLaws.{FrameLaws, AreBytes, payload_at}
 use Rattle.dill_ws.specs.Fronts.{head_front}
 use Rattle.dill_stack.specs.Layers.{WsLayer}
-use Rattle.dill_stack.specs.WsReading.{Passed, passed, passed_within, after_pass, then_passed, nothing_passed, pass_by_front, pass_of, with_part, ws_front, WsFront, Whole, Short, Refused, judged, by_head, is_fault, passes_limit, part_of, is_data}
-use Rattle.dill_stack.specs.Passing.{AreFrames, is_passing, pings_of, begun, with_parts, IsPassed, PassesFrames}
+use Rattle.dill_stack.specs.WsReading.{Passed, passed, passed_within, after_pass, then_passed, nothing_passed, pass_by_front, pass_of, with_part, ws_front, WsFront, Whole, Short, Refused, by_head, is_fault, passes_limit, part_of, is_data}
+use Rattle.dill_stack.specs.Passing.{is_passing, pings_of, begun, with_parts, IsPassed, PassesFrames}
 
 -- a whole frame at the front, by its head
 pub record FrameAt (ws : WsLayer) (u : List ℕ) (part : Part) (used : ℕ) : Type 0 where

@@ -1,23 +1,22 @@
 -- What is composed is the spelling by each layer.
-use Rattle.std.proofs.Common.{◌≡◌, ◌<◌, ◌≤◌, ◌^◌, [], ◌∷◌, List, ℕ, length, arith, sym, ap, ◌∙◌, refl, subst, Bool, true, false, not, ◌&&◌, ◌||◌, Some, None, Option, Ok, Err, Result}
+use Rattle.std.proofs.Common.{◌≡◌, ◌≤◌, [], ◌∷◌, List, ℕ, length, arith, ap, refl, subst, Bool, true, false, not, ◌&&◌, ◌||◌, None, Ok, Err, Result}
 use Rattle.std.proofs.lemmas.Bool.{false≢true}
 use Rattle.std.proofs.lemmas.Slice.Eq.{bytes_eq-Decides}
 use Rattle.std.proofs.lemmas.Str.{IsUtf8-from_is_utf8}
-use Rattle.std.specs.Prelude.{bytes_eq, Decides, IsUtf8, nat_lt, if◌then◌else◌}
+use Rattle.std.specs.Prelude.{bytes_eq, Decides, nat_lt, if◌then◌else◌}
 use Rattle.std.specs.Str.{is_utf8}
-use Rattle.std.specs.Int.{w32, to_be_bytes}
-use Rattle.rand_core.specs.Stream.{Stream, next_u32}
+use Rattle.rand_core.specs.Stream.{Stream}
 use Rattle.dill_base.specs.declared.errno.Errno.{Errno}
 use Rattle.dill_base.specs.declared.errno.Errno.TheVariants.{Einval}
-use Rattle.dill_frames.specs.Prefix.{prefix_due, PrefixSpells}
-use Rattle.dill_frames.specs.Suffix.{suffix_due, SuffixSpells}
+use Rattle.dill_frames.specs.Prefix.{prefix_due}
+use Rattle.dill_frames.specs.Suffix.{suffix_due}
 use Rattle.dill_frames.specs.Laws.{PrefixLaws, SuffixLaws}
 use Rattle.dill_ws.specs.declared.side.Side.{Side}
 use Rattle.dill_ws.specs.declared.side.Side.TheVariants.{Client, Server}
-use Rattle.dill_ws.specs.Frames.{Frame, frame_bytes, HasKeyOf, may_follow}
+use Rattle.dill_ws.specs.Frames.{Frame, HasKeyOf, may_follow}
 use Rattle.dill_stack.specs.Layers.{Placed, Prefix, Suffix, Term, Http, Ws, WsLayer, IsStanding, IsFormed}
 use Rattle.dill_stack.specs.Held.{Held}
-use Rattle.dill_stack.specs.Composed.{composed, spelled, with_words, words_after, drawn_key, and_then, ws_due, data_frame, key_of, is_refused_with, is_any, is_refused, is_too_long, is_invalid, message_limit}
+use Rattle.dill_stack.specs.Composed.{composed, spelled, with_words, words_after, drawn_key, and_then, data_frame, key_of, is_refused_with, is_any, is_refused, is_too_long, is_invalid, message_limit}
 use Rattle.dill_stack.specs.Refusals.{send_fault, first_fault, is_done}
 use Rattle.dill_stack.specs.Spelling.{SpelledBy}
 

@@ -1,7 +1,7 @@
 -- What a receive or a handshake answers where the peer ended behind each first part of one whole item.
-use Rattle.std.specs.Prelude.{◌≡◌, ℕ, zero, suc, List, [], ◌∷◌, ◌++◌, Bool, true, false, map, take, length, replicate, codes, Option, Some, None}
+use Rattle.std.specs.Prelude.{◌≡◌, ℕ, zero, suc, List, [], ◌∷◌, ◌++◌, true, map, take, length, replicate, codes}
 use Rattle.dill_base.specs.declared.errno.Errno.TheVariants.{Epipe, Eproto}
-use Rattle.dill_ws.specs.declared.side.Side.TheVariants.{Client, Server}
+use Rattle.dill_ws.specs.declared.side.Side.TheVariants.{Server}
 use Rattle.dill_stack.specs.declared.layer.Layer.{Layer}
 use Rattle.dill_stack.specs.declared.layer.Layer.TheVariants as layer
 use Rattle.dill_stack.specs.declared.want.Want.{Want}
@@ -9,7 +9,7 @@ use Rattle.dill_stack.specs.declared.want.Want.TheVariants.{Message, Request, Fi
 use Rattle.dill_stack.specs.declared.want.ReadOut.{ReadOut}
 use Rattle.dill_stack.specs.declared.want.ReadOut.TheVariants.{Given, Need, Fault}
 use Rattle.dill_stack.specs.Held.{Held, came, ended}
-use Rattle.dill_stack.specs.Receiving.{Looked, read}
+use Rattle.dill_stack.specs.Receiving.{read}
 use Rattle.dill_stack.specs.Greeting.{greeted}
 use Rattle.dill_stack.specs.RowWords.{words, attached, big2, crlf, with_end_behind}
 use Rattle.dill_stack.specs.HandshakeRows.{chat_head, chat_answer, expecting_end, greeting_sent}

@@ -1,5 +1,5 @@
 -- Handshakes, by which a WebSocket layer comes on a stack of bytes (RFC 6455, section 4).
-use Rattle.std.specs.Prelude.{ℕ, List, [], ◌∷◌, ◌++◌, Bool, true, false, not, ◌&&◌, ◌||◌, length, drop, nat_lt, codes, replicate, if◌then◌else◌, Option, Some, None, Result, Ok, Err}
+use Rattle.std.specs.Prelude.{ℕ, List, [], ◌∷◌, ◌++◌, Bool, true, not, ◌&&◌, ◌||◌, length, drop, nat_lt, codes, replicate, if◌then◌else◌, Result, Ok}
 use Rattle.std.specs.List.{list_any}
 use Rattle.rand_core.specs.Stream.{Stream}
 use Rattle.base64.specs.GeneralPurpose.{encode_of}
@@ -18,7 +18,7 @@ use Rattle.dill_ws.specs.Handshakes.{accept_text, server_head_of, client_front, 
 use Rattle.dill_stack.specs.declared.want.ReadOut.{ReadOut}
 use Rattle.dill_stack.specs.declared.want.ReadOut.TheVariants.{Given, Need, Fault}
 use Rattle.dill_stack.specs.Layers.{fresh_ws, Ws}
-use Rattle.dill_stack.specs.Held.{Held, Plain, Task, Idle, Greets, Expects, Answers, Leaves}
+use Rattle.dill_stack.specs.Held.{Held, Plain, Task, Idle, Greets, Expects, Answers}
 use Rattle.dill_stack.specs.Composed.{drawn_key}
 use Rattle.dill_stack.specs.Sending.{unless, is_sent, queued}
 use Rattle.dill_stack.specs.Read.{no_more}

@@ -1,13 +1,12 @@
 -- Handshakes worked by hand, and a server's session behind one (RFC 6455, section 1.3).
-use Rattle.std.specs.Prelude.{◌≡◌, ℕ, List, [], ◌∷◌, ◌++◌, Bool, true, false, map, take, Option, Some, None, codes, length}
-use Rattle.dill_base.specs.declared.errno.Errno.TheVariants.{Einval, Ebusy, Epipe, Econnreset, Emsgsize, Eproto}
+use Rattle.std.specs.Prelude.{◌≡◌, ℕ, List, [], ◌∷◌, ◌++◌, true, false, map, take, Some, codes, length}
+use Rattle.dill_base.specs.declared.errno.Errno.TheVariants.{Epipe, Econnreset, Eproto}
 use Rattle.dill_stack.specs.declared.layer.Top.TheVariants as top
 use Rattle.dill_stack.specs.declared.want.Want.TheVariants.{Message}
-use Rattle.dill_stack.specs.declared.want.ReadOut.{ReadOut}
-use Rattle.dill_stack.specs.declared.want.ReadOut.TheVariants.{Given, Need, Fault}
+use Rattle.dill_stack.specs.declared.want.ReadOut.TheVariants.{Need, Fault}
 use Rattle.dill_stack.specs.Held.{Held, opening, came, ended, top}
 use Rattle.dill_stack.specs.Refusals.{read_fault}
-use Rattle.dill_stack.specs.Sending.{offered, took, is_sent}
+use Rattle.dill_stack.specs.Sending.{offered, took}
 use Rattle.dill_stack.specs.Attaching.{expect_greet}
 use Rattle.dill_stack.specs.Greeting.{greet, greeted}
 use Rattle.dill_stack.specs.RowWords.{words, or_same, or_same_drawn, reads, said, bytes, zero_given, with_bytes, with_end_behind}

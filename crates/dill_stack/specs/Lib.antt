@@ -13,6 +13,7 @@ pub mod Parting
 pub mod Greeting
 pub mod Needs
 pub mod Spelling
+pub mod Messages
 pub mod Interface
 pub mod RowWords
 pub mod Rows

@@ -1,7 +1,7 @@
 -- How many unread bytes a call may need before it is answered, and when it needs more.
 use Rattle.std.specs.Prelude.{ℕ, ◌+◌, List, [], ◌∷◌, Bool, true, false, length, max}
 use Rattle.dill_stack.specs.declared.want.Want.{Want}
-use Rattle.dill_stack.specs.declared.want.Want.TheVariants.{Exact, Message, Request, Status, Field}
+use Rattle.dill_stack.specs.declared.want.Want.TheVariants.{Exact, Message}
 use Rattle.dill_stack.specs.Layers.{Placed, Prefix, Suffix, Term, Http, Ws}
 use Rattle.dill_stack.specs.Held.{Held, Task, Idle, Greets, Expects, Answers, Leaves}
 use Rattle.dill_stack.specs.Sending.{is_sent}

@@ -1,10 +1,10 @@
 -- The queue of what is to be sent, and the calls that add to it.
-use Rattle.std.specs.Prelude.{ℕ, ◌+◌, List, [], ◌∷◌, ◌++◌, Bool, true, false, not, ◌==◌, ◌&&◌, ◌||◌, length, take, drop, filter, find, replicate, if◌then◌else◌, Option, Some, None, Result, Ok, Err}
+use Rattle.std.specs.Prelude.{ℕ, ◌+◌, List, [], ◌∷◌, ◌++◌, Bool, true, false, not, ◌==◌, length, take, drop, filter, find, if◌then◌else◌, Option, Some, None, Result, Ok, Err}
 use Rattle.std.specs.List.{list_any}
 use Rattle.rand_core.specs.Stream.{Stream}
 use Rattle.dill_base.specs.declared.errno.Errno.{Errno}
 use Rattle.dill_http.specs.Lines.{crlf}
-use Rattle.dill_stack.specs.Layers.{Place, BeforeFirst, AmongFields, BehindEmpty, Placed, Prefix, Suffix, Term, Http, Ws}
+use Rattle.dill_stack.specs.Layers.{Place, BeforeFirst, AmongFields, BehindEmpty, Placed, Term, Http}
 use Rattle.dill_stack.specs.Held.{Held, Item, Origin, Plain, Ending, Line, Pong, broken_off}
 use Rattle.dill_stack.specs.Composed.{composed, and_then}
 use Rattle.dill_stack.specs.Refusals.{send_fault, line_fault, done_fault}

@@ -1,7 +1,6 @@
 -- How the layers of a stack spell a message, as a relation.
-use Rattle.std.specs.Prelude.{◌≡◌, ◌≤◌, ℕ, List, [], ◌∷◌, Bool, true, false, length, IsUtf8, if◌then◌else◌, Option, None, Ok}
+use Rattle.std.specs.Prelude.{◌≡◌, ◌≤◌, ℕ, List, [], ◌∷◌, true, false, length, IsUtf8, if◌then◌else◌, None, Ok}
 use Rattle.rand_core.specs.Stream.{Stream}
-use Rattle.dill_base.specs.declared.errno.Errno.{Errno}
 use Rattle.dill_frames.specs.Prefix.{PrefixSpells}
 use Rattle.dill_frames.specs.Suffix.{SuffixSpells}
 use Rattle.dill_ws.specs.Frames.{Frame}

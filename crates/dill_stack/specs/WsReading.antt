@@ -1,5 +1,5 @@
 -- What a WebSocket layer reads at the front of the unread list: frames that are passed, then a message or an end (RFC 6455, sections 5.2, 5.4 and 5.5).
-use Rattle.std.specs.Prelude.{ℕ, zero, suc, ◌+◌, ◌%◌, List, [], ◌∷◌, ◌++◌, Bool, true, false, not, ◌==◌, ◌&&◌, length, take, drop, slice_index, nat_lt, nat_le, is_some, is_none, if◌then◌else◌, Option, Some, None}
+use Rattle.std.specs.Prelude.{ℕ, zero, suc, ◌+◌, ◌%◌, List, [], ◌∷◌, ◌++◌, Bool, true, false, not, ◌==◌, ◌&&◌, length, drop, slice_index, nat_lt, nat_le, is_some, is_none, if◌then◌else◌, Option, Some, None}
 use Rattle.std.specs.Option.{unwrap_or}
 use Rattle.std.specs.Str.{is_utf8}
 use Rattle.dill_base.specs.declared.errno.Errno.{Errno}

@@ -1,3 +1,4 @@
+ghost use Rattle.dill_stack.specs.Messages.{MessageLaws};
 ghost use Rattle.dill_stack.specs.Passing.{PassesFrames};
 ghost use Rattle.dill_stack.specs.Spelling.{FramingLaws};
 
@@ -17,4 +18,12 @@ pub fn passing_laws()
     ensures { PassesFrames }
 {
     frame_laws();
+}
+
+/// A message is given exactly where its spelling stands at the front of what came, and just its bytes are used.
+pub fn message_laws()
+    ensures { MessageLaws }
+{
+    prefix_laws();
+    suffix_laws();
 }
