@@ -1,1 +1,11 @@
 pub mod Ends
+pub mod Runs
+pub mod Shown
+pub mod Fronts
+pub mod Seen
+pub mod Judged
+pub mod Requests
+pub mod Tails
+pub mod Fields
+pub mod Statuses
+pub mod Sent

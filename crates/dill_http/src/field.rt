@@ -42,6 +42,7 @@ fn cut_field(line: &[u8]) -> Option<Cut>
 /// RFC 9112, section 5: no blank stands before the colon, and no line goes on in the next.
 pub fn read_field(line: &[u8]) -> Option<Cut>
     ensures cut { result ≡ field_cut line.now }
+    ensures reads { IsCut Field line.now result }
 {
     cut_field(line)
 }

@@ -4,6 +4,7 @@
 
 mod bytes;
 mod field;
+mod laws;
 mod line;
 mod request;
 mod span;
@@ -11,6 +12,7 @@ mod status;
 mod worked;
 
 pub use field::{field_fault, read_field, write_field};
+pub use laws::http_laws;
 pub use line::line_front;
 pub use request::{read_request, request_fault, write_request};
 pub use span::{Cut, Span};

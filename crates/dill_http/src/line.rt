@@ -53,6 +53,7 @@ fn front_by_length(bytes: &[u8]) -> Front
 /// RFC 9112, section 2.2, with CRLF as the only end of a line.
 pub fn line_front(bytes: &[u8]) -> Front
     ensures front { result ≡ front_of_line bytes.now }
+    ensures spelled { IsFront LineSpells LineShows line_limit bytes.now result }
 {
     front_by_length(bytes)
 }

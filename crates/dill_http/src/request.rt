@@ -46,6 +46,7 @@ fn cut_request(line: &[u8]) -> Option<Cut>
 /// RFC 9112, section 3: the resource is one or more bytes that are seen, in ASCII.
 pub fn read_request(line: &[u8]) -> Option<Cut>
     ensures cut { result ≡ request_cut line.now }
+    ensures reads { IsCut Request line.now result }
 {
     cut_request(line)
 }

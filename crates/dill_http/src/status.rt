@@ -71,6 +71,7 @@ fn cut_status(line: &[u8]) -> Option<(u32, Span)>
 /// RFC 9112, section 4.
 pub fn read_status(line: &[u8]) -> Option<(u32, Span)>
     ensures cut { result ≡ status_cut line.now }
+    ensures reads { IsStatusCut line.now result }
 {
     cut_status(line)
 }

@@ -1,5 +1,5 @@
 -- Attaches, which put a layer on top of a stack.
-use Rattle.std.specs.Prelude.{ℕ, List, [], ◌∷◌, Bool, true, false, Option, Result, Ok, Err}
+use Rattle.std.specs.Prelude.{◌∷◌, Bool, false, Option, Result, Ok}
 use Rattle.dill_base.specs.declared.errno.Errno.{Errno}
 use Rattle.dill_ws.specs.declared.side.Side.TheVariants.{Server}
 use Rattle.dill_stack.specs.declared.layer.Layer.{Layer}

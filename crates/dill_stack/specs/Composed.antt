@@ -4,7 +4,7 @@ use Rattle.std.specs.List.{list_any}
 use Rattle.std.specs.Int.{w32, to_be_bytes}
 use Rattle.rand_core.specs.Stream.{Stream, next_u32}
 use Rattle.dill_base.specs.declared.errno.Errno.{Errno}
-use Rattle.dill_base.specs.declared.errno.Errno.TheVariants.{Einval, Emsgsize, Enotsup}
+use Rattle.dill_base.specs.declared.errno.Errno.TheVariants.{Einval, Enotsup}
 use Rattle.dill_frames.specs.Prefix.{prefix_due}
 use Rattle.dill_frames.specs.Suffix.{suffix_due}
 use Rattle.dill_ws.specs.declared.side.Side.{Side}

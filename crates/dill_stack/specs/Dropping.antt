@@ -1,13 +1,13 @@
 -- What a detach drops of the unread list until it has met the peer's end.
-use Rattle.std.specs.Prelude.{ℕ, zero, suc, ◌+◌, ◌-◌, List, [], ◌∷◌, ◌++◌, Bool, true, false, not, ◌==◌, ◌&&◌, length, take, drop, if◌then◌else◌}
-use Rattle.dill_base.specs.declared.errno.Errno.TheVariants.{Epipe, Eproto}
+use Rattle.std.specs.Prelude.{ℕ, zero, suc, ◌+◌, ◌-◌, List, [], ◌∷◌, ◌++◌, Bool, true, false, not, ◌==◌, length, drop, if◌then◌else◌}
+use Rattle.dill_base.specs.declared.errno.Errno.TheVariants.{Eproto}
 use Rattle.dill_base.specs.declared.errno.Front.{Front}
 use Rattle.dill_base.specs.declared.errno.Front.TheVariants as front
 use Rattle.dill_calls.specs.declared.answer.Answer.TheVariants.{Number}
 use Rattle.dill_http.specs.Lines.{front_of_line}
 use Rattle.dill_stack.specs.declared.want.ReadOut.{ReadOut}
 use Rattle.dill_stack.specs.declared.want.ReadOut.TheVariants.{Given, Need, Fault}
-use Rattle.dill_stack.specs.Layers.{Place, BeforeFirst, AmongFields, BehindEmpty, TermLayer, HttpLayer, WsLayer, Placed, Prefix, Suffix, Term, Http, Ws}
+use Rattle.dill_stack.specs.Layers.{AmongFields, TermLayer, HttpLayer, Placed, Prefix, Suffix, Term, Http, Ws}
 use Rattle.dill_stack.specs.Read.{Outcome, outcome, no_more, is_terminal, read_message, read_ws, received, is_first_place, is_behind_place}
 
 -- the most bytes of a message that a detach drops

@@ -1,16 +1,15 @@
 -- A head worked by hand: a request and its fields, a status, and the bytes behind the head.
-use Rattle.std.specs.Prelude.{◌≡◌, ℕ, List, [], ◌∷◌, ◌++◌, Bool, true, false, map, take, Option, Some, None, codes}
-use Rattle.dill_base.specs.declared.errno.Errno.TheVariants.{Einval, Ebusy, Epipe, Econnreset, Emsgsize, Eproto}
+use Rattle.std.specs.Prelude.{◌≡◌, ℕ, List, [], true, false, Some, codes}
+use Rattle.dill_base.specs.declared.errno.Errno.TheVariants.{Einval, Ebusy, Epipe, Econnreset, Eproto}
 use Rattle.dill_calls.specs.declared.answer.Answer.TheVariants.{Two, Coded}
 use Rattle.dill_stack.specs.declared.layer.Layer.TheVariants as layer
 use Rattle.dill_stack.specs.declared.layer.Top.TheVariants as top
 use Rattle.dill_stack.specs.declared.want.Want.TheVariants.{Exact, Request, Status, Field}
-use Rattle.dill_stack.specs.declared.want.ReadOut.{ReadOut}
-use Rattle.dill_stack.specs.declared.want.ReadOut.TheVariants.{Given, Need, Fault}
+use Rattle.dill_stack.specs.declared.want.ReadOut.TheVariants.{Given, Fault}
 use Rattle.dill_stack.specs.declared.parting.Parting.TheVariants as parting
-use Rattle.dill_stack.specs.Held.{Held, opening, came, ended, broke, top}
+use Rattle.dill_stack.specs.Held.{Held, opening, broke, top}
 use Rattle.dill_stack.specs.Refusals.{line_fault, done_fault, read_fault}
-use Rattle.dill_stack.specs.Sending.{offered, took, withdraw, is_sent}
+use Rattle.dill_stack.specs.Sending.{offered, took, withdraw}
 use Rattle.dill_stack.specs.RowWords.{attached, sends_line, ends, leaves, reads, said, left, left_said, bytes, zero_given, crlf, with_bytes, with_end_behind}
 
 -- a request with four fields, and three bytes behind its empty line

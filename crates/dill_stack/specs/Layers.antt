@@ -1,5 +1,5 @@
 -- The layers of a stack, with the state of each.
-use Rattle.std.specs.Prelude.{ℕ, List, [], ◌∷◌, Bool, false, Option, None}
+use Rattle.std.specs.Prelude.{◌≡◌, ◌<◌, ◌≤◌, ℕ, length, List, [], ◌∷◌, Bool, false, Option, None}
 use Rattle.dill_frames.specs.declared.prefix.PrefixForm.{PrefixForm}
 use Rattle.dill_ws.specs.declared.side.Side.{Side}
 use Rattle.dill_stack.specs.declared.layer.Layer.{Layer}
@@ -61,3 +61,22 @@ top_of (Suffix end ∷ below) = top.Suffix
 top_of (Term term ∷ below) = top.Term
 top_of (Http http ∷ below) = top.Http
 top_of (Ws ws ∷ below) = top.Ws
+
+-- some layer stands there, whose messages a terminal message may end
+abbrev pub HasMessages : List Placed → Type 0
+HasMessages [] = ⊥
+HasMessages (Http http ∷ below) = ⊥
+HasMessages (layer ∷ below) = Unit {0}
+
+-- An end by a terminal message stands on a layer with messages, and every other layer on the link.
+abbrev pub IsStanding : List Placed → Type 0
+IsStanding [] = Unit {0}
+IsStanding (Term term ∷ below) = HasMessages below × IsStanding below
+IsStanding (layer ∷ below) = below ≡ []
+
+-- a form of 1 to 8 bytes, a terminator of 1 to 32
+abbrev pub IsFormed : List Placed → Type 0
+IsFormed [] = Unit {0}
+IsFormed (Prefix form ∷ below) = (1 ≤ form.size) × (form.size ≤ 8) × IsFormed below
+IsFormed (Suffix end ∷ below) = (0 < length end) × (length end ≤ 32) × IsFormed below
+IsFormed (layer ∷ below) = IsFormed below

@@ -1,5 +1,5 @@
 -- Detaches, which send the end of the top layer if it wasn't sent, drop what the peer still sends, and leave the layers below with the rest.
-use Rattle.std.specs.Prelude.{ℕ, List, [], ◌∷◌, ◌++◌, Bool, true, false, not, ◌==◌, ◌&&◌, ◌||◌, length, if◌then◌else◌, Option, Some, None, Result, Ok, Err}
+use Rattle.std.specs.Prelude.{ℕ, List, [], ◌∷◌, ◌++◌, Bool, true, false, not, ◌==◌, ◌&&◌, ◌||◌, length, if◌then◌else◌, Option, Some, None, Result, Ok}
 use Rattle.std.specs.List.{list_any}
 use Rattle.std.specs.Int.{w16, to_be_bytes}
 use Rattle.rand_core.specs.Stream.{Stream}
@@ -8,8 +8,7 @@ use Rattle.dill_base.specs.declared.errno.Errno.TheVariants.{Epipe, Econnreset}
 use Rattle.dill_ws.specs.Frames.{frame_bytes}
 use Rattle.dill_stack.specs.declared.parting.Parting.{Parting}
 use Rattle.dill_stack.specs.declared.parting.Parting.TheVariants as parting
-use Rattle.dill_stack.specs.declared.want.ReadOut.{ReadOut}
-use Rattle.dill_stack.specs.declared.want.ReadOut.TheVariants.{Given, Need, Fault}
+use Rattle.dill_stack.specs.declared.want.ReadOut.TheVariants.{Need}
 use Rattle.dill_stack.specs.Layers.{Placed, Prefix, Suffix, Term, Http, Ws, WsLayer}
 use Rattle.dill_stack.specs.Held.{Held, Plain, Idle, Leaves, is_broken}
 use Rattle.dill_stack.specs.Composed.{key_of, drawn_key, words_after}

@@ -1,18 +1,17 @@
 -- A receive as a step of what the stack holds: what is used, the pongs that it queues, and the direction that a refusal breaks.
-use Rattle.std.specs.Prelude.{ℕ, List, [], ◌∷◌, ◌++◌, Bool, true, false, not, ◌==◌, ◌&&◌, ◌||◌, drop, map, if◌then◌else◌, Option, Some, None}
+use Rattle.std.specs.Prelude.{ℕ, List, [], ◌∷◌, ◌++◌, Bool, true, false, not, ◌==◌, ◌&&◌, drop, map, if◌then◌else◌, Option, Some, None}
 use Rattle.std.specs.List.{list_any}
 use Rattle.rand_core.specs.Stream.{Stream}
-use Rattle.dill_base.specs.declared.errno.Errno.{Errno}
 use Rattle.dill_base.specs.declared.errno.Errno.TheVariants.{Eproto, Emsgsize}
 use Rattle.dill_ws.specs.declared.side.Side.{Side}
 use Rattle.dill_ws.specs.declared.side.Side.TheVariants.{Client, Server}
 use Rattle.dill_ws.specs.Frames.{frame_bytes}
 use Rattle.dill_stack.specs.declared.want.Want.{Want}
 use Rattle.dill_stack.specs.declared.want.ReadOut.{ReadOut}
-use Rattle.dill_stack.specs.declared.want.ReadOut.TheVariants.{Given, Need, Fault}
+use Rattle.dill_stack.specs.declared.want.ReadOut.TheVariants.{Fault}
 use Rattle.dill_stack.specs.Layers.{WsLayer, Placed, Ws}
 use Rattle.dill_stack.specs.Held.{Held, Item, Pong}
-use Rattle.dill_stack.specs.Composed.{key_of, masks, drawn_key}
+use Rattle.dill_stack.specs.Composed.{drawn_key}
 use Rattle.dill_stack.specs.Sending.{is_pong}
 use Rattle.dill_stack.specs.Read.{Outcome, read_list}
 

@@ -1,19 +1,17 @@
 -- Words for stacks that are worked by hand.
-use Rattle.std.specs.Prelude.{ℕ, List, [], ◌∷◌, ◌++◌, Bool, true, false, Result, Ok, Err, codes}
+use Rattle.std.specs.Prelude.{ℕ, List, [], ◌∷◌, Bool, false, Result, Ok, Err}
 use Rattle.rand_core.specs.Stream.{Stream}
 use Rattle.dill_base.specs.declared.errno.Errno.{Errno}
 use Rattle.dill_frames.specs.declared.prefix.PrefixForm.{PrefixForm}
 use Rattle.dill_calls.specs.declared.answer.Answer.TheVariants.{Bytes, Number}
 use Rattle.dill_stack.specs.declared.layer.Layer.{Layer}
-use Rattle.dill_stack.specs.declared.layer.Layer.TheVariants as layer
 use Rattle.dill_stack.specs.declared.want.Want.{Want}
-use Rattle.dill_stack.specs.declared.want.Want.TheVariants.{Exact, Message}
 use Rattle.dill_stack.specs.declared.want.ReadOut.{ReadOut}
 use Rattle.dill_stack.specs.declared.want.ReadOut.TheVariants.{Given}
 use Rattle.dill_stack.specs.declared.parting.Parting.{Parting}
 use Rattle.dill_stack.specs.Held.{Held, opening, came, ended}
 use Rattle.dill_stack.specs.Attaching.{attach}
-use Rattle.dill_stack.specs.Sending.{frame, line, done, took}
+use Rattle.dill_stack.specs.Sending.{frame, line, done}
 use Rattle.dill_stack.specs.Receiving.{read}
 use Rattle.dill_stack.specs.Parting.{detach_start, detach_finish}
 

@@ -1,17 +1,16 @@
 -- Stacks worked by hand: bytes, framings and terminal messages.
-use Rattle.std.specs.Prelude.{◌≡◌, ℕ, List, [], ◌∷◌, ◌++◌, Bool, true, false, map, take, Option, Some, None, Result, Ok, Err, codes}
-use Rattle.dill_base.specs.declared.errno.Errno.{Errno}
-use Rattle.dill_base.specs.declared.errno.Errno.TheVariants.{Einval, Ebusy, Epipe, Econnreset, Emsgsize, Eproto}
+use Rattle.std.specs.Prelude.{◌≡◌, ℕ, List, [], ◌∷◌, true, false, map, take, Some, codes}
+use Rattle.dill_base.specs.declared.errno.Errno.TheVariants.{Einval, Ebusy, Epipe, Econnreset, Eproto}
 use Rattle.dill_stack.specs.declared.layer.Layer.TheVariants as layer
 use Rattle.dill_stack.specs.declared.layer.Top.TheVariants as top
 use Rattle.dill_stack.specs.declared.want.Want.TheVariants.{Exact, Message}
 use Rattle.dill_stack.specs.declared.want.ReadOut.{ReadOut}
-use Rattle.dill_stack.specs.declared.want.ReadOut.TheVariants.{Given, Need, Fault}
+use Rattle.dill_stack.specs.declared.want.ReadOut.TheVariants.{Need, Fault}
 use Rattle.dill_stack.specs.declared.parting.Parting.TheVariants as parting
-use Rattle.dill_stack.specs.Held.{Held, opening, came, ended, broke, top, is_broken}
+use Rattle.dill_stack.specs.Held.{Held, opening, broke, top}
 use Rattle.dill_stack.specs.Refusals.{attach_fault, send_fault, done_fault, read_fault}
 use Rattle.dill_stack.specs.Sending.{offered, took, withdraw, is_sent}
-use Rattle.dill_stack.specs.RowWords.{words, attached, sends, ends, leaves, reads, said, left, left_said, bytes, zero_given, big2, crlf, with_bytes, with_end_behind}
+use Rattle.dill_stack.specs.RowWords.{attached, sends, ends, leaves, reads, said, left, left_said, bytes, zero_given, big2, crlf, with_bytes, with_end_behind}
 
 -- A message, an empty message and the bytes behind them came in one read; PREFIX of two bytes and TERM with the empty message stand on it.
 abbrev pub came_at_once : List ℕ

@@ -1,10 +1,10 @@
 -- The queue of what is to be sent, and the calls that add to it.
-use Rattle.std.specs.Prelude.{ℕ, ◌+◌, List, [], ◌∷◌, ◌++◌, Bool, true, false, not, ◌==◌, ◌&&◌, ◌||◌, length, take, drop, filter, find, replicate, if◌then◌else◌, Option, Some, None, Result, Ok, Err}
+use Rattle.std.specs.Prelude.{ℕ, ◌+◌, List, [], ◌∷◌, ◌++◌, Bool, true, false, not, ◌==◌, length, take, drop, filter, find, if◌then◌else◌, Option, Some, None, Result, Ok, Err}
 use Rattle.std.specs.List.{list_any}
 use Rattle.rand_core.specs.Stream.{Stream}
 use Rattle.dill_base.specs.declared.errno.Errno.{Errno}
 use Rattle.dill_http.specs.Lines.{crlf}
-use Rattle.dill_stack.specs.Layers.{Place, BeforeFirst, AmongFields, BehindEmpty, Placed, Prefix, Suffix, Term, Http, Ws}
+use Rattle.dill_stack.specs.Layers.{Place, BeforeFirst, AmongFields, BehindEmpty, Placed, Term, Http}
 use Rattle.dill_stack.specs.Held.{Held, Item, Origin, Plain, Ending, Line, Pong, broken_off}
 use Rattle.dill_stack.specs.Composed.{composed, and_then}
 use Rattle.dill_stack.specs.Refusals.{send_fault, line_fault, done_fault}
@@ -105,9 +105,14 @@ taken_back Ending layers = undone layers
 taken_back (Line place) layers = at_place place layers
 taken_back origin layers = layers
 
--- Without layers and without an item, the end of the link's direction is taken back. An item of which nothing has gone leaves the queue; else the direction is broken.
+-- the end of the link's direction is taken back, where no layer stands on it
+abbrev pub reopened : List Placed → Held → Held
+reopened [] s = record s { sending = record s.sending { done = false } }
+reopened (layer ∷ below) s = s
+
+-- What has no item is the end of the link's direction. An item of which nothing has gone leaves the queue; else the direction is broken.
 abbrev pub given_up : Option Item → Held → Held
-given_up None s = record s { sending = record s.sending { done = false } }
+given_up None s = reopened s.layers s
 given_up (Some item) s = if item.gone == 0 then record s { queue = filter is_pong s.queue; layers = taken_back item.origin s.layers } else broken_off s
 
 -- The pending send, or the pending end of a direction, is given up.

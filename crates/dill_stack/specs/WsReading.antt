@@ -1,5 +1,5 @@
 -- What a WebSocket layer reads at the front of the unread list: frames that are passed, then a message or an end (RFC 6455, sections 5.2, 5.4 and 5.5).
-use Rattle.std.specs.Prelude.{ℕ, zero, suc, ◌+◌, ◌%◌, List, [], ◌∷◌, ◌++◌, Bool, true, false, not, ◌==◌, ◌&&◌, length, take, drop, slice_index, nat_lt, nat_le, is_some, is_none, if◌then◌else◌, Option, Some, None}
+use Rattle.std.specs.Prelude.{ℕ, zero, suc, ◌+◌, ◌%◌, List, [], ◌∷◌, ◌++◌, Bool, true, false, not, ◌==◌, ◌&&◌, length, drop, slice_index, nat_lt, nat_le, is_some, is_none, if◌then◌else◌, Option, Some, None}
 use Rattle.std.specs.Option.{unwrap_or}
 use Rattle.std.specs.Str.{is_utf8}
 use Rattle.dill_base.specs.declared.errno.Errno.{Errno}
@@ -9,7 +9,8 @@ use Rattle.dill_ws.specs.declared.head.Head.{Head}
 use Rattle.dill_ws.specs.declared.head.HeadFront.{HeadFront}
 use Rattle.dill_ws.specs.declared.head.HeadFront.TheVariants as head
 use Rattle.dill_ws.specs.Closing.{close_of}
-use Rattle.dill_ws.specs.Frames.{Part, masked}
+use Rattle.dill_ws.specs.FrameLaws.{payload_at}
+use Rattle.dill_ws.specs.Frames.{Part}
 use Rattle.dill_ws.specs.Fronts.{head_front, bits_of, length_size, told}
 use Rattle.dill_stack.specs.declared.want.ReadOut.{ReadOut}
 use Rattle.dill_stack.specs.declared.want.ReadOut.TheVariants.{Given, Need, Fault}
@@ -39,7 +40,7 @@ passes_limit limit ws u = has_length u && is_data (slice_index u 0 % 16) && nat_
 
 -- the frame of this head
 abbrev pub part_of : Head → List ℕ → Part
-part_of h u = record { fin = h.fin; opcode = h.opcode; payload = masked h.key (take h.length (drop h.start u)) }
+part_of h u = record { fin = h.fin; opcode = h.opcode; payload = payload_at h u }
 
 -- a frame whose head was not refused
 abbrev pub by_head : List ℕ → HeadFront → WsFront

@@ -1,17 +1,16 @@
 -- WebSocket layers worked by hand (RFC 6455, section 5.7, and a session).
-use Rattle.std.specs.Prelude.{◌≡◌, ℕ, List, [], ◌∷◌, ◌++◌, Bool, true, false, map, take, Option, Some, None, Result, Ok, Err, codes}
-use Rattle.dill_base.specs.declared.errno.Errno.TheVariants.{Einval, Ebusy, Epipe, Econnreset, Emsgsize, Eproto}
+use Rattle.std.specs.Prelude.{◌≡◌, ℕ, List, [], ◌∷◌, ◌++◌, true, false, map, take, Some, codes}
+use Rattle.dill_base.specs.declared.errno.Errno.TheVariants.{Einval, Epipe, Econnreset, Emsgsize, Eproto}
 use Rattle.dill_ws.specs.declared.side.Side.TheVariants.{Client, Server}
 use Rattle.dill_stack.specs.declared.layer.Layer.TheVariants as layer
-use Rattle.dill_stack.specs.declared.layer.Top.TheVariants as top
-use Rattle.dill_stack.specs.declared.want.Want.TheVariants.{Exact, Message}
+use Rattle.dill_stack.specs.declared.want.Want.TheVariants.{Message}
 use Rattle.dill_stack.specs.declared.want.ReadOut.{ReadOut}
-use Rattle.dill_stack.specs.declared.want.ReadOut.TheVariants.{Given, Need, Fault}
+use Rattle.dill_stack.specs.declared.want.ReadOut.TheVariants.{Need, Fault}
 use Rattle.dill_stack.specs.declared.parting.Parting.TheVariants as parting
-use Rattle.dill_stack.specs.Held.{Held, opening, came, ended, broke, top}
+use Rattle.dill_stack.specs.Held.{Held, came}
 use Rattle.dill_stack.specs.Refusals.{send_fault, read_fault, detach_fault}
-use Rattle.dill_stack.specs.Sending.{offered, took, withdraw, is_sent}
-use Rattle.dill_stack.specs.RowWords.{attached, sends, leaves, reads, said, left, left_said, bytes, zero_given, with_bytes, with_end_behind}
+use Rattle.dill_stack.specs.Sending.{offered, took}
+use Rattle.dill_stack.specs.RowWords.{attached, sends, leaves, reads, said, left, bytes, with_bytes, with_end_behind}
 
 -- a server's layer on which this came, and the same where the peer then ended
 abbrev pub server : List ℕ → Held

@@ -3,13 +3,15 @@
 #![tactic(auto)]
 
 mod fault;
+mod laws;
 mod layer;
 mod parting;
 mod want;
 mod worked;
 
 pub use fault::StackFault;
+pub use laws::{framing_laws, message_laws, passing_laws};
 pub use layer::{Layer, Top};
 pub use parting::Parting;
 pub use want::{ReadOut, Want};
-pub use worked::{http_rows, rows, ws_rows};
+pub use worked::{cut_rows, handshake_rows, http_rows, rows, ws_rows};

@@ -1,7 +1,11 @@
 pub mod Closes
 pub mod Controls
+pub mod HeadReads
 pub mod Heads
+pub mod Items
 pub mod Lengths
 pub mod Openings
 pub mod Shown
+pub mod Splits
+pub mod Texts
 pub mod Whole
