@@ -86,12 +86,14 @@ first_full laws u line rest e =
     let s : LineSpells (take k.to u) (take k.used u) = laws.spelled u k.from k.to k.used k.front in
     let count : length (take k.to u) ≡ k.to = length-take-le k.to u (omega (arith, lies.ending, lies.there)) in
     let size : length line ≡ k.to = ap length (sym k.line_is) ∙ count in
-    let some : 0 < k.to = positive k.to k.full in
-    (record {
-      some = omega arith;
-      inner = ap (list_all is_inner) (sym k.line_is) ∙ s.inner;
-      short = omega (arith, lies.short);
-    }, sym (take-append-drop k.used u) ∙ ap (λ x. x ++ drop k.used u) s.whole ∙ ap (λ x. (x ++ crlf) ++ drop k.used u) k.line_is ∙ ap (λ x. (line ++ crlf) ++ x) k.rest_is)
+    let some : 0 < k.to = positive k.to k.full in (
+      record {
+        some = omega arith;
+        inner = ap (list_all is_inner) (sym k.line_is) ∙ s.inner;
+        short = omega (arith, lies.short);
+      },
+      sym (take-append-drop k.used u) ∙ ap (λ x. x ++ drop k.used u) s.whole ∙ ap (λ x. (x ++ crlf) ++ drop k.used u) k.line_is ∙ ap (λ x. (line ++ crlf) ++ x) k.rest_is,
+    )
   where
     positive : (n : ℕ) → eqb n 0 ≡ false → 0 < n
     positive zero h = absurd (cc h)
@@ -146,7 +148,6 @@ pub record Ends (u : List ℕ) (a b c : ℕ) : Type 0 where
   pub from : a ≡ 0
   pub to : b ≡ 0
   pub used : c ≡ 2
-
 
 zero_by : (n : ℕ) (p : List ℕ × List ℕ) → (if eqb n 0 then None else Some p) ≡ None → n ≡ 0
 zero_by zero p h = refl

@@ -93,11 +93,9 @@ versions fields = named (codes "Sec-WebSocket-Version") fields
 abbrev pub accepts : List (List ℕ) → List (List ℕ)
 accepts fields = named (codes "Sec-WebSocket-Accept") fields
 
--- What a client's fields say.
+-- What a client's fields say, but for the key.
 abbrev pub is_offer : List (List ℕ) → Bool
-is_offer fields =
-    are_fields fields && has_field (codes "Host") fields && is_upgrade fields
-    && passes is_key (only (keys fields)) && passes (bytes_eq (codes "13")) (only (versions fields))
+is_offer fields = are_fields fields && has_field (codes "Host") fields && is_upgrade fields && passes (bytes_eq (codes "13")) (only (versions fields))
 
 -- What a server's fields say: no extension and no protocol, since none was asked for.
 abbrev pub is_agreement : List ℕ → List (List ℕ) → Bool
@@ -108,7 +106,7 @@ is_agreement accept fields =
 -- What the lines of a client's head say, and of a server's.
 unfoldable pub client_asks : List (List ℕ) → Bool
 client_asks [] = false
-client_asks (first ∷ fields) = is_get first && is_offer fields
+client_asks (first ∷ fields) = is_get first && is_offer fields && passes is_key (only (keys fields))
 
 unfoldable pub server_agrees : List ℕ → List (List ℕ) → Bool
 server_agrees accept [] = false
