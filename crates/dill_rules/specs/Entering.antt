@@ -16,13 +16,13 @@ use Rattle.dill_handles.specs.Handles as handles
 use Rattle.dill_maps.specs.Maps.{if_some}
 use Rattle.dill_rules.specs.World.{World, call_of, reply, pend}
 use Rattle.dill_rules.specs.Naming.{draws_of, links, uses_link}
-use Rattle.dill_rules.specs.Directions.{is_send, is_receive}
+use Rattle.dill_rules.specs.Directions.{is_send, is_receive, is_handshake}
 use Rattle.dill_rules.specs.Taking.{is_cancelled}
 use Rattle.dill_rules.specs.Refusals.{refuse}
 use Rattle.dill_rules.specs.Answers.{answer_of}
 use Rattle.dill_rules.specs.Effects.{make_value, make_bundle, query, own, close, go, bundle_go, passed_answer}
 use Rattle.dill_rules.specs.Channeling.{make_channel, channel_done, enter_channel}
-use Rattle.dill_rules.specs.Linking.{enter_send, enter_receive, enter_link, enter_attach, enter_giving_up}
+use Rattle.dill_rules.specs.Linking.{enter_send, enter_receive, enter_link, enter_handshake, enter_attach, enter_giving_up}
 
 -- a call with the deadline that it has from its entry on
 abbrev pub entered : ℕ → Call → Call
@@ -74,7 +74,8 @@ module _ {V : Type 0} where
       else (if is_receive (word_of call) then enter_receive w who call
       else (if gives_up (word_of call) then enter_giving_up w who call (draws_of call)
       else (if links (word_of call) then enter_link w who call
-      else enter_attach w who call)))
+      else (if is_handshake (word_of call) then enter_handshake w who call
+      else enter_attach w who call))))
 
   -- the effect of a call that isn't refused
   abbrev pub perform : Program V → World V → ℕ → V → Call → World V

@@ -10,7 +10,7 @@ use Rattle.dill_calls.specs.declared.word.Word.TheVariants as words
 use Rattle.dill_calls.specs.CallTable.{word_of, gives_up, named_by}
 use Rattle.dill_stack.specs.declared.want.ReadOut.{ReadOut}
 use Rattle.dill_stack.specs.declared.want.ReadOut.TheVariants as outs
-use Rattle.dill_stack.specs.Interface.{Held, Looked, is_broken, is_sent, read, detach_finish, drop_unread, has_ended}
+use Rattle.dill_stack.specs.Interface.{Held, Looked, Heard, greeted, is_broken, is_sent, read, detach_finish, drop_unread, has_ended}
 use Rattle.dill_maps.specs.Maps.{if_some}
 use Rattle.dill_rules.specs.Links.{Link}
 use Rattle.dill_rules.specs.World.{World}
@@ -25,13 +25,18 @@ abbrev pub is_tcp_close : Word → Bool
 is_tcp_close words.TcpClose = true
 is_tcp_close _ = false
 
+-- a look at a handshake draws no random word
+abbrev pub heard_as : Stream → Heard → Looked
+heard_as words h = record { stack = h.stack; said = h.said; words = words }
+
 -- a look that finds nothing
 abbrev pub still : Stream → Held → Looked
 still words s = record { stack = s; said = outs.Need; words = words }
 
 -- the look of a call at its stack, by its word: `tcp_close` drops all that is unread
 abbrev pub look_by : Call → Stream → Held → Looked
-look_by call words s = if is_tcp_close (word_of call) then still words (drop_unread s) else still words s
+look_by call words s = if is_handshake (word_of call) then heard_as words (greeted s)
+    else (if is_tcp_close (word_of call) then still words (drop_unread s) else still words s)
 
 -- a receive reads, and a detach drops
 abbrev pub look_of : Call → Stream → Held → Looked

@@ -5,6 +5,7 @@ use Rattle.dill_base.specs.declared.errno.Errno.{Errno}
 use Rattle.dill_base.specs.declared.errno.Errno.TheVariants.{Ecanceled}
 use Rattle.dill_calls.specs.declared.answer.Answer.TheVariants.{Number, Fault}
 use Rattle.dill_calls.specs.declared.call.Call.{Call}
+use Rattle.dill_calls.specs.declared.call.Call.TheVariants as calls
 use Rattle.dill_calls.specs.declared.word.Word.{Word}
 use Rattle.dill_calls.specs.CallTable.{word_of, blocks, gives_up, named_by}
 use Rattle.dill_handles.specs.Handles as handles
@@ -12,7 +13,7 @@ use Rattle.dill_http.specs.Heads.{Said, line_of}
 use Rattle.dill_http.specs.Lines.{crlf}
 use Rattle.dill_stack.specs.declared.layer.Layer.{Layer}
 use Rattle.dill_stack.specs.declared.parting.Parting.{Parting}
-use Rattle.dill_stack.specs.Interface.{Held, frame, line, done, attach, parting_fault, detach_start}
+use Rattle.dill_stack.specs.Interface.{Held, frame, line, done, attach, expect_greet, greet, parting_fault, detach_start}
 use Rattle.dill_maps.specs.Maps.{if_some}
 use Rattle.dill_rules.specs.Links as links
 use Rattle.dill_rules.specs.Links.{heated}
@@ -27,6 +28,17 @@ use Rattle.dill_rules.specs.Sockets.{stack_of, on_named, put_stack}
 abbrev pub if_ok : {A B : Type 0} → Result A Errno → B → (A → B) → B
 if_ok (Ok x) d f = f x
 if_ok (Err e) d f = d
+
+-- a stack with the random words, of which none was drawn
+abbrev pub with_words : Stream → Result Held Errno → Result (Held × Stream) Errno
+with_words words (Ok s) = Ok (s, words)
+with_words words (Err e) = Err e
+
+-- a client's head is queued, and a server waits for one
+abbrev pub greet_by : Call → Stream → Held → Result (Held × Stream) Errno
+greet_by (calls.WsAttachClient number text resource host deadline) words s = greet text resource host words s
+greet_by (calls.WsAttachServer number text deadline) words s = with_words words (expect_greet text s)
+greet_by call words s = Ok (s, words)
 
 module _ {V : Type 0} where
   -- the stack and the random words that are left
@@ -47,7 +59,7 @@ module _ {V : Type 0} where
 
   -- a line is queued with its CRLF
   abbrev pub queue_line : World V → Call → Said → World V
-  queue_line w call said = ask_stack w call (λ words s. if_ok (line (is_first said) (line_of said ++ crlf) s) (Ok (s, words)) (λ new. Ok (new, words)))
+  queue_line w call said = ask_stack w call (λ words s. with_words words (line (is_first said) (line_of said ++ crlf) s))
 
   -- the sending direction ends
   abbrev pub queue_end : World V → Call → World V
@@ -71,7 +83,7 @@ module _ {V : Type 0} where
   -- a layer is attached, and the socket has a new number, which the caller owns
   abbrev pub attach_layer : World V → ℕ → Call → ℕ → Layer → World V
   attach_layer w who call number layer =
-      reply (move (ask_stack w call (λ words s. if_ok (attach layer s) (Ok (s, words)) (λ new. Ok (new, words)))) number who) who (word_of call) (Number (next_number w))
+      reply (move (ask_stack w call (λ words s. with_words words (attach layer s))) number who) who (word_of call) (Number (next_number w))
 
   abbrev pub enter_attach : World V → ℕ → Call → World V
   enter_attach w who call = if_some (named_by call) w (λ number. if_some (layer_of call) w (attach_layer w who call number))
@@ -98,3 +110,7 @@ module _ {V : Type 0} where
   enter_giving_up w who call kept =
       let own = if_some (named_by call) w (λ number. take w number who) in
       if_some (given_up_at_once own who call) (begin_giving_up own who call) (λ e. give_stack_up own who call e kept)
+
+  -- A handshake: the caller becomes the owner, the layer is on the stack from its entry, and both directions are used.
+  abbrev pub enter_handshake : World V → ℕ → Call → World V
+  enter_handshake w who call = pend (heat (ask_stack (if_some (named_by call) w (λ number. take w number who)) call (greet_by call)) call true true) who call

@@ -2,10 +2,13 @@
 use Rattle.std.specs.Prelude.{ℕ, List, [], ◌∷◌, ◌++◌, Bool, true, false, Option, Some, None, option_map, option_to_list, if◌then◌else◌}
 use Rattle.dill_base.specs.declared.errno.Errno.{Errno}
 use Rattle.dill_calls.specs.declared.call.Call.{Call}
+use Rattle.dill_calls.specs.declared.call.Call.TheVariants as calls
 use Rattle.dill_calls.specs.CallTable.{word_of, named_by}
 use Rattle.dill_http.specs.Writing.{fault_of}
 use Rattle.dill_stack.specs.declared.layer.Top.{Top}
 use Rattle.dill_stack.specs.Interface.{Held, top, send_fault, line_fault, done_fault, read_fault, attach_fault, detach_fault}
+use Rattle.dill_stack.specs.Attaching.{greet_fault}
+use Rattle.dill_stack.specs.Greeting.{is_wrong_offer, is_long_offer}
 use Rattle.dill_maps.specs.Maps.{if_some}
 use Rattle.dill_rules.specs.declared.thing.Thing.{Thing}
 use Rattle.dill_rules.specs.declared.thing.Thing.TheVariants as things
@@ -20,6 +23,12 @@ link_of (things.Listener link) = Some link
 link_of (things.Socket link) = Some link
 link_of thing = None
 
+-- what a stack refuses of a handshake: a head that can't be written, a direction that is done or broken
+abbrev pub handshake_fault : Call → Held → Option Errno
+handshake_fault (calls.WsAttachClient number text resource host deadline) s = greet_fault (is_wrong_offer resource host) (is_long_offer resource host) s
+handshake_fault (calls.WsAttachServer number text deadline) s = greet_fault false false s
+handshake_fault call s = None
+
 -- what a stack refuses of a call, where its direction is in use or not
 abbrev pub faults_by : Call → Bool → Held → List Errno
 faults_by call busy s =
@@ -28,6 +37,7 @@ faults_by call busy s =
     ++ if_some (asked call) [] (λ want. option_to_list (read_fault want busy s))
     ++ if_some (layer_of call) [] (λ layer. option_to_list (attach_fault layer false s))
     ++ if_some (parting_of call) [] (λ parting. option_to_list (detach_fault parting false s))
+    ++ option_to_list (handshake_fault call s)
     ++ (if is_end (word_of call) then option_to_list (done_fault busy s) else [])
 
 module _ {V : Type 0} where

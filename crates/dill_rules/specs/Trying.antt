@@ -8,7 +8,7 @@ use Rattle.dill_calls.specs.declared.word.Word.TheVariants as words
 use Rattle.dill_calls.specs.CallTable.{word_of, named_by, gives_up}
 use Rattle.dill_kernel.specs.declared.replies.KernelAsk.{KernelAsk}
 use Rattle.dill_kernel.specs.declared.replies.KernelAsk.TheVariants as asks
-use Rattle.dill_stack.specs.Interface.{Held, Task, Idle, Greets, Expects, Answers, Leaves, is_sent, offered}
+use Rattle.dill_stack.specs.Interface.{Held, needs_bytes, offered}
 use Rattle.dill_maps.specs.Maps.{if_some, first_some}
 use Rattle.dill_scope.specs.Scopes.{is_bundle}
 use Rattle.dill_rules.specs.declared.coroutine.Coroutine.{Coroutine}
@@ -34,13 +34,7 @@ read_size = 4096
 abbrev pub may_need : Word → Bool
 may_need word = is_receive word || (is_handshake word || gives_up word)
 
--- What a task sends first has gone; a server's handshake needs nothing more once it has the client's head.
-abbrev pub needs_more : Task → Bool → Bool
-needs_more Answers sent = false
-needs_more (Greets accept) sent = sent
-needs_more Leaves sent = sent
-needs_more task sent = true
-
+-- a call that ends by a `shut`
 abbrev pub is_ending_send : Word → Bool
 is_ending_send word = is_tcp_done word || is_tcp_close word
 
@@ -119,7 +113,7 @@ module _ {V : Type 0} where
 
   -- bytes may come that a pending call needs
   abbrev pub is_needy : World V → Link → Bool
-  is_needy w x = needs_more x.stack.task (is_sent x.stack) && is_pending_on w may_need x.number
+  is_needy w x = needs_bytes x.stack && is_pending_on w may_need x.number
 
   -- every read-hot link that isn't ended or broken, whose pending call needs bytes
   abbrev pub reads : World V → List Try
