@@ -6,3 +6,6 @@ pub mod Closing
 pub mod Channels
 pub mod Connecting
 pub mod Sockets
+pub mod Looped
+pub mod Readings
+pub mod Lacks

@@ -69,12 +69,15 @@ is_again item = false
 
 -- an item is done; a loop stays where it is
 abbrev pub at_item : Play → Item → List Item → Play × Move
-at_item v item rest = (record v {
-  rest = if is_again item then item ∷ rest else rest;
-  at = if is_again item && v.at == v.body then v.at else v.at + 1;
-  tries = is_tried item;
-  said = word_of (call_of item);
-}, Calls (call_of item))
+at_item v item rest = (
+  record v {
+    rest = if is_again item then item ∷ rest else rest;
+    at = if is_again item && v.at == v.body then v.at else v.at + 1;
+    tries = is_tried item;
+    said = word_of (call_of item);
+  },
+  Calls (call_of item),
+)
 
 -- what is done last, or the end
 abbrev pub at_last : Play → List Item → Play × Move

@@ -1,9 +1,12 @@
 -- Runs of programs that are lists of calls.
-use Rattle.std.specs.Prelude.{Bool, true, false, ℕ, List, [], ◌∷◌, get_or, map, replicate}
+use Rattle.std.specs.Prelude.{Bool, true, false, ℕ, List, [], ◌∷◌, get_or, replicate, Option, Some}
 use Rattle.rand_core.specs.Stream.{Stream}
 use Rattle.dill_base.specs.declared.status.Address.{Address}
 use Rattle.dill_kernel.specs.declared.replies.KernelReply.{KernelReply}
 use Rattle.dill_kernel.specs.declared.replies.KernelReply.TheVariants.{Woke, Done}
+use Rattle.dill_kernel.specs.declared.replies.KernelAsk.{KernelAsk}
+use Rattle.dill_loop.specs.Network.{Network, opening}
+use Rattle.dill_loop.specs.Steps.{network_reply, network_after}
 use Rattle.dill_rows.specs.Play.{Item, Text, Play, playing, first_of}
 use Rattle.dill_rows.specs.Runs.{Outside, Run, clock, listed, run_within, begun}
 
@@ -45,3 +48,14 @@ place port = record { ip = 127 ∷ 0 ∷ 0 ∷ 1 ∷ []; port = port }
 -- up to the finish of a connection: two rounds
 abbrev pub connected : List KernelReply → List KernelReply
 connected rest = idle 0 ∷ idle 0 ∷ Done ∷ Done ∷ rest
+
+-- the network in memory as a function
+abbrev pub loop_says : Network → KernelAsk → Option KernelReply
+loop_says net ask = Some (network_reply net ask)
+
+abbrev pub loop_net : Outside Network
+loop_net = record { says = loop_says; goes = network_after }
+
+-- traced or not, over the network in memory, which gives at most 4,096 bytes at once, with a budget
+abbrev pub looped : Bool → ℕ → ℕ → (ℕ → List ℕ → Text) → Run Play Network
+looped traced most steps table = played_over loop_net (opening 4096) traced most steps table

@@ -6,6 +6,9 @@ ghost use Rattle.dill_rows.specs.Closing.{OwnBundle, CrossedGifts, NestedClose, 
 ghost use Rattle.dill_rows.specs.Channels.{UnequalSizes, ChoosesEarliest, ChoiceMeetsChoice};
 ghost use Rattle.dill_rows.specs.Connecting.{ConnectAndReceive, RefusedConnections, BrokenConnections};
 ghost use Rattle.dill_rows.specs.Sockets.{SendGivenUp, TriedOnce, EndInside, DetachKeepsUnread, CancelledDetach, FailedWait};
+ghost use Rattle.dill_rows.specs.Looped.{LoadCounts, LoopedDetach, LoopedWait};
+ghost use Rattle.dill_rows.specs.Readings.{Occupied, DeadClause, GiveUps, CancelledTakers};
+ghost use Rattle.dill_rows.specs.Lacks.{LacksChangeNothing};
 
 /// Three deadlines at one moment pass in the order of the coroutines.
 pub fn equal_deadlines_lower_first()
@@ -125,4 +128,44 @@ pub fn cancelled_detach()
 /// A wait that fails stops the run.
 pub fn failed_wait()
     ensures { FailedWait }
+{}
+
+/// A load of one client over the network in memory; a budget stops it, and its link is closed once.
+pub fn load_counts()
+    ensures { LoadCounts }
+{}
+
+/// The same detach that is cancelled, over the network in memory.
+pub fn cancelled_detach_over_the_network()
+    ensures { LoopedDetach }
+{}
+
+/// A wait for ever fails in the network in memory.
+pub fn failed_wait_over_the_network()
+    ensures { LoopedWait }
+{}
+
+/// While a handshake is pending its layer is on top, and every other call on the number is busy.
+pub fn pending_handshake_occupies()
+    ensures { Occupied }
+{}
+
+/// A choice with a dead number is refused whole, though an earlier clause could be done.
+pub fn dead_clause_refuses_the_choice()
+    ensures { DeadClause }
+{}
+
+/// What several coroutines give up in one step is released in the order of the coroutines.
+pub fn give_ups_go_by_coroutine()
+    ensures { GiveUps }
+{}
+
+/// A cancelled caller that takes another's handle is busy where its call gives a stack up, and else cancelled.
+pub fn cancelled_takers()
+    ensures { CancelledTakers }
+{}
+
+/// A refusal of memory changes nothing but the answer, and only what takes memory meets one.
+pub fn lacks_change_nothing()
+    ensures { LacksChangeNothing }
 {}

@@ -60,6 +60,7 @@ module _ {V : Type 0} where
   -- the answer that a coroutine is given at its turn, with the word of its call
   abbrev pub answer_given : World V → ℕ → Word × Answer
   answer_given w who = if_some (coroutine_of w who) (words.Start, Number 0) (λ c. given_of c.mode)
+
   -- what its program goes on to, from the view before
   abbrev pub move_of : Program V → World V → ℕ → V → V × Move
   move_of p w who view = p.next view (answer_given w who).1
