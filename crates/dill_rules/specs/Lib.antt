@@ -22,3 +22,5 @@ pub mod Hearing
 pub mod State
 pub mod Waiting
 pub mod Debts
+pub mod Seen
+pub mod Laws
