@@ -9,3 +9,4 @@ pub mod Sockets
 pub mod Looped
 pub mod Readings
 pub mod Lacks
+pub mod Stories
