@@ -9,4 +9,5 @@ pub mod Sockets
 pub mod Looped
 pub mod Readings
 pub mod Lacks
+pub mod Relay
 pub mod Stories

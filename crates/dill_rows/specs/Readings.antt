@@ -9,7 +9,7 @@ use Rattle.dill_kernel.specs.declared.replies.KernelFault.TheVariants as faults
 use Rattle.dill_kernel.specs.declared.replies.KernelReply.{KernelReply}
 use Rattle.dill_kernel.specs.declared.replies.KernelReply.TheVariants.{Woke, Done, NotYet, Came, Took, End, Failed}
 use Rattle.dill_rules.specs.Debts.{debt}
-use Rattle.dill_rows.specs.Play.{Item, Does, Tries, Again, Text, Play, playing}
+use Rattle.dill_rows.specs.Play.{Item, Does, Tries, Again, Puts, Text, Play, playing}
 use Rattle.dill_rows.specs.Playing.{plain, nth, played, untraced, replayed, looped, idle, place, connected}
 use Rattle.dill_rows.specs.Runs.{Run, prints, does}
 

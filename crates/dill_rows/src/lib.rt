@@ -9,6 +9,7 @@ ghost use Rattle.dill_rows.specs.Sockets.{SendGivenUp, TriedOnce, EndInside, Det
 ghost use Rattle.dill_rows.specs.Looped.{LoadCounts, LoopedDetach, LoopedWait};
 ghost use Rattle.dill_rows.specs.Readings.{Occupied, DeadClause, GiveUps, CancelledTakers};
 ghost use Rattle.dill_rows.specs.Lacks.{LacksChangeNothing};
+ghost use Rattle.dill_rows.specs.Relay.{RelayToWebsocket};
 ghost use Rattle.dill_rows.specs.Stories.{WorkedStories};
 
 /// Three deadlines at one moment pass in the order of the coroutines.
@@ -169,6 +170,11 @@ pub fn cancelled_takers()
 /// A refusal of memory changes nothing but the answer, and only what takes memory meets one.
 pub fn lacks_change_nothing()
     ensures { LacksChangeNothing }
+{}
+
+/// Three clients over PREFIX to a WebSocket upstream.
+pub fn relay_to_websocket()
+    ensures { RelayToWebsocket }
 {}
 
 /// The story of a run over the rules: its bytes and its asks.
