@@ -22,5 +22,6 @@ pub mod Hearing
 pub mod State
 pub mod Waiting
 pub mod Debts
+pub mod Traffic
 pub mod Seen
 pub mod Laws
