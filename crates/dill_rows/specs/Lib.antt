@@ -9,5 +9,6 @@ pub mod Sockets
 pub mod Looped
 pub mod Readings
 pub mod Lacks
+pub mod Limits
 pub mod Relay
 pub mod Stories

@@ -1,21 +1,15 @@
 -- A whole run over a kernel that is a function: its lines, its asks and its counts.
-use Rattle.std.specs.Prelude.{codes, decimal, bytes_eq, flat_map, ℕ, zero, suc, ◌+◌, ◌-◌, ◌==◌, List, [], ◌∷◌, ◌++◌, map, filter_map, length, drop, Bool, true, false, not, ◌&&◌, ◌||◌, Option, Some, None, option_map, if◌then◌else◌, is_some, max}
+use Rattle.std.specs.Prelude.{codes, decimal, bytes_eq, flat_map, ℕ, zero, suc, ◌+◌, ◌-◌, ◌==◌, List, [], ◌∷◌, ◌++◌, Bool, not, ◌&&◌, ◌||◌, Option, Some, None, if◌then◌else◌, is_some, max}
 use Rattle.rand_core.specs.Stream.{Stream}
 use Rattle.dill_base.specs.declared.errno.Errno.{Errno}
 use Rattle.dill_base.specs.declared.status.Status.{Status}
 use Rattle.dill_base.specs.declared.status.Status.TheVariants as status
-use Rattle.dill_calls.specs.declared.answer.Answer.{Answer}
-use Rattle.dill_calls.specs.declared.ran.Note.{Note}
-use Rattle.dill_calls.specs.declared.ran.Ran.{Ran}
-use Rattle.dill_calls.specs.declared.word.Word.{Word}
 use Rattle.dill_calls.specs.Program.{Program}
 use Rattle.dill_handles.specs.Handles.{gone}
-use Rattle.dill_kernel.specs.declared.ready.Ready.{Ready}
 use Rattle.dill_kernel.specs.declared.ready.Limit.{Limit}
 use Rattle.dill_kernel.specs.declared.ready.Limit.TheVariants.{NoWait, Until, Forever}
 use Rattle.dill_kernel.specs.declared.replies.KernelAsk.{KernelAsk}
 use Rattle.dill_kernel.specs.declared.replies.KernelAsk.TheVariants as asks
-use Rattle.dill_kernel.specs.declared.replies.KernelFault.TheVariants.{Other}
 use Rattle.dill_kernel.specs.declared.replies.KernelReply.{KernelReply}
 use Rattle.dill_kernel.specs.declared.replies.KernelReply.TheVariants as replies
 use Rattle.relay_trace.specs.declared.summary.Summary.{Summary}
@@ -23,7 +17,7 @@ use Rattle.relay_trace.specs.Lines.{line, sized, ran_bytes, note_line, waiting_l
 use Rattle.dill_maps.specs.Maps.{if_some}
 use Rattle.dill_rules.specs.Trying.{Try, next_try}
 use Rattle.dill_rules.specs.State.{State, opening_state, is_answered, turned, ran, expired, shut, woke, hear}
-use Rattle.dill_rules.specs.Waiting.{Waiter, waiters, limit, is_stuck}
+use Rattle.dill_rules.specs.Waiting.{waiters, limit, is_stuck}
 
 pub data Phase : Type 0 where
   Round : Phase

@@ -9,7 +9,8 @@ ghost use Rattle.dill_rows.specs.Sockets.{SendGivenUp, TriedOnce, EndInside, Det
 ghost use Rattle.dill_rows.specs.Looped.{LoadCounts, LoopedDetach, LoopedWait};
 ghost use Rattle.dill_rows.specs.Readings.{Occupied, DeadClause, GiveUps, CancelledTakers};
 ghost use Rattle.dill_rows.specs.Lacks.{LacksChangeNothing};
-ghost use Rattle.dill_rows.specs.Relay.{RelayToWebsocket};
+ghost use Rattle.dill_rows.specs.Limits.{LimitsAreExact};
+ghost use Rattle.dill_rows.specs.Relay.{RelayToWebsocket, LoadOfFour};
 ghost use Rattle.dill_rows.specs.Stories.{WorkedStories};
 
 /// Three deadlines at one moment pass in the order of the coroutines.
@@ -172,9 +173,19 @@ pub fn lacks_change_nothing()
     ensures { LacksChangeNothing }
 {}
 
+/// The last handle, the last number and the last link can be had, and no more.
+pub fn limits_are_exact()
+    ensures { LimitsAreExact }
+{}
+
 /// Three clients over PREFIX to a WebSocket upstream.
 pub fn relay_to_websocket()
     ensures { RelayToWebsocket }
+{}
+
+/// A load of four clients: twelve turns and three rounds for each, and three turns and two rounds besides.
+pub fn load_of_four()
+    ensures { LoadOfFour }
 {}
 
 /// The story of a run over the rules: its bytes and its asks.

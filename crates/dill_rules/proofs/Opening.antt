@@ -1,5 +1,5 @@
 -- Laws of the opening world and of refusals.
-use Rattle.std.proofs.Common.{lit≤, ◌≡◌, ℕ, ◌==◌, Bool, true, false, refl, ap, cond, Option, Some, None, arith, if◌then◌else◌, ◌&&◌}
+use Rattle.std.proofs.Common.{lit≤, ◌≡◌, ℕ, ◌==◌, Bool, true, false, refl, ap, cond, Option, Some, None, if◌then◌else◌, ◌&&◌}
 use Rattle.std.specs.Prelude.{option_and_then, option_map}
 use Rattle.dill_base.specs.declared.errno.Errno.{Errno}
 use Rattle.dill_base.specs.declared.errno.Errno.TheVariants.{Enomem}
@@ -8,11 +8,11 @@ use Rattle.dill_calls.specs.CallTable.{word_of, takes_memory}
 use Rattle.dill_maps.specs.Maps.{if_some}
 use Rattle.dill_scope.specs.declared.forest.Home.{Home}
 use Rattle.dill_scope.specs.declared.forest.Bundle.{Bundle}
-use Rattle.dill_scope.specs.Scopes.{opening_scopes, home_of, owner_of}
-use Rattle.dill_scope.specs.Forest.{Inside, Rooted, at_root, IsForest}
+use Rattle.dill_scope.specs.Scopes.{opening_scopes}
+use Rattle.dill_scope.specs.Forest.{at_root, IsForest}
 use Rattle.dill_rules.specs.World.{reply}
 use Rattle.dill_rules.specs.Entering.{done}
-use Rattle.dill_rules.specs.Laws.{IsSound, OpeningIsSound, RefusalChangesNothing}
+use Rattle.dill_rules.specs.Laws.{OpeningIsSound, RefusalChangesNothing}
 
 root : Bundle
 root = record { name = 0; owner = None; closing = false }

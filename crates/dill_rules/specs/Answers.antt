@@ -1,5 +1,5 @@
 -- The answer from scratch: whether a pending call can be answered, and how.
-use Rattle.std.specs.Prelude.{ℕ, ◌+◌, List, [], ◌∷◌, find, Bool, true, false, not, ◌&&◌, Option, Some, None, if◌then◌else◌, is_none}
+use Rattle.std.specs.Prelude.{ℕ, ◌+◌, List, [], ◌∷◌, find, Bool, false, not, ◌&&◌, Option, Some, None, if◌then◌else◌}
 use Rattle.std.specs.Option.{option_or}
 use Rattle.dill_base.specs.declared.errno.Errno.{Errno}
 use Rattle.dill_base.specs.declared.errno.Errno.TheVariants.{Ecanceled, Ebadf, Epipe}

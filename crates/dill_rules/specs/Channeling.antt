@@ -1,6 +1,5 @@
 -- What the calls of channels do that aren't refused: meetings, ends of a direction, and waiting.
-use Rattle.std.specs.Prelude.{ℕ, ◌+◌, List, [], ◌∷◌, fold, Bool, true, false, Option, Some, None, if◌then◌else◌}
-use Rattle.dill_base.specs.declared.errno.Errno.{Errno}
+use Rattle.std.specs.Prelude.{ℕ, ◌+◌, List, [], ◌∷◌, Bool, true, false, Option, Some, None, if◌then◌else◌}
 use Rattle.dill_base.specs.declared.errno.Errno.TheVariants.{Epipe}
 use Rattle.dill_calls.specs.declared.answer.Answer.{Answer}
 use Rattle.dill_calls.specs.declared.answer.Answer.TheVariants as answers
@@ -10,7 +9,6 @@ use Rattle.dill_calls.specs.declared.lists.Clause.{Clause}
 use Rattle.dill_calls.specs.declared.lists.Clause.TheVariants as clauses
 use Rattle.dill_calls.specs.declared.word.Word.TheVariants as words
 use Rattle.dill_calls.specs.CallTable.{word_of}
-use Rattle.dill_chan.specs.declared.end.Want.{Want}
 use Rattle.dill_chan.specs.declared.end.Want.TheVariants.{Send}
 use Rattle.dill_chan.specs.declared.meeting.Meeting.{Meeting}
 use Rattle.dill_chan.specs.declared.meeting.Meeting.TheVariants.{Met, Ended, Waits}

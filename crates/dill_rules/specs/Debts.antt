@@ -1,5 +1,5 @@
 -- The debt of a bundle that is closing: the turns that the coroutines inside it may still take.
-use Rattle.std.specs.Prelude.{ℕ, ◌+◌, List, filter, sum_by, Bool, true, false, Option, Some, None, if◌then◌else◌, nat_lt}
+use Rattle.std.specs.Prelude.{ℕ, ◌+◌, filter, sum_by, Bool, false, if◌then◌else◌, nat_lt}
 use Rattle.dill_calls.specs.Program.{Program}
 use Rattle.dill_scope.specs.Scopes.{is_inside}
 use Rattle.dill_maps.specs.Maps.{if_some}

@@ -1,5 +1,5 @@
 -- What a call on a socket asks of its stack: a message, a line, an end, a receive, a layer, or to leave one.
-use Rattle.std.specs.Prelude.{ℕ, List, Bool, true, false, not, ◌||◌, Option, Some, None}
+use Rattle.std.specs.Prelude.{ℕ, List, Bool, true, false, not, Option, Some, None}
 use Rattle.dill_calls.specs.declared.call.Call.{Call}
 use Rattle.dill_calls.specs.declared.call.Call.TheVariants as calls
 use Rattle.dill_calls.specs.declared.word.Word.{Word}

@@ -1,6 +1,5 @@
 -- A call is entered: refused, refused memory, or done, and then answered, too late, or pending.
-use Rattle.std.specs.Prelude.{ℕ, Bool, true, false, not, ◌&&◌, ◌||◌, Option, Some, None, if◌then◌else◌, is_some, is_none}
-use Rattle.dill_base.specs.declared.deadline.Deadline.{Deadline}
+use Rattle.std.specs.Prelude.{ℕ, Bool, false, not, ◌&&◌, ◌||◌, if◌then◌else◌, is_none}
 use Rattle.dill_base.specs.declared.errno.Errno.{Errno}
 use Rattle.dill_base.specs.declared.errno.Errno.TheVariants.{Enomem, Ecanceled, Etimedout}
 use Rattle.dill_base.specs.Moments.{at_entry, is_passed}

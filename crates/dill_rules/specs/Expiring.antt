@@ -1,7 +1,7 @@
 -- Expiry: the pending calls whose deadline is passed, in the order of deadline and coroutine.
-use Rattle.std.specs.Prelude.{ℕ, ◌==◌, List, [], ◌∷◌, fold, filter_map, map, Bool, true, false, not, ◌&&◌, ◌||◌, Option, Some, None, if◌then◌else◌, nat_lt, nat_le, min}
+use Rattle.std.specs.Prelude.{ℕ, ◌==◌, List, [], ◌∷◌, filter_map, map, Bool, ◌&&◌, ◌||◌, Option, Some, None, if◌then◌else◌, nat_lt, nat_le}
 use Rattle.dill_base.specs.declared.deadline.Deadline.{Deadline}
-use Rattle.dill_base.specs.declared.deadline.Deadline.TheVariants.{Never, At, After}
+use Rattle.dill_base.specs.declared.deadline.Deadline.TheVariants.{At}
 use Rattle.dill_calls.specs.declared.call.Call.{Call}
 use Rattle.dill_calls.specs.CallTable.{deadline_of}
 use Rattle.dill_maps.specs.Maps.{if_some}

@@ -1,6 +1,5 @@
 -- What the answer of a pending call does besides: a bundle is free, a stack is used, moved or released, and what was kept is given back.
-use Rattle.std.specs.Prelude.{ℕ, ◌==◌, List, find, Bool, true, false, not, ◌&&◌, ◌||◌, Option, Some, None, if◌then◌else◌, is_some}
-use Rattle.dill_base.specs.declared.errno.Errno.{Errno}
+use Rattle.std.specs.Prelude.{ℕ, ◌==◌, find, Bool, true, false, not, ◌&&◌, ◌||◌, if◌then◌else◌}
 use Rattle.dill_base.specs.declared.errno.Errno.TheVariants as errnos
 use Rattle.dill_calls.specs.declared.answer.Answer.{Answer}
 use Rattle.dill_calls.specs.declared.answer.Answer.TheVariants.{Number, Fault}
@@ -11,7 +10,6 @@ use Rattle.dill_calls.specs.CallTable.{word_of, gives_up, named_by}
 use Rattle.dill_handles.specs.Handles as handles
 use Rattle.dill_stack.specs.Interface.{withdraw}
 use Rattle.dill_maps.specs.Maps.{if_some}
-use Rattle.dill_rules.specs.declared.thing.Thing.{Thing}
 use Rattle.dill_rules.specs.Links as link
 use Rattle.dill_rules.specs.Links.{Link, connector, as_closing, with_stack}
 use Rattle.dill_rules.specs.World.{World, reply}

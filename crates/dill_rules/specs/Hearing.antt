@@ -1,5 +1,5 @@
 -- What a reply of the kernel does to the world.
-use Rattle.std.specs.Prelude.{ℕ, ◌==◌, List, [], ◌∷◌, ◌++◌, fold, find, Bool, true, false, Option, Some, None, if◌then◌else◌}
+use Rattle.std.specs.Prelude.{ℕ, List, [], ◌∷◌, ◌++◌, fold, Option, Some, None, if◌then◌else◌}
 use Rattle.dill_base.specs.declared.errno.Errno.{Errno}
 use Rattle.dill_base.specs.declared.errno.Errno.TheVariants as errnos
 use Rattle.dill_calls.specs.declared.answer.Answer.TheVariants.{Number, Fault}
@@ -18,7 +18,7 @@ use Rattle.dill_rules.specs.declared.thing.Thing.{Thing}
 use Rattle.dill_rules.specs.declared.thing.Thing.TheVariants as things
 use Rattle.dill_rules.specs.Links as links
 use Rattle.dill_rules.specs.Links.{Sort, Listening, Connecting, Stream, look, connector, with_stack, heated, read_cold, write_cold, as_shut, as_stream}
-use Rattle.dill_rules.specs.World.{World, Place, call_of, reply, from_start}
+use Rattle.dill_rules.specs.World.{World, call_of, reply, from_start}
 use Rattle.dill_rules.specs.Effects.{next_number, make}
 use Rattle.dill_rules.specs.Sockets.{on_link}
 use Rattle.dill_rules.specs.Giving.{give}

@@ -1,5 +1,5 @@
 -- The answer from scratch of a call on a link: a broken direction, what was sent, and what the stack reads.
-use Rattle.std.specs.Prelude.{ℕ, Bool, true, false, ◌&&◌, ◌||◌, Option, Some, None, if◌then◌else◌, is_some}
+use Rattle.std.specs.Prelude.{Bool, true, false, ◌&&◌, ◌||◌, Option, Some, None, if◌then◌else◌}
 use Rattle.rand_core.specs.Stream.{Stream}
 use Rattle.dill_base.specs.declared.errno.Errno.TheVariants.{Econnreset}
 use Rattle.dill_calls.specs.declared.answer.Answer.{Answer}

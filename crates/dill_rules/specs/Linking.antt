@@ -1,13 +1,12 @@
 -- What the calls on links do that aren't refused: what they queue, attach, begin, and that they are pending.
-use Rattle.std.specs.Prelude.{ℕ, List, [], ◌∷◌, ◌++◌, Bool, true, false, Option, Some, None, Result, Ok, Err, if◌then◌else◌, is_some}
+use Rattle.std.specs.Prelude.{ℕ, List, ◌++◌, Bool, true, false, Option, Some, None, Result, Ok, Err, if◌then◌else◌}
 use Rattle.rand_core.specs.Stream.{Stream}
 use Rattle.dill_base.specs.declared.errno.Errno.{Errno}
 use Rattle.dill_base.specs.declared.errno.Errno.TheVariants.{Ecanceled}
 use Rattle.dill_calls.specs.declared.answer.Answer.TheVariants.{Number, Fault}
 use Rattle.dill_calls.specs.declared.call.Call.{Call}
 use Rattle.dill_calls.specs.declared.call.Call.TheVariants as calls
-use Rattle.dill_calls.specs.declared.word.Word.{Word}
-use Rattle.dill_calls.specs.CallTable.{word_of, blocks, gives_up, named_by}
+use Rattle.dill_calls.specs.CallTable.{word_of, blocks, named_by}
 use Rattle.dill_handles.specs.Handles as handles
 use Rattle.dill_http.specs.Heads.{Said, line_of}
 use Rattle.dill_http.specs.Lines.{crlf}
@@ -21,7 +20,7 @@ use Rattle.dill_rules.specs.World.{World, reply, pend}
 use Rattle.dill_rules.specs.Owning.{take, move, release}
 use Rattle.dill_rules.specs.Taking.{is_cancelled}
 use Rattle.dill_rules.specs.Effects.{next_number}
-use Rattle.dill_rules.specs.Directions.{message_of, line_said, is_first, is_end, asked, layer_of, parting_of}
+use Rattle.dill_rules.specs.Directions.{message_of, line_said, is_first, is_end, layer_of, parting_of}
 use Rattle.dill_rules.specs.Sockets.{stack_of, on_named, put_stack}
 
 -- what is done with a good result, or else d

@@ -1,5 +1,5 @@
 -- What calls name: handle numbers, kinds, and what they draw.
-use Rattle.std.specs.Prelude.{ℕ, ◌+◌, ◌==◌, List, [], ◌∷◌, ◌++◌, length, map, filter_map, Bool, true, false, Option, Some, None, option_to_list}
+use Rattle.std.specs.Prelude.{ℕ, ◌+◌, List, [], ◌∷◌, ◌++◌, length, map, filter_map, Bool, true, false, Option, Some, None, option_to_list}
 use Rattle.dill_calls.specs.declared.call.Call.{Call}
 use Rattle.dill_calls.specs.declared.call.Call.TheVariants as calls
 use Rattle.dill_calls.specs.declared.lists.Arg.{Arg}
@@ -8,7 +8,7 @@ use Rattle.dill_calls.specs.declared.lists.Clause.{Clause}
 use Rattle.dill_calls.specs.declared.lists.Clause.TheVariants as clauses
 use Rattle.dill_calls.specs.declared.word.Word.{Word}
 use Rattle.dill_calls.specs.declared.word.Word.TheVariants as words
-use Rattle.dill_calls.specs.CallTable.{word_of, named_by}
+use Rattle.dill_calls.specs.CallTable.{named_by}
 
 -- the numbers that are given to a child
 abbrev pub given_by : Arg → Option ℕ

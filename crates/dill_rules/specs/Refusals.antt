@@ -1,6 +1,6 @@
 -- The refusals at entry: a condition for each errno, and the one order in which they are tried.
-use Rattle.std.specs.Prelude.{ℕ, ◌+◌, ◌==◌, List, [], ◌∷◌, length, find, Bool, true, false, not, ◌&&◌, ◌||◌, Option, Some, None, if◌then◌else◌, nat_lt, nat_le, is_none}
-use Rattle.std.specs.List.{list_any, list_all}
+use Rattle.std.specs.Prelude.{ℕ, ◌+◌, ◌==◌, List, [], ◌∷◌, length, find, Bool, true, false, not, ◌&&◌, ◌||◌, Option, if◌then◌else◌, nat_lt, nat_le}
+use Rattle.std.specs.List.{list_any}
 use Rattle.dill_base.specs.declared.errno.Errno.{Errno}
 use Rattle.dill_base.specs.declared.errno.Errno.TheVariants as errnos
 use Rattle.dill_calls.specs.declared.call.Call.{Call}

@@ -1,11 +1,9 @@
 -- Settling: endings that can finish, and pending calls that can be answered, until neither is left.
-use Rattle.std.specs.Prelude.{ℕ, zero, suc, ◌+◌, ◌==◌, List, [], ◌∷◌, reverse, length, fold, filter, find, Bool, true, false, not, ◌&&◌, ◌||◌, Option, Some, None, if◌then◌else◌, nat_lt}
+use Rattle.std.specs.Prelude.{ℕ, zero, suc, ◌==◌, List, [], ◌∷◌, reverse, length, fold, filter, find, Bool, false, not, ◌&&◌, Option, Some, None, if◌then◌else◌, nat_lt}
 use Rattle.std.specs.List.{list_all}
 use Rattle.dill_base.specs.declared.errno.Errno.{Errno}
 use Rattle.dill_calls.specs.declared.answer.Answer.{Answer}
 use Rattle.dill_calls.specs.declared.call.Call.{Call}
-use Rattle.dill_calls.specs.declared.call.Call.TheVariants as calls
-use Rattle.dill_calls.specs.declared.word.Word.TheVariants as words
 use Rattle.dill_calls.specs.CallTable.{word_of}
 use Rattle.dill_handles.specs.Handles as handles
 use Rattle.dill_handles.specs.declared.entry.Entry.{Entry}
@@ -16,8 +14,8 @@ use Rattle.dill_rules.specs.declared.coroutine.Coroutine.{Coroutine}
 use Rattle.dill_rules.specs.declared.coroutine.Mode.{Mode}
 use Rattle.dill_rules.specs.declared.coroutine.Mode.TheVariants as modes
 use Rattle.dill_rules.specs.declared.thing.Thing.{Thing}
-use Rattle.dill_rules.specs.World.{World, is_coroutine, is_ending, pending_call, call_of, set_mode, reply, from_start}
-use Rattle.dill_rules.specs.Owning.{is_dead_as, release, close_bundle, free_bundle}
+use Rattle.dill_rules.specs.World.{World, is_coroutine, is_ending, pending_call, set_mode, from_start}
+use Rattle.dill_rules.specs.Owning.{release, close_bundle, free_bundle}
 use Rattle.dill_rules.specs.Taking.{bundle_of}
 use Rattle.dill_rules.specs.Directions.{is_send}
 use Rattle.dill_rules.specs.LinkAnswers.{is_on_stack}

@@ -1,12 +1,11 @@
 -- The link and the stack that a live number names, and what the stack refuses of a call.
-use Rattle.std.specs.Prelude.{ℕ, List, [], ◌∷◌, ◌++◌, Bool, true, false, Option, Some, None, option_map, option_to_list, if◌then◌else◌}
+use Rattle.std.specs.Prelude.{ℕ, List, [], ◌++◌, Bool, false, Option, Some, None, option_map, option_to_list, if◌then◌else◌}
 use Rattle.dill_base.specs.declared.errno.Errno.{Errno}
 use Rattle.dill_calls.specs.declared.call.Call.{Call}
 use Rattle.dill_calls.specs.declared.call.Call.TheVariants as calls
 use Rattle.dill_calls.specs.CallTable.{word_of, named_by}
 use Rattle.dill_http.specs.Writing.{fault_of}
-use Rattle.dill_stack.specs.declared.layer.Top.{Top}
-use Rattle.dill_stack.specs.Interface.{Held, top, send_fault, line_fault, done_fault, read_fault, attach_fault, detach_fault}
+use Rattle.dill_stack.specs.Interface.{Held, send_fault, line_fault, done_fault, read_fault, attach_fault, detach_fault}
 use Rattle.dill_stack.specs.Attaching.{greet_fault}
 use Rattle.dill_stack.specs.Greeting.{is_wrong_offer, is_long_offer}
 use Rattle.dill_maps.specs.Maps.{if_some}

@@ -1,11 +1,9 @@
 -- The state: the world with the stamps of the answers and of the closings, and the steps from state to state.
-use Rattle.std.specs.Prelude.{ℕ, ◌+◌, ◌==◌, List, [], ◌∷◌, ◌++◌, length, map, filter, filter_map, fold, find, Bool, true, false, not, ◌&&◌, Option, Some, None, option_map, if◌then◌else◌, is_some, nat_lt, max}
+use Rattle.std.specs.Prelude.{ℕ, ◌+◌, ◌==◌, List, [], ◌∷◌, ◌++◌, length, map, filter, fold, find, Bool, true, false, not, ◌&&◌, Option, Some, None, option_map, if◌then◌else◌, is_some, nat_lt, max}
 use Rattle.std.specs.List.{list_any}
-use Rattle.dill_base.specs.declared.errno.Errno.{Errno}
 use Rattle.dill_calls.specs.declared.ran.LackPlace.{LackPlace}
 use Rattle.dill_calls.specs.declared.ran.Ran.{Ran}
 use Rattle.dill_calls.specs.Program.{Program}
-use Rattle.dill_scope.specs.declared.forest.Bundle.{Bundle}
 use Rattle.dill_scope.specs.Scopes as scopes
 use Rattle.dill_kernel.specs.declared.ready.Ready.{Ready}
 use Rattle.dill_kernel.specs.declared.replies.KernelReply.{KernelReply}

@@ -1,5 +1,5 @@
 -- What isn't stored of a state and yet belongs to it: all that came and went on each link, and how much its calls needed at most.
-use Rattle.std.specs.Prelude.{ℕ, ◌==◌, List, [], ◌∷◌, ◌++◌, fold, map, filter, filter_map, take, Bool, true, false, not, ◌&&◌, Option, Some, None, if◌then◌else◌, is_some, is_none, max}
+use Rattle.std.specs.Prelude.{ℕ, ◌==◌, List, [], ◌++◌, fold, map, filter, filter_map, take, false, not, ◌&&◌, Option, if◌then◌else◌, is_some, is_none, max}
 use Rattle.std.specs.List.{list_any}
 use Rattle.dill_calls.specs.declared.call.Call.{Call}
 use Rattle.dill_calls.specs.declared.ran.LackPlace.{LackPlace}
@@ -15,7 +15,6 @@ use Rattle.dill_stack.specs.declared.want.Want.TheVariants as wants
 use Rattle.dill_stack.specs.Dropping.{drop_limit}
 use Rattle.dill_stack.specs.Interface.{Held, need, head_need, parting_need, closing_need}
 use Rattle.dill_maps.specs.Maps.{if_some}
-use Rattle.dill_rules.specs.declared.coroutine.Coroutine.{Coroutine}
 use Rattle.dill_rules.specs.Links.{Link}
 use Rattle.dill_rules.specs.World.{World, coroutine_of, pending_call}
 use Rattle.dill_rules.specs.Directions.{asked, parting_of, is_handshake}
@@ -25,7 +24,7 @@ use Rattle.dill_rules.specs.Refusals.{refuse}
 use Rattle.dill_rules.specs.Turning.{move_of, resume, lack_met}
 use Rattle.dill_rules.specs.Trying.{may_need, next_try}
 use Rattle.dill_rules.specs.Hearing.{fitting}
-use Rattle.dill_rules.specs.State.{State, opening_state, next_turn, turned, expired, shut, woke, hear}
+use Rattle.dill_rules.specs.State.{State, opening_state, next_turn, turned, expired, shut, hear}
 
 -- Of a link, from its making on: all that came, all that was sent, the greatest need of the calls that were pending on it, and the greatest limit of these and of its receives that were answered at their entry.
 pub record Traffic : Type 0 where

@@ -1,18 +1,16 @@
 -- The tries of a round: for each kind of ask the links or calls of which it is due, by number, and which of them is next.
-use Rattle.std.specs.Prelude.{ℕ, ◌+◌, ◌==◌, List, [], ◌∷◌, ◌++◌, length, map, filter, filter_map, find, Bool, true, false, not, ◌&&◌, ◌||◌, Option, Some, None, if◌then◌else◌, is_some, nat_lt}
+use Rattle.std.specs.Prelude.{ℕ, ◌+◌, ◌==◌, List, [], ◌++◌, length, map, filter, filter_map, find, Bool, false, not, ◌&&◌, ◌||◌, Option, Some, None, if◌then◌else◌, is_some, nat_lt}
 use Rattle.std.specs.List.{list_any}
 use Rattle.dill_calls.specs.declared.call.Call.{Call}
 use Rattle.dill_calls.specs.declared.call.Call.TheVariants as calls
 use Rattle.dill_calls.specs.declared.word.Word.{Word}
-use Rattle.dill_calls.specs.declared.word.Word.TheVariants as words
 use Rattle.dill_calls.specs.CallTable.{word_of, named_by, gives_up}
 use Rattle.dill_kernel.specs.declared.replies.KernelAsk.{KernelAsk}
 use Rattle.dill_kernel.specs.declared.replies.KernelAsk.TheVariants as asks
 use Rattle.dill_stack.specs.Interface.{Held, needs_bytes, offered}
 use Rattle.dill_maps.specs.Maps.{if_some, first_some}
 use Rattle.dill_scope.specs.Scopes.{is_bundle}
-use Rattle.dill_rules.specs.declared.coroutine.Coroutine.{Coroutine}
-use Rattle.dill_rules.specs.Links.{Link, Links, is_listening, is_stream, connector}
+use Rattle.dill_rules.specs.Links.{Link, is_listening, is_stream, connector}
 use Rattle.dill_rules.specs.World.{World, Place, pending_call}
 use Rattle.dill_rules.specs.Directions.{is_receive, is_handshake}
 use Rattle.dill_rules.specs.LinkAnswers.{is_tcp_done, is_tcp_close}

@@ -3,7 +3,6 @@ use Rattle.std.specs.Prelude.{ℕ, List, Bool, true, false, ◌&&◌, Option, So
 use Rattle.dill_base.specs.declared.errno.Errno.{Errno}
 use Rattle.dill_calls.specs.declared.answer.Answer.{Answer}
 use Rattle.dill_calls.specs.declared.answer.Answer.TheVariants.{Number, Fault}
-use Rattle.dill_calls.specs.declared.call.Call.{Call}
 use Rattle.dill_calls.specs.declared.call.Call.TheVariants as calls
 use Rattle.dill_calls.specs.declared.ran.LackPlace.{LackPlace}
 use Rattle.dill_calls.specs.declared.ran.LackPlace.TheVariants.{Build, Entry}

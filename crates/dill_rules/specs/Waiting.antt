@@ -1,11 +1,10 @@
 -- Who waits, for how long the next wait may last, and when nobody can go on.
-use Rattle.std.specs.Prelude.{ℕ, length, List, [], ◌∷◌, map, filter_map, fold, find, Bool, true, false, not, ◌&&◌, ◌||◌, Option, Some, None, option_map, if◌then◌else◌, is_some, is_none, nat_lt, min}
+use Rattle.std.specs.Prelude.{ℕ, length, List, map, filter_map, find, Bool, not, ◌&&◌, ◌||◌, Option, Some, None, option_map, if◌then◌else◌, is_none, nat_lt, min}
 use Rattle.std.specs.List.{reduce, list_any}
 use Rattle.dill_calls.specs.declared.word.Word.{Word}
 use Rattle.dill_calls.specs.CallTable.{word_of}
 use Rattle.dill_kernel.specs.declared.ready.Limit.{Limit}
 use Rattle.dill_kernel.specs.declared.ready.Limit.TheVariants.{NoWait, Until, Forever}
-use Rattle.dill_maps.specs.Maps.{if_some}
 use Rattle.dill_rules.specs.declared.coroutine.Coroutine.{Coroutine}
 use Rattle.dill_rules.specs.World.{World, pending_call}
 use Rattle.dill_rules.specs.Naming.{uses_link}
