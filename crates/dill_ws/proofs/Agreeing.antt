@@ -1,16 +1,15 @@
 -- What the lines of a server's head say, tested and told.
-use Rattle.std.proofs.Common.{◌≡◌, ◌≤◌, ◌-◌, ◌++◌, ◌∷◌, [], ◌&&◌, not, ℕ, zero, suc, List, Bool, true, false, codes, length, take, drop, arith, sym, ap, ◌∙◌, refl, subst, append-nil, take-append-drop}
+use Rattle.std.proofs.Common.{◌≡◌, ◌≤◌, ◌-◌, ◌++◌, ◌∷◌, [], ◌&&◌, not, ℕ, zero, suc, List, Bool, true, false, codes, length, take, drop, arith, sym, ap, ◌∙◌, refl, take-append-drop}
 use Rattle.std.specs.Prelude.{bytes_eq, nat_lt}
 use Rattle.std.proofs.lemmas.Bool.{and_parts, and_from, lt-ltb}
 use Rattle.std.proofs.lemmas.Slice.Eq.{bytes_eq-Decides}
-use Rattle.std.proofs.lemmas.List.{take_all}
 use Rattle.dill_base.specs.declared.errno.Errno.{Errno}
 use Rattle.dill_base.specs.declared.errno.Errno.TheVariants.{Eproto}
 use Rattle.dill_base.specs.declared.errno.Front.{Front}
 use Rattle.dill_base.specs.declared.errno.Front.TheVariants.{Whole, Need, Fault}
 use Rattle.dill_base.specs.Reading.{IsFront}
 use Rattle.dill_http.specs.Laws.{LineLaws}
-use Rattle.dill_ws.specs.HeadLines.{head_limit, IsHeadText, HeadShows, lines_at, head_size, head_stop, head_front_by, judged_by, HasLineFront}
+use Rattle.dill_ws.specs.HeadLines.{head_limit, HeadShows, lines_at, head_size, head_stop, head_front_by, judged_by, HasLineFront}
 use Rattle.dill_ws.specs.Offers.{is_switch, is_agreement, is_upgrade, are_fields, has_field, has_item, named, accepts, only, passes, server_agrees}
 use Rattle.dill_ws.specs.Handshakes.{ServerSays, ServerHead, ServerSpells, server_front}
 use Rattle.dill_ws.proofs.HeadReads.{ReadsHead, whole_read, passing_again, shown_again, fault_shown}

@@ -1,5 +1,5 @@
 -- What the lines of a client's head say, tested and told.
-use Rattle.std.proofs.Common.{◌≡◌, ◌≤◌, ◌-◌, ◌++◌, ◌∷◌, [], ◌&&◌, ℕ, List, Bool, true, false, codes, length, take, drop, Option, Some, None, arith, sym, ap, ◌∙◌, refl, subst, append-nil, take-append-drop}
+use Rattle.std.proofs.Common.{◌≡◌, ◌++◌, ◌∷◌, [], ◌&&◌, ℕ, List, Bool, true, false, codes, length, take, drop, Option, Some, None, sym, ap, ◌∙◌, refl, subst, take-append-drop}
 use Rattle.std.specs.Prelude.{bytes_eq, IfSome, IfNone}
 use Rattle.std.proofs.lemmas.Bool.{and_parts, and_from}
 use Rattle.std.proofs.lemmas.Slice.Eq.{bytes_eq-Decides}
@@ -7,11 +7,10 @@ use Rattle.dill_base.specs.declared.errno.Errno.{Errno}
 use Rattle.dill_base.specs.declared.errno.Errno.TheVariants.{Eproto}
 use Rattle.dill_base.specs.declared.errno.Front.{Front}
 use Rattle.dill_base.specs.declared.errno.Front.TheVariants as front
-use Rattle.dill_base.specs.Reading.{IsShown}
 use Rattle.dill_http.specs.Laws.{LineLaws}
 use Rattle.dill_ws.specs.declared.request.Asked.{Asked}
 use Rattle.dill_ws.specs.declared.request.Asked.TheVariants.{Whole, Need, Fault}
-use Rattle.dill_ws.specs.HeadLines.{IsHeadText, HeadShows, lines_at, head_size, head_stop, head_front_by, judged_by, HasLineFront}
+use Rattle.dill_ws.specs.HeadLines.{HeadShows, lines_at, head_size, head_stop, head_front_by, judged_by, HasLineFront}
 use Rattle.dill_ws.specs.Offers.{is_get, is_key, is_offer, is_upgrade, are_fields, has_field, has_item, keys, versions, only, passes, or_nothing, client_asks, key_of}
 use Rattle.dill_ws.specs.Handshakes.{ClientSays, ClientHead, IsAsked, asked_by, client_front}
 use Rattle.dill_ws.proofs.HeadReads.{ReadsHead, whole_read, passing_again, lines_again, shown_again, fault_shown}

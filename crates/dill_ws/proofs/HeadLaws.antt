@@ -1,23 +1,20 @@
 -- What comes later changes no head that was judged.
-use Rattle.std.proofs.Common.{◌≡◌, ◌<◌, ◌≤◌, ◌+◌, ◌-◌, ◌++◌, ◌∷◌, [], ◌⊎◌, inl, inr, ℕ, suc, zero, List, Bool, true, false, length, take, drop, arith, sym, ap, ◌∙◌, refl, subst, append_assoc, length-append, take-append-drop}
+use Rattle.std.proofs.Common.{◌≡◌, ◌<◌, ◌≤◌, ◌+◌, ◌-◌, ◌++◌, ◌∷◌, [], ◌⊎◌, inl, inr, ℕ, List, Bool, true, length, take, drop, arith, sym, ap, ◌∙◌, refl, subst, append_assoc, length-append, take-append-drop}
 use Rattle.std.proofs.lemmas.Bool.{cases_lt}
 use Rattle.std.proofs.lemmas.List.{take-append-le, length-take-le, append-nil, take_all}
 use Rattle.dill_base.specs.declared.errno.Errno.{Errno}
-use Rattle.dill_base.specs.declared.errno.Errno.TheVariants.{Eproto}
 use Rattle.dill_base.specs.declared.errno.Front.{Front}
 use Rattle.dill_base.specs.declared.errno.Front.TheVariants as front
 use Rattle.dill_http.specs.Lines.{front_of_line}
 use Rattle.dill_http.specs.Laws.{LineLaws}
 use Rattle.dill_ws.specs.declared.request.Asked.{Asked}
-use Rattle.dill_ws.specs.declared.request.Asked.TheVariants.{Whole, Need, Fault}
-use Rattle.dill_ws.specs.HeadLines.{lines_text, lines_at, behind, head_limit, head_stop, head_size, head_front_by, judged_by, at_limit, IsHeadText}
+use Rattle.dill_ws.specs.declared.request.Asked.TheVariants.{Whole, Need}
+use Rattle.dill_ws.specs.HeadLines.{lines_text, lines_at, behind, head_limit, head_stop, head_size, head_front_by, at_limit, IsHeadText}
 use Rattle.dill_ws.specs.Offers.{client_asks, server_agrees, key_of}
 use Rattle.dill_ws.specs.Handshakes.{ClientHead, ServerHead, asked_by, client_front, server_front}
 use Rattle.dill_ws.specs.HandshakeLaws.{IsAnswered, IsJudged}
 use Rattle.dill_ws.proofs.Texts.{Splits, split_text, IsMade, is_made, no_line_bad}
 use Rattle.dill_ws.proofs.HeadReads.{early, stop_at, stop_settled, stop_late, not_open, front_part, ReadsHead, whole_read, passing_again, failing_again, front_of_fault, HasHead, head_there, lines_again, judged_fault, limited_fault, open_is_short}
-use Rattle.dill_ws.proofs.Asking.{client_again}
-use Rattle.dill_ws.proofs.Agreeing.{server_again}
 
 early_more : (u v : List ℕ) → length u < head_limit → early (u ++ v) ≡ early u ++ take (head_limit - 1 - length u) v
 early_more u v h = front_part (head_limit - 1) u v (omega arith) ∙ ap (λ x. x ++ take (head_limit - 1 - length u) v) (sym (take_all (head_limit - 1) u (omega arith)))

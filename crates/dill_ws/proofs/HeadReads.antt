@@ -1,16 +1,16 @@
 -- What stands at the front of the bytes is what the heads say.
 use Rattle.std.proofs.Common.{◌≡◌, ◌<◌, ◌≤◌, ◌+◌, ◌-◌, ◌++◌, ◌∷◌, [], ◌⊎◌, inl, inr, ℕ, suc, zero, List, Bool, true, false, ltb, length, take, drop, get_or, arith, sym, ap, ◌∙◌, refl, subst, if◌then◌else◌, append_assoc, length-append, take-append-drop, lt-ltb, le-ltb}
-use Rattle.std.proofs.lemmas.Bool.{cases_lt, ltb-true}
-use Rattle.std.proofs.lemmas.List.{length-drop, length-take-le, take_at, drop_at, append-nil, take-append-le, take_all, take_more, drop_more}
-use Rattle.std.proofs.Math.Seq.{take-append-add, take-add}
+use Rattle.std.proofs.lemmas.Bool.{cases_lt}
+use Rattle.std.proofs.lemmas.List.{length-take-le, take_at, append-nil, take-append-le, take_all, take_more}
+use Rattle.std.proofs.Math.Seq.{take-append-add}
 use Rattle.dill_base.specs.declared.errno.Errno.{Errno}
 use Rattle.dill_base.specs.declared.errno.Errno.TheVariants.{Eproto, Emsgsize}
 use Rattle.dill_base.specs.declared.errno.Front.{Front}
 use Rattle.dill_base.specs.declared.errno.Front.TheVariants.{Whole, Need, Fault}
 use Rattle.dill_base.specs.Reading.{IsFront, IsShown}
-use Rattle.dill_http.specs.Lines.{line_limit, crlf, front_of_line, LineSpells, LineShows, IsCutLine}
+use Rattle.dill_http.specs.Lines.{line_limit, crlf, front_of_line, LineSpells, LineShows}
 use Rattle.dill_http.specs.Laws.{LineLaws}
-use Rattle.dill_ws.specs.HeadLines.{are_full, lines_text, next_line, lines_at, behind, head_limit, at_limit, limited, head_stop, head_size, judged_by, head_front_by, HasLineFront, IsHeadText, IsCutHead, IsTooLong, HasBadLine, IsBadHead, HeadShows}
+use Rattle.dill_ws.specs.HeadLines.{are_full, lines_text, lines_at, behind, head_limit, at_limit, limited, head_stop, head_size, judged_by, head_front_by, HasLineFront, IsHeadText, IsCutHead, IsTooLong, HasBadLine, HeadShows}
 use Rattle.dill_ws.proofs.Texts.{Splits, split_text, IsMade, is_made, no_line_open, no_line_bad, no_line_empty, empty_line, half_end, Ends, ends_at}
 
 pub limited_short : (n : ℕ) (f last : Front) → n < head_limit → limited n f last ≡ f

@@ -1,5 +1,5 @@
 -- The lines at the front of the bytes, one after the other.
-use Rattle.std.proofs.Common.{◌≡◌, ◌<◌, ◌≤◌, ◌+◌, ◌-◌, ◌++◌, ◌∷◌, [], ℕ, suc, zero, List, Bool, true, false, eqb, length, take, drop, Option, Some, None, arith, sym, ap, ◌∙◌, refl, subst, if◌then◌else◌}
+use Rattle.std.proofs.Common.{◌≡◌, ◌<◌, ◌≤◌, ◌-◌, ◌∷◌, [], ℕ, suc, zero, List, Bool, true, false, eqb, length, take, drop, Option, Some, None, arith, sym, ap, ◌∙◌, refl, if◌then◌else◌}
 use Rattle.std.specs.Prelude.{IfSome, IfNone}
 use Rattle.std.proofs.lemmas.List.{length-drop}
 use Rattle.dill_base.specs.declared.errno.Front.{Front}

@@ -1,5 +1,5 @@
 -- The lines of a head up to the empty one (RFC 9112, sections 2.1 and 2.2), with limits on each and on all.
-use Rattle.std.specs.Prelude.{◌≡◌, ◌⊎◌, ◌+◌, ◌-◌, ◌<◌, ◌≤◌, ◌++◌, ◌∷◌, [], ◌&&◌, if◌then◌else◌, IsTrue, ℕ, zero, suc, Bool, true, false, List, length, take, drop, nat_lt, nat_le, ltb, eqb, Option, Some, None}
+use Rattle.std.specs.Prelude.{◌≡◌, ◌⊎◌, ◌+◌, ◌-◌, ◌<◌, ◌≤◌, ◌++◌, ◌∷◌, [], ◌&&◌, if◌then◌else◌, ℕ, zero, suc, Bool, true, false, List, length, take, drop, nat_lt, nat_le, ltb, eqb, Option, Some, None}
 use Rattle.std.specs.List.{list_all, flat_map}
 use Rattle.dill_base.specs.declared.errno.Errno.{Errno}
 use Rattle.dill_base.specs.declared.errno.Errno.TheVariants.{Eproto, Emsgsize}

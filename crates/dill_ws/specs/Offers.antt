@@ -1,5 +1,5 @@
 -- What the lines of an opening handshake say (RFC 6455, sections 4.2.1 and 4.2.2), with field names and tokens without case.
-use Rattle.std.specs.Prelude.{◌≡◌, ◌++◌, ◌∷◌, [], ◌&&◌, ◌-◌, not, if◌then◌else◌, IsTrue, ℕ, Bool, true, false, List, length, map, take, drop, codes, bytes_eq, is_some, nat_eq, nat_lt, Option, Some, None, Result, Ok, Err}
+use Rattle.std.specs.Prelude.{◌∷◌, [], ◌&&◌, ◌-◌, not, if◌then◌else◌, ℕ, Bool, false, List, length, map, take, drop, codes, bytes_eq, is_some, nat_eq, nat_lt, Option, Some, None, Result, Ok, Err}
 use Rattle.std.specs.List.{list_all, list_any, filter_map, prefix_len, suffix_len, slice_split, starts_with, ends_with}
 use Rattle.std.specs.Char.{to_ascii_lowercase}
 use Rattle.base64.specs.declared.decode.DecodeError.{DecodeError}

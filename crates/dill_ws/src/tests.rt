@@ -134,21 +134,28 @@ fn close_payloads_have_a_code_that_may_be_sent_and_a_text(rt: HostRuntime) {
     }
 }
 
-/// The head of the standard's own client, with these lines behind the first.
-fn request(alloc: Global, first: &[u8], fields: &[u8]) -> Result<Vec<u8>, Fail> {
-    let mut head = Vec::from_slice(alloc, first)?;
-    head.extend_from_slice(b"\r\n")?;
-    head.extend_from_slice(fields)?;
+const HOST: &[u8; 9] = b"Host: h\r\n";
+
+const WANTS: &[u8; 53] = b"Upgrade: websocket\r\nConnection: keep-alive, Upgrade\r\n";
+
+const KEY_LINE: &[u8; 45] = b"Sec-WebSocket-Key: dGhlIHNhbXBsZSBub25jZQ==\r\n";
+
+const VERSION: &[u8; 27] = b"Sec-WebSocket-Version: 13\r\n";
+
+/// These lines, and the empty one.
+fn lines(alloc: Global, lines: &[&[u8]]) -> Result<Vec<u8>, Fail> {
+    let mut head = Vec::new(alloc);
+    for line in lines {
+        head.extend_from_slice(line)?;
+    }
     head.extend_from_slice(b"\r\n")?;
     Ok(head)
 }
 
-const FIELDS: &[u8; 134] =
-    b"Host: h\r\nUpgrade: websocket\r\nConnection: keep-alive, Upgrade\r\nSec-WebSocket-Key: dGhlIHNhbXBsZSBub25jZQ==\r\nSec-WebSocket-Version: 13\r\n";
-
 #[test]
 fn the_standards_handshake_is_read_and_answered(rt: HostRuntime) -> Result<(), Fail> {
-    let mut came = request(rt.alloc(), b"GET /chat HTTP/1.1", FIELDS)?;
+    let first = b"GET /chat HTTP/1.1\r\n".as_slice();
+    let mut came = lines(rt.alloc(), &[first, HOST, WANTS, KEY_LINE, VERSION])?;
     let used = came.len();
     came.extend_from_slice(b"\x81\x85")?;
     assert_eq!(rt;
@@ -220,40 +227,33 @@ fn resources_and_hosts_of_another_form_or_too_long_are_refused(rt: HostRuntime) 
 
 #[test]
 fn a_client_that_asks_otherwise_is_refused(rt: HostRuntime) -> Result<(), Fail> {
-    let rows: [(&[u8], &[u8]); 8] = [
-        (b"get / HTTP/1.1", FIELDS),
-        (b"GET / HTTP/1.0", FIELDS),
-        (b"GET / HTTP/1.1", b"Host: h\r\n"),
-        (b"GET / HTTP/1.1", b"no field\r\n"),
-        (
-            b"GET / HTTP/1.1",
-            b"Upgrade: websocket\r\nConnection: Upgrade\r\nSec-WebSocket-Key: dGhlIHNhbXBsZSBub25jZQ==\r\nSec-WebSocket-Version: 13\r\n",
-        ),
-        (
-            b"GET / HTTP/1.1",
-            b"Host: h\r\nUpgrade: websocket\r\nConnection: Upgrade\r\nSec-WebSocket-Key: dGhlIHNhbXBsZSBub25jZR==\r\nSec-WebSocket-Version: 13\r\n",
-        ),
-        (
-            b"GET / HTTP/1.1",
-            b"Host: h\r\nUpgrade: websocket\r\nConnection: Upgrade\r\nSec-WebSocket-Key: dGhlIHNhbXBsZSBub25jZQ==\r\nSec-WebSocket-Version: 8\r\n",
-        ),
-        (
-            b"GET / HTTP/1.1",
-            b"Host: h\r\nUpgrade: websocket\r\nConnection: Upgrade\r\nSec-WebSocket-Key: dGhlIHNhbXBsZSBub25jZQ==\r\nSec-WebSocket-Version: 13\r\nSec-WebSocket-Version: 13\r\n",
-        ),
+    let get = b"GET / HTTP/1.1\r\n".as_slice();
+    let bad_key = b"Sec-WebSocket-Key: dGhlIHNhbXBsZSBub25jZR==\r\n".as_slice();
+    let rows: [[&[u8]; 5]; 8] = [
+        [b"get / HTTP/1.1\r\n", HOST, WANTS, KEY_LINE, VERSION],
+        [b"GET / HTTP/1.0\r\n", HOST, WANTS, KEY_LINE, VERSION],
+        [get, b"no field\r\n", WANTS, KEY_LINE, VERSION],
+        [get, b"", WANTS, KEY_LINE, VERSION],
+        [get, HOST, b"Connection: Upgrade\r\n", KEY_LINE, VERSION],
+        [get, HOST, WANTS, bad_key, VERSION],
+        [get, HOST, WANTS, KEY_LINE, KEY_LINE],
+        [get, HOST, WANTS, KEY_LINE, b"Sec-WebSocket-Version: 8\r\n"],
     ];
-    for (first, fields) in rows {
-        let head = request(rt.alloc(), first, fields)?;
+    for row in rows {
+        let head = lines(rt.alloc(), &row)?;
         assert_eq!(rt; read_client_head(&head), Asked::Fault(Errno::Eproto));
     }
-    let cased = request(
-        rt.alloc(),
-        b"GET / HTTP/1.1",
-        b"host: h\r\nUPGRADE: a,\tWebSocket \r\nconnection: UPGRADE\r\nsec-websocket-KEY:\tdGhlIHNhbXBsZSBub25jZQ== \r\nSec-WebSocket-Version: 13\r\n",
-    )?;
-    let used = cased.len();
+    Ok(())
+}
+
+#[test]
+fn names_and_tokens_are_compared_without_case(rt: HostRuntime) -> Result<(), Fail> {
+    let wants = b"UPGRADE: a,\tWebSocket \r\nconnection: UPGRADE\r\n".as_slice();
+    let get = b"GET / HTTP/1.1\r\n".as_slice();
+    let head = lines(rt.alloc(), &[get, b"host: h\r\n", wants, KEY_LINE, VERSION])?;
+    let used = head.len();
     assert_eq!(rt;
-        read_client_head(&cased),
+        read_client_head(&head),
         Asked::Whole {
             key: ASKED_KEY,
             used
@@ -268,11 +268,16 @@ fn a_head_without_its_end_is_refused_at_its_last_byte(rt: HostRuntime) -> Result
     for _line in 0..3_000u32 {
         head.extend_from_slice(b"a: b\r\n")?;
     }
-    assert_eq!(rt; read_client_head(&head[..16_383]), Asked::Need);
-    assert_eq!(rt;
-        read_client_head(&head[..16_384]),
-        Asked::Fault(Errno::Emsgsize)
-    );
+    let rows = [
+        (16_383, Asked::Need),
+        (16_384, Asked::Fault(Errno::Emsgsize)),
+    ];
+    for (count, want) in rows {
+        let Some(came) = head.get(..count) else {
+            return Err(Fail::from("too short"));
+        };
+        assert_eq!(rt; read_client_head(came), want);
+    }
     assert_eq!(rt;
         read_client_head(b"GET / HTTP/1.1\n"),
         Asked::Fault(Errno::Eproto)
@@ -281,15 +286,28 @@ fn a_head_without_its_end_is_refused_at_its_last_byte(rt: HostRuntime) -> Result
 }
 
 #[test]
-fn a_server_that_answers_otherwise_is_refused(rt: HostRuntime) {
-    let rows: [&[u8]; 5] = [
-        b"HTTP/1.1 200 OK\r\nUpgrade: websocket\r\nConnection: Upgrade\r\nSec-WebSocket-Accept: s3pPLMBiTxaQ9kYGzzhZRbK+xOo=\r\n\r\n",
-        b"HTTP/1.0 101 OK\r\nUpgrade: websocket\r\nConnection: Upgrade\r\nSec-WebSocket-Accept: s3pPLMBiTxaQ9kYGzzhZRbK+xOo=\r\n\r\n",
-        b"HTTP/1.1 101 OK\r\nUpgrade: h2c\r\nConnection: Upgrade\r\nSec-WebSocket-Accept: s3pPLMBiTxaQ9kYGzzhZRbK+xOo=\r\n\r\n",
-        b"HTTP/1.1 101 OK\r\nUpgrade: websocket\r\nConnection: Upgrade\r\nSec-WebSocket-Accept: s3pPLMBiTxaQ9kYGzzhZRbK+xOo=\r\nSec-WebSocket-Protocol: chat\r\n\r\n",
-        b"HTTP/1.1 101 OK\r\nUpgrade: websocket\r\nConnection: Upgrade\r\nSec-WebSocket-Accept: s3pPLMBiTxaQ9kYGzzhZRbK+xOo=\r\nSec-WebSocket-Extensions: x\r\n\r\n",
+fn a_server_that_answers_otherwise_is_refused(rt: HostRuntime) -> Result<(), Fail> {
+    let accept = b"Sec-WebSocket-Accept: s3pPLMBiTxaQ9kYGzzhZRbK+xOo=\r\n".as_slice();
+    let first = b"HTTP/1.1 101 OK\r\n".as_slice();
+    let rows: [[&[u8]; 4]; 6] = [
+        [b"HTTP/1.1 200 OK\r\n", WANTS, accept, b""],
+        [b"HTTP/1.0 101 OK\r\n", WANTS, accept, b""],
+        [
+            first,
+            b"Upgrade: h2c\r\nConnection: Upgrade\r\n",
+            accept,
+            b"",
+        ],
+        [first, WANTS, accept, accept],
+        [first, WANTS, accept, b"Sec-WebSocket-Protocol: chat\r\n"],
+        [first, WANTS, accept, b"Sec-WebSocket-Extensions: x\r\n"],
     ];
-    for head in rows {
-        assert_eq!(rt; read_server_head(head, ACCEPT), Front::Fault(Errno::Eproto));
+    for row in rows {
+        let head = lines(rt.alloc(), &row)?;
+        assert_eq!(rt;
+            read_server_head(&head, ACCEPT),
+            Front::Fault(Errno::Eproto)
+        );
     }
+    Ok(())
 }

@@ -1,6 +1,6 @@
 use Rattle.std.proofs.Common.{arith, sym, ◌∙◌}
 use Rattle.std.proofs.lemmas.List.{length-take-le}
-use Rattle.dill_ws.proofs.HeadReads.{stop_early, stop_late, stop_settled, not_open, line_of_short, line_of_long}
+use Rattle.dill_ws.proofs.HeadReads.{stop_early, stop_late, stop_settled, not_open, line_of_short}
 use Rattle.dill_ws.proofs.reading.stop_of_head.Goals as goal
 
 pub returns-then-bytes-lt-HEAD_LIMIT-clause-stop : goal.returns-then-bytes-lt-HEAD_LIMIT-clause-stop
