@@ -1,3 +1,4 @@
-pub mod Spellings
-pub mod Passings
 pub mod MessageReads
+pub mod Passings
+pub mod Spellings
+pub mod Joinings

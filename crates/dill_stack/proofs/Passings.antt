@@ -15,7 +15,7 @@ use Rattle.dill_ws.specs.FrameLaws.{FrameLaws, AreBytes, payload_at}
 use Rattle.dill_ws.specs.Fronts.{head_front, head_at, may_start, bits_of, length_size, told, is_least, key_size, mask_bit}
 use Rattle.dill_stack.specs.Layers.{WsLayer}
 use Rattle.dill_stack.specs.WsReading.{Passed, passed, passed_within, after_pass, then_passed, nothing_passed, pass_by_front, pass_of, with_part, ws_front, WsFront, Whole, Short, Refused, by_head, is_fault, passes_limit, part_of, is_data}
-use Rattle.dill_stack.specs.Passing.{is_passing, pings_of, begun, with_parts, IsPassed, PassesFrames, is_joining, AreFollowing}
+use Rattle.dill_stack.specs.Passing.{is_passing, pings_of, begun, with_parts, IsPassed, PassesFrames, is_joining, AreFollowing, joining_behind}
 
 -- a whole frame at the front, by its head
 pub record FrameAt (ws : WsLayer) (u : List ℕ) (part : Part) (used : ℕ) : Type 0 where
@@ -38,7 +38,7 @@ by_front ws u part used head.Need true r e = cc
 by_front ws u part used head.Need false r e = cc
 by_front ws u part used (head.Fault x) over r e = cc
 
-frame_at : (limit : ℕ) (ws : WsLayer) (u : List ℕ) (part : Part) (used : ℕ) → ws_front limit ws u ≡ Whole part used → FrameAt ws u part used
+pub frame_at : (limit : ℕ) (ws : WsLayer) (u : List ℕ) (part : Part) (used : ℕ) → ws_front limit ws u ≡ Whole part used → FrameAt ws u part used
 unfolding ws_front
 frame_at limit ws u part used e = by_front ws u part used (head_front ws.side (is_some ws.joining) u) (passes_limit limit ws u) refl e
 
@@ -75,7 +75,7 @@ both_follow j k fin opcode n bits e f = by_test (leb 8 opcode) e f
     by_test false x y = y
 
 -- what is read at the front may come here
-follows_at : (laws : FrameLaws) (ws : WsLayer) (u : List ℕ) (part : Part) (used : ℕ) → AreBytes u → FrameAt ws u part used → may_follow (is_some ws.joining) part.fin part.opcode (length part.payload) ≡ true
+pub follows_at : (laws : FrameLaws) (ws : WsLayer) (u : List ℕ) (part : Part) (used : ℕ) → AreBytes u → FrameAt ws u part used → may_follow (is_some ws.joining) part.fin part.opcode (length part.payload) ≡ true
 follows_at laws ws u part used b a =
     let f : Frame (peer_of ws.side) a.h.fin a.h.opcode (payload_at a.h u) (take (a.h.start + a.h.length) u) = laws.framed ws.side (is_some ws.joining) u a.h b a.read a.there in
     subst (λ (p : Part). may_follow (is_some ws.joining) p.fin p.opcode (length p.payload) ≡ true) (sym a.part_is)
@@ -168,7 +168,7 @@ pings_more part parts = by_test (part.opcode == 9)
     by_test true = refl
     by_test false = refl
 
-bytes_behind : (n : ℕ) (u : List ℕ) → AreBytes u → AreBytes (drop n u)
+pub bytes_behind : (n : ℕ) (u : List ℕ) → AreBytes u → AreBytes (drop n u)
 bytes_behind n u b k = subst (λ x. x < 256) (sym (get_or-drop n u k 0)) (b (n + k))
 
 -- a pass at the front and all passes behind it
@@ -180,6 +180,7 @@ pass_then limit ws u part used r l f m j p i =
       there = omega (arith, i.there, length-drop used u);
       frames = (take used u, take r.used (drop used u), f, take-add used r.used u, i.frames);
       follows = (m, subst (λ b. AreFollowing b i.parts) j i.follows);
+      joining = i.joining ∙ ap (λ b. joining_behind b i.parts) j;
       passing = rw p i.passing;
       pings = ap (λ x. pings_of (part ∷ []) ++ x) i.pings ∙ sym (pings_more part i.parts);
       layer = i.layer ∙ sym (parts_more part i.parts ws);
@@ -187,7 +188,7 @@ pass_then limit ws u part used r l f m j p i =
     }
 
 nothing_is : (limit : ℕ) (ws : WsLayer) (u : List ℕ) → pass_by_front ws (ws_front limit ws u) ≡ None → IsPassed limit ws u (nothing_passed ws)
-nothing_is limit ws u e = record { parts = []; there = omega arith; frames = refl; follows = tt; passing = refl; pings = refl; layer = unjoined ws; last = e }
+nothing_is limit ws u e = record { parts = []; there = omega arith; frames = refl; follows = tt; joining = refl; passing = refl; pings = refl; layer = unjoined ws; last = e }
 
 empty_front : (limit : ℕ) (ws : WsLayer) → pass_by_front ws (ws_front limit ws []) ≡ None
 unfolding ws_front head_front
@@ -197,7 +198,7 @@ grows : (ws : WsLayer) (part : Part) (w : List ℕ) → Frame (peer_of ws.side) 
 grows ws part w f = omega (arith, ap length f.whole)
 
 -- the frame at the front
-frame_of : (laws : FrameLaws) (ws : WsLayer) (u : List ℕ) (part : Part) (used : ℕ) → AreBytes u → FrameAt ws u part used → Frame (peer_of ws.side) part.fin part.opcode part.payload (take used u) × (used ≤ length u)
+pub frame_of : (laws : FrameLaws) (ws : WsLayer) (u : List ℕ) (part : Part) (used : ℕ) → AreBytes u → FrameAt ws u part used → Frame (peer_of ws.side) part.fin part.opcode part.payload (take used u) × (used ≤ length u)
 frame_of laws ws u part used b a =
     let f : Frame (peer_of ws.side) a.h.fin a.h.opcode (payload_at a.h u) (take (a.h.start + a.h.length) u) = laws.framed ws.side (is_some ws.joining) u a.h b a.read a.there in (
       subst (λ n. Frame (peer_of ws.side) part.fin part.opcode part.payload (take n u)) (sym a.used_is)

@@ -26,6 +26,11 @@ abbrev pub AreFollowing : Bool → List Part → Type 0
 AreFollowing joining [] = Unit {0}
 AreFollowing joining (part ∷ parts) = (may_follow joining part.fin part.opcode (length part.payload) ≡ true) × AreFollowing (is_joining joining part) parts
 
+-- a message is being joined behind these parts
+abbrev pub joining_behind : Bool → List Part → Bool
+joining_behind joining [] = joining
+joining_behind joining (part ∷ parts) = joining_behind (is_joining joining part) parts
+
 -- the payloads of the pings, in their order
 abbrev pub pings_of : List Part → List (List ℕ)
 pings_of parts = map (λ part. part.payload) (filter (λ part. part.opcode == 9) parts)
@@ -45,6 +50,7 @@ pub record IsPassed (limit : ℕ) (ws : WsLayer) (u : List ℕ) (p : Passed) : T
   pub there : p.used ≤ length u
   pub frames : AreFrames (peer_of ws.side) parts (take p.used u)
   pub follows : AreFollowing (is_some ws.joining) parts
+  pub joining : is_some p.ws.joining ≡ joining_behind (is_some ws.joining) parts
   pub passing : list_all is_passing parts ≡ true
   pub pings : p.pings ≡ pings_of parts
   pub layer : p.ws ≡ with_parts parts ws
