@@ -1,6 +1,6 @@
 -- A message that is given is the frames of one message.
-use Rattle.std.proofs.Common.{◌≡◌, ◌<◌, ◌≤◌, ◌+◌, ◌-◌, [], ◌∷◌, ◌++◌, List, ℕ, zero, suc, length, take, drop, arith, sym, ap, ◌∙◌, refl, subst, Bool, true, false, not, ◌&&◌, ◌||◌, Some, None, Option, inl, inr, ◌⊎◌, leb, ltb, eqb, append_assoc, append-nil, length-append}
-use Rattle.std.specs.Prelude.{◌==◌, if◌then◌else◌, is_some, is_none, map, filter, flat_map, replicate, nat_lt, cond, IsUtf8}
+use Rattle.std.proofs.Common.{◌≡◌, ◌≤◌, ◌+◌, ◌-◌, [], ◌∷◌, ◌++◌, List, ℕ, zero, suc, length, take, drop, arith, sym, ap, ◌∙◌, refl, subst, Bool, true, false, not, ◌&&◌, ◌||◌, Some, None, inl, inr, ◌⊎◌, leb, eqb, append_assoc, append-nil, length-append}
+use Rattle.std.specs.Prelude.{◌==◌, if◌then◌else◌, is_some, is_none, map, flat_map, replicate, cond, IsUtf8}
 use Rattle.std.specs.List.{list_all}
 use Rattle.std.specs.Option.{unwrap_or}
 use Rattle.std.specs.Str.{is_utf8}
@@ -8,20 +8,19 @@ use Rattle.std.proofs.lemmas.Bool.{leb-true, eqb-true, eqb-false, ne_eqb}
 use Rattle.std.proofs.lemmas.Str.{IsUtf8-from_is_utf8}
 use Rattle.std.proofs.lemmas.List.{length-drop}
 use Rattle.std.proofs.Math.Seq.{take-add}
-use Rattle.dill_base.specs.declared.errno.Errno.{Errno}
 use Rattle.dill_base.specs.declared.errno.Errno.TheVariants.{Epipe, Eproto}
 use Rattle.dill_calls.specs.declared.answer.Answer.TheVariants.{Bytes}
 use Rattle.dill_ws.specs.declared.side.Side.{Side}
 use Rattle.dill_ws.specs.Closing.{close_of}
 use Rattle.dill_ws.specs.Frames.{Part, Frame, Joined, peer_of, data_parts, may_follow}
 use Rattle.dill_ws.specs.FrameLaws.{FrameLaws, AreBytes}
-use Rattle.dill_stack.specs.declared.want.ReadOut.{ReadOut}
 use Rattle.dill_stack.specs.declared.want.ReadOut.TheVariants.{Given, Need, Fault}
 use Rattle.dill_stack.specs.Layers.{Placed, Ws, WsLayer}
-use Rattle.dill_stack.specs.WsReading.{Passed, passed, pass_by_front, pass_of, with_part, ws_front, WsFront, Whole, Short, Refused, Shown, shown, shown_by, message_of, close_met, at_end, is_data}
-use Rattle.dill_stack.specs.Passing.{AreFrames, is_passing, begun, with_parts, IsPassed, AreFollowing, is_joining, joining_behind}
-use Rattle.dill_stack.specs.Read.{Outcome, outcome, read_ws, behind_passed}
+use Rattle.dill_stack.specs.WsReading.{Passed, passed, pass_by_front, pass_of, with_part, ws_front, WsFront, Whole, Short, Refused, Shown, shown, shown_by, message_of, close_met, is_data}
+use Rattle.dill_stack.specs.Passing.{AreFrames, is_passing, begun, IsPassed, AreFollowing, is_joining, joining_behind}
+use Rattle.dill_stack.specs.Read.{Outcome, outcome, behind_passed}
 use Rattle.dill_stack.specs.Joining.{JoinedStands, GivesJoined}
+use Rattle.dill_stack.proofs.Limits.{part_within}
 use Rattle.dill_stack.proofs.Passings.{frame_at, frame_of, follows_at, bytes_behind, passes_frames}
 
 -- the opcode of a part where a message is being joined, and where none is
@@ -302,7 +301,7 @@ same_one : (n : ℕ) → n ≡ 1 → (n == 1) ≡ true
 same_one n e = ap (λ k. k == 1) e
 
 -- the frames that were passed, and the last one of a message
-message_stands : (laws : FrameLaws) (limit : ℕ) (ws : WsLayer) (u m : List ℕ) (p : Passed) (s : Shown) → AreBytes u → ws.joining ≡ None → ws.joined ≡ [] → IsPassed limit ws u p → LastFrame limit p.ws (drop p.used u) m s → JoinedStands ws.side u m (p.used + s.used)
+message_stands : (laws : FrameLaws) (limit : ℕ) (ws : WsLayer) (u m : List ℕ) (p : Passed) (s : Shown) → AreBytes u → ws.joining ≡ None → ws.joined ≡ [] → IsPassed limit ws u p → LastFrame limit p.ws (drop p.used u) m s → JoinedStands ws.side limit u m (p.used + s.used)
 message_stands laws limit ws u m p s b j e i l =
     let v : List ℕ = drop p.used u in
     let bytes : AreBytes v = bytes_behind p.used u b in
@@ -321,7 +320,7 @@ message_stands laws limit ws u m p s b j e i l =
     message_joined i.parts l.last open_all i.passing (subst (λ x. OpcodeAt x l.last.opcode) state at) part_is ends in
     let text : m ≡ flat_map (λ q. q.payload) (data_parts i.parts) ++ l.last.payload = l.text ∙ ap (λ x. x ++ l.last.payload) joined in
     let used : p.used + s.used ≡ p.used + l.used = ap (λ x. p.used + x) l.used_is in
-    subst (JoinedStands ws.side u m) (sym used)
+    subst (JoinedStands ws.side limit u m) (sym used)
     (record {
       parts = i.parts ++ l.last ∷ [];
       opcode = first_opcode (data_parts i.parts) l.last;
@@ -329,6 +328,7 @@ message_stands laws limit ws u m p s b j e i l =
       frames = subst (AreFrames (peer_of ws.side) (i.parts ++ l.last ∷ [])) (sym (take-add p.used l.used u))
           (frames_behind (peer_of ws.side) i.parts l.last (take p.used u) (take l.used v) i.frames (subst (λ x. Frame (peer_of x) l.last.fin l.last.opcode l.last.payload (take l.used v)) side frame.0));
       joined = subst (Joined (i.parts ++ l.last ∷ []) (first_opcode (data_parts i.parts) l.last)) (sym text) whole;
+      short = omega (arith, ap length l.text, length-append p.ws.joined l.last.payload, part_within limit p.ws v l.last l.used l.front part_is);
       text = λ one. subst IsUtf8 (sym l.text) (IsUtf8-from_is_utf8 (p.ws.joined ++ l.last.payload)
           (utf8_where (unwrap_or p.ws.joining l.last.opcode == 1) (is_utf8 (p.ws.joined ++ l.last.payload)) l.fine (same_one (unwrap_or p.ws.joining l.last.opcode) (ap (λ x. unwrap_or x l.last.opcode) first ∙ one))));
     })
@@ -338,7 +338,7 @@ abbrev read_by : Bool → List Placed → WsLayer → List ℕ → Bool → ℕ 
 read_by met below ws u ended limit = if met then outcome 0 (Ws ws ∷ below) (Fault Epipe) else behind_passed below (passed limit ws u) (shown limit ended (passed limit ws u).ws (drop (passed limit ws u).used u))
 
 by_met : (laws : FrameLaws) (limit : ℕ) (below : List Placed) (ws : WsLayer) (u m : List ℕ) (ended met : Bool) → AreBytes u → ws.joining ≡ None → ws.joined ≡ []
-    → (read_by met below ws u ended limit).said ≡ Given (Bytes m) → JoinedStands ws.side u m (read_by met below ws u ended limit).used
+    → (read_by met below ws u ended limit).said ≡ Given (Bytes m) → JoinedStands ws.side limit u m (read_by met below ws u ended limit).used
 by_met laws limit below ws u m ended true b j e g = cc
 by_met laws limit below ws u m ended false b j e g =
     let p : Passed = passed limit ws u in

@@ -15,7 +15,7 @@ use Rattle.dill_stack.specs.declared.want.Want.{Want}
 use Rattle.dill_stack.specs.declared.want.Want.TheVariants.{Exact, Message, Request, Status, Field}
 use Rattle.dill_stack.specs.declared.want.ReadOut.{ReadOut}
 use Rattle.dill_stack.specs.declared.want.ReadOut.TheVariants.{Given, Need, Fault}
-use Rattle.dill_stack.specs.Layers.{is_first, is_behind, Place, BeforeFirst, AmongFields, BehindEmpty, TermLayer, HttpLayer, WsLayer, Placed, Prefix, Suffix, Term, Http, Ws}
+use Rattle.dill_stack.specs.Layers.{is_first, is_behind, Place, AmongFields, BehindEmpty, TermLayer, HttpLayer, WsLayer, Placed, Prefix, Suffix, Term, Http, Ws}
 use Rattle.dill_stack.specs.WsReading.{Passed, passed, Shown, shown}
 
 -- how many of the unread bytes are used, the layers after, the payloads of the pings that were passed, and the answer

@@ -1,5 +1,5 @@
 -- Words for stacks that are worked by hand.
-use Rattle.std.specs.Prelude.{ℕ, List, [], ◌∷◌, Bool, false, Result, Ok, Err}
+use Rattle.std.specs.Prelude.{ℕ, List, [], Bool, false, Result, Ok, Err}
 use Rattle.rand_core.specs.Stream.{Stream}
 use Rattle.dill_base.specs.declared.errno.Errno.{Errno}
 use Rattle.dill_frames.specs.declared.prefix.PrefixForm.{PrefixForm}
