@@ -57,6 +57,7 @@ dialed_by link (Some listener) net =
     if nat_le listener.backlog (length (queue_of listener.link net)) then unchanged net (Failed Refused)
     else record { after = dialed_to link listener net; reply = Done }
 
+-- a connection, at a link that is not there yet
 abbrev pub connected : ℕ → Address → Network → Outcome
 connected link address net =
     if is_there link net then unchanged net (Failed Other)
@@ -76,6 +77,7 @@ taken_from listener link net =
     if length (queue_of listener net) == 0 then unchanged net NotYet
     else record { after = record net { pairs = first_changed (waits_at listener) (linked link) net.pairs }; reply = Done }
 
+-- a link for the oldest end in the queue of a listener
 abbrev pub accepted : ℕ → ℕ → Network → Outcome
 accepted listener link net =
     if is_some (listener_at listener net) && not (is_there link net) then taken_from listener link net
@@ -85,6 +87,7 @@ accepted listener link net =
 abbrev pub fitting : List ℕ → End → List ℕ
 fitting bytes other = take (capacity - length other.held) bytes
 
+-- these bytes came to the end
 abbrev pub with_held : List ℕ → End → End
 with_held bytes end = record end { held = end.held ++ bytes }
 
@@ -104,9 +107,11 @@ written_by link bytes (Some pair) net =
     if (own_end link pair).shut || is_closed (other_end link pair).place then unchanged net (Failed Reset)
     else written_to link pair (fitting bytes (other_end link pair)) net
 
+-- a write at this link
 abbrev pub written : ℕ → List ℕ → Network → Outcome
 written link bytes net = written_by link bytes (stream_at link net) net
 
+-- so many bytes that came were read
 abbrev pub without_front : ℕ → End → End
 without_front count end = record end { held = drop count end.held }
 
@@ -125,15 +130,18 @@ read_piece link pair count net = record {
 abbrev pub read_nothing : ℕ → Pair → Network → Outcome
 read_nothing link pair net = unchanged net (if (other_end link pair).shut || is_closed (other_end link pair).place then AtEnd else NotYet)
 
+-- what is there is read, as far as the cut and the buffer reach
 abbrev pub read_by : ℕ → ℕ → Option Pair → Network → Outcome
 read_by link most None net = unchanged net (Failed Other)
 read_by link most (Some pair) net =
     if length (own_end link pair).held == 0 then read_nothing link pair net
     else read_piece link pair (min (min net.cut most) (length (own_end link pair).held)) net
 
+-- a read at this link, of at most so many bytes
 abbrev pub read : ℕ → ℕ → Network → Outcome
 read link most net = read_by link most (stream_at link net) net
 
+-- the end sends no more
 abbrev pub with_shut : End → End
 with_shut end = record end { shut = true }
 
@@ -145,6 +153,7 @@ shut_by link (Some pair) net = record {
   reply = Done;
 }
 
+-- a shut at this link
 abbrev pub shut : ℕ → Network → Outcome
 shut link net = shut_by link (stream_at link net) net
 
@@ -173,11 +182,13 @@ abbrev pub with_refused_marks : List Pair → Network → Network
 with_refused_marks [] net = net
 with_refused_marks (pair ∷ pairs) net = with_refused_marks pairs (with_mark true true pair.dialed.place net)
 
+-- The address is free, and the ends in the queue are closed.
 abbrev pub listener_closed : ℕ → Network → Network
 listener_closed link net =
     with_refused_marks (queue_of link net)
     (without_link link (record net { listeners = filter (λ l. not (l.link == link)) net.listeners; pairs = map (refused_at link) net.pairs }))
 
+-- the stream at this link is closed, if there is one
 abbrev pub closed_by : ℕ → Option Pair → Network → Network
 closed_by link None net = net
 closed_by link (Some pair) net = stream_closed link pair net

@@ -24,11 +24,13 @@ pub record Pair : Type 0 where
   pub dialed : End
   pub taken : End
 
+-- a listener: at most so many ends wait in its queue
 pub record Listener : Type 0 where
   pub link : ℕ
   pub address : Address
   pub backlog : ℕ
 
+-- the whole network; each connection is a pair until both its ends are closed
 pub record Network : Type 0 where
   -- the most bytes of one read
   pub cut : ℕ
@@ -39,17 +41,21 @@ pub record Network : Type 0 where
   -- those that connected first come first
   pub pairs : List Pair
 
+-- a network in which nothing has happened, with reads of at most so many bytes
 abbrev pub opening : ℕ → Network
 opening cut = record { cut = cut; moment = 0; marks = []; listeners = []; pairs = [] }
 
+-- the end is closed
 abbrev pub is_closed : Place → Bool
 is_closed Closed = true
 is_closed _ = false
 
+-- the end is at this link
 abbrev pub is_at : ℕ → Place → Bool
 is_at link (Live n) = n == link
 is_at link _ = false
 
+-- the end waits in the queue of this listener
 abbrev pub is_queued_at : ℕ → Place → Bool
 is_queued_at listener (Queued n) = n == listener
 is_queued_at listener _ = false
@@ -74,6 +80,7 @@ listener_at link net = find (λ l. l.link == link) net.listeners
 abbrev pub is_there : ℕ → Network → Bool
 is_there link net = is_some (listener_at link net) || is_some (stream_at link net)
 
+-- the same IPv4 address and the same port
 abbrev pub is_same_address : Address → Address → Bool
 is_same_address a b = bytes_eq a.ip b.ip && a.port == b.port
 
@@ -89,6 +96,7 @@ queue_of listener net = filter (waits_at listener) net.pairs
 abbrev pub own_end : ℕ → Pair → End
 own_end link pair = if is_at link pair.dialed.place then pair.dialed else pair.taken
 
+-- the end that is not at this link
 abbrev pub other_end : ℕ → Pair → End
 other_end link pair = if is_at link pair.dialed.place then pair.taken else pair.dialed
 
@@ -96,6 +104,7 @@ other_end link pair = if is_at link pair.dialed.place then pair.taken else pair.
 abbrev pub with_own : ℕ → (End → End) → Pair → Pair
 with_own link f pair = if is_at link pair.dialed.place then record pair { dialed = f pair.dialed } else record pair { taken = f pair.taken }
 
+-- the stream with a change of the end that is not at this link
 abbrev pub with_other : ℕ → (End → End) → Pair → Pair
 with_other link f pair = if is_at link pair.dialed.place then record pair { taken = f pair.taken } else record pair { dialed = f pair.dialed }
 

@@ -21,18 +21,23 @@ abbrev pub after : Network → List KernelAsk → Network
 after net [] = net
 after net (a ∷ asks) = after (network_after net a) asks
 
+-- 127.0.0.1:7000
 abbrev pub home : Address
 home = record { ip = 127 ∷ 0 ∷ 0 ∷ 1 ∷ []; port = 7000 }
 
+-- 127.0.0.1:7001
 abbrev pub elsewhere : Address
 elsewhere = record { ip = 127 ∷ 0 ∷ 0 ∷ 1 ∷ []; port = 7001 }
 
+-- ready for reading
 abbrev pub to_read : ℕ → Ready
 to_read link = record { link = link; read = true; write = false }
 
+-- ready for writing
 abbrev pub to_write : ℕ → Ready
 to_write link = record { link = link; read = false; write = true }
 
+-- ready for both
 abbrev pub to_both : ℕ → Ready
 to_both link = record { link = link; read = true; write = true }
 
@@ -56,6 +61,7 @@ joined = after dialed (ask.Accept 1 3 ∷ [])
 abbrev pub filled : Network
 filled = after joined (ask.Write 2 (replicate capacity 7) ∷ ask.Wait NoWait ∷ [])
 
+-- waits: the clock, and the marks
 pub record WaitRows : Type 0 where
   pub none : replies net (ask.Wait NoWait ∷ ask.Wait (Until 5) ∷ ask.Wait (Until 3) ∷ ask.Wait NoWait ∷ []) ≡ Woke 0 [] ∷ Woke 5 [] ∷ Woke 5 [] ∷ Woke 5 [] ∷ []
   pub for_ever : replies net (ask.Wait Forever ∷ ask.Wait NoWait ∷ []) ≡ Failed Other ∷ Woke 0 [] ∷ []
@@ -63,6 +69,7 @@ pub record WaitRows : Type 0 where
   pub first_told : length (after (record net { marks = replicate 257 (to_read 1) }) (ask.Wait NoWait ∷ [])).marks ≡ 1
   pub in_order : replies joined (ask.Write 3 (5 ∷ []) ∷ ask.Write 2 (6 ∷ []) ∷ ask.Close 1 ∷ ask.Wait Forever ∷ []) ≡ Took 1 ∷ Took 1 ∷ Done ∷ Woke 0 (to_read 2 ∷ to_read 3 ∷ []) ∷ []
 
+-- links that are made or refused
 pub record LinkRows : Type 0 where
   pub in_use : replies listening (ask.Listen 2 home 1 ∷ ask.Listen 2 elsewhere 1 ∷ []) ≡ Failed InUse ∷ Done ∷ []
   pub there : replies listening (ask.Listen 1 elsewhere 1 ∷ ask.Connect 1 home ∷ ask.Accept 1 1 ∷ []) ≡ Failed Other ∷ Failed Other ∷ Failed Other ∷ []
@@ -72,16 +79,19 @@ pub record LinkRows : Type 0 where
   pub room_again : replies joined (ask.Connect 4 home ∷ []) ≡ Done ∷ []
   pub other_sort : replies joined (ask.Read 1 9 ∷ ask.Write 1 (5 ∷ []) ∷ ask.Shut 1 ∷ ask.Read 9 9 ∷ ask.Shut 9 ∷ ask.Close 9 ∷ []) ≡ Failed Other ∷ Failed Other ∷ Failed Other ∷ Failed Other ∷ Failed Other ∷ Done ∷ []
 
+-- bytes that are written and read, and an end
 pub record ByteRows : Type 0 where
   pub moved : replies joined (ask.Write 2 (5 ∷ 6 ∷ 7 ∷ 8 ∷ []) ∷ ask.Wait Forever ∷ ask.Read 3 9 ∷ ask.Read 3 9 ∷ ask.Read 3 9 ∷ []) ≡ Took 4 ∷ Woke 0 (to_read 3 ∷ []) ∷ Came (5 ∷ 6 ∷ 7 ∷ []) ∷ Came (8 ∷ []) ∷ NotYet ∷ []
   pub small_buffer : replies joined (ask.Write 2 (5 ∷ 6 ∷ []) ∷ ask.Read 3 1 ∷ []) ≡ Took 2 ∷ Came (5 ∷ []) ∷ []
   pub queued_no_mark : replies dialed (ask.Write 2 (5 ∷ []) ∷ ask.Wait NoWait ∷ ask.Accept 1 3 ∷ ask.Read 3 9 ∷ []) ≡ Took 1 ∷ Woke 0 [] ∷ Done ∷ Came (5 ∷ []) ∷ []
   pub shut : replies joined (ask.Write 2 (5 ∷ []) ∷ ask.Shut 2 ∷ ask.Write 2 (6 ∷ []) ∷ ask.Wait NoWait ∷ ask.Read 3 9 ∷ ask.Read 3 9 ∷ ask.Write 3 (7 ∷ []) ∷ ask.Read 2 9 ∷ []) ≡ Took 1 ∷ Done ∷ Failed Reset ∷ Woke 0 (to_read 3 ∷ []) ∷ Came (5 ∷ []) ∷ End ∷ Took 1 ∷ Came (7 ∷ []) ∷ []
 
+-- a direction that holds as much as it may
 pub record FullRows : Type 0 where
   pub no_room : replies filled (ask.Write 2 (5 ∷ []) ∷ ask.Read 3 1 ∷ ask.Wait NoWait ∷ ask.Write 2 (5 ∷ 6 ∷ []) ∷ []) ≡ NotYet ∷ Came (7 ∷ []) ∷ Woke 0 (to_write 2 ∷ []) ∷ Took 1 ∷ []
   pub not_full : replies filled (ask.Read 3 1 ∷ ask.Wait NoWait ∷ ask.Read 3 1 ∷ ask.Wait NoWait ∷ []) ≡ Came (7 ∷ []) ∷ Woke 0 (to_write 2 ∷ []) ∷ Came (7 ∷ []) ∷ Woke 0 [] ∷ []
 
+-- closed streams and listeners
 pub record CloseRows : Type 0 where
   pub both_marks : replies joined (ask.Write 3 (5 ∷ []) ∷ ask.Close 3 ∷ ask.Wait NoWait ∷ ask.Write 2 (6 ∷ []) ∷ ask.Read 2 9 ∷ ask.Read 2 9 ∷ ask.Read 3 9 ∷ []) ≡ Took 1 ∷ Done ∷ Woke 0 (to_both 2 ∷ []) ∷ Failed Reset ∷ Came (5 ∷ []) ∷ End ∷ Failed Other ∷ []
   pub own_marks : replies joined (ask.Write 2 (5 ∷ []) ∷ ask.Close 3 ∷ ask.Wait NoWait ∷ []) ≡ Took 1 ∷ Done ∷ Woke 0 (to_both 2 ∷ []) ∷ []

@@ -21,9 +21,11 @@ outcome (ask.Shut link) net = shut link net
 outcome (ask.Read link most) net = read link most net
 outcome (ask.Close link) net = record { after = closed link net; reply = Done }
 
+-- the reply to a call
 unfoldable pub network_reply : Network → KernelAsk → KernelReply
 network_reply net a = (outcome a net).reply
 
+-- the network after it
 unfoldable pub network_after : Network → KernelAsk → Network
 network_after net a = (outcome a net).after
 

@@ -1,3 +1,5 @@
-pub mod Spellings
-pub mod Passings
+pub mod Joinings
+pub mod Limits
 pub mod MessageReads
+pub mod Passings
+pub mod Spellings

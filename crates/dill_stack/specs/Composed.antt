@@ -17,6 +17,7 @@ use Rattle.dill_stack.specs.Layers.{Placed, Prefix, Suffix, Term, Http, Ws, WsLa
 abbrev pub message_limit : ℕ
 message_limit = 1048576
 
+-- a step behind another, unless that was refused
 abbrev pub and_then : {A B : Type 0} → Result A Errno → (A → Result B Errno) → Result B Errno
 and_then (Ok x) f = f x
 and_then (Err e) f = Err e
@@ -70,14 +71,17 @@ with_words words (Err e) = Err e
 unfoldable pub composed : List Placed → List ℕ → Stream → Result (List ℕ × Stream) Errno
 composed layers m words = with_words (words_after layers words) (spelled (drawn_key words).0 layers m)
 
+-- refused, with an errno that passes the test
 abbrev pub is_refused_with : (Errno → Bool) → {A : Type 0} → Result A Errno → Bool
 is_refused_with test (Ok x) = false
 is_refused_with test (Err e) = test e
 
+-- the errno is EINVAL
 abbrev pub is_einval : Errno → Bool
 is_einval Einval = true
 is_einval _ = false
 
+-- every errno
 abbrev pub is_any : Errno → Bool
 is_any e = true
 

@@ -7,8 +7,8 @@ use Rattle.dill_calls.specs.declared.answer.Answer.TheVariants.{Number}
 use Rattle.dill_http.specs.Lines.{front_of_line}
 use Rattle.dill_stack.specs.declared.want.ReadOut.{ReadOut}
 use Rattle.dill_stack.specs.declared.want.ReadOut.TheVariants.{Given, Need, Fault}
-use Rattle.dill_stack.specs.Layers.{AmongFields, TermLayer, HttpLayer, Placed, Prefix, Suffix, Term, Http, Ws}
-use Rattle.dill_stack.specs.Read.{Outcome, outcome, no_more, is_terminal, read_message, read_ws, received, is_first_place, is_behind_place}
+use Rattle.dill_stack.specs.Layers.{is_first, is_behind, AmongFields, TermLayer, HttpLayer, Placed, Prefix, Suffix, Term, Http, Ws}
+use Rattle.dill_stack.specs.Read.{Outcome, outcome, no_more, is_terminal, read_message, read_ws, received}
 
 -- the most bytes of a message that a detach drops
 abbrev pub drop_limit : ℕ
@@ -20,6 +20,7 @@ pub data Dropped : Type 0 where
   End : Outcome → Dropped
   Stops : Outcome → Dropped
 
+-- an answer was given
 abbrev pub is_given : ReadOut → Bool
 is_given (Given answer) = true
 is_given _ = false
@@ -35,6 +36,7 @@ drop_message term o =
     else if is_given o.said then Item (record o { layers = Term term ∷ o.layers })
     else Stops (record o { layers = Term term ∷ o.layers })
 
+-- the close frame of the layer on top was met
 abbrev pub has_met : List Placed → Bool
 has_met (Ws ws ∷ below) = ws.met
 has_met _ = false
@@ -50,9 +52,9 @@ drop_frames below o =
 abbrev pub drop_line : HttpLayer → List Placed → List ℕ → Bool → Front → Dropped
 drop_line http below unread ended (front.Whole from to used) =
     if not (to - from == 0) then Item (outcome used (received AmongFields http ∷ below) Need)
-    else if is_first_place http.receiving then Stops (outcome 0 (Http http ∷ below) (Fault Eproto))
+    else if is_first http.receiving then Stops (outcome 0 (Http http ∷ below) (Fault Eproto))
     else End (outcome used below (Given (Number 0)))
-drop_line http below unread ended front.Need = Stops (outcome 0 (Http http ∷ below) (no_more ended (is_first_place http.receiving) unread))
+drop_line http below unread ended front.Need = Stops (outcome 0 (Http http ∷ below) (no_more ended (is_first http.receiving) unread))
 drop_line http below unread ended (front.Fault e) = Stops (outcome 0 (Http http ∷ below) (Fault e))
 
 -- the item at the front for the layer on top; one that drops nothing, or has met the end, is left at once
@@ -64,7 +66,7 @@ drop_one (Term term ∷ below) unread ended =
     if term.met then End (outcome 0 below (Given (Number 0)))
     else drop_message term (read_message below unread ended drop_limit)
 drop_one (Http http ∷ below) unread ended =
-    if is_behind_place http.receiving then End (outcome 0 below (Given (Number 0)))
+    if is_behind http.receiving then End (outcome 0 below (Given (Number 0)))
     else drop_line http below unread ended (front_of_line unread)
 drop_one (Ws ws ∷ below) unread ended =
     if ws.met then End (outcome 0 below (Given (Number 0)))
@@ -74,6 +76,7 @@ drop_one (Ws ws ∷ below) unread ended =
 abbrev pub further : Outcome → Outcome → Outcome
 further o p = record { used = o.used + p.used; layers = p.layers; pings = o.pings ++ p.pings; said = p.said }
 
+-- what is dropped from here on, behind the item at the front
 abbrev pub after_drop : (List Placed → List ℕ → Outcome) → List ℕ → Dropped → Outcome
 after_drop again unread (Item o) = further o (again o.layers (drop o.used unread))
 after_drop again unread (End o) = o

@@ -67,6 +67,7 @@ abbrev pub greeting : Bool → (resource host key : List ℕ) → Held → Held
 greeting text resource host key s =
     record (queued Plain (client_head_of resource host key) s) { layers = Ws (fresh_ws Client text) ∷ s.layers; task = Greets (accept_text key) }
 
+-- the handshake of a client begins
 unfoldable pub greet : Bool → (resource host : List ℕ) → Stream → Held → Result (Held × Stream) Errno
 greet text resource host words s =
     unless (greet_fault (is_wrong_offer resource host) (is_long_offer resource host) s)
@@ -104,5 +105,6 @@ heard_by Expects s = by_client (client_front s.unread) s
 heard_by Answers s = if is_sent s then met_after 0 s else record { stack = s; said = Need }
 heard_by task s = record { stack = s; said = Need }
 
+-- a look at the handshake that has begun
 unfoldable pub greeted : Held → Heard
 greeted s = heard_by s.task s

@@ -29,6 +29,7 @@ pub data Task : Type 0 where
   Answers : Task
   Leaves : Task
 
+-- the whole stack, but for the memory that it has reserved
 pub record Held : Type 0 where
   pub link : ℕ
   -- the top first
@@ -41,6 +42,7 @@ pub record Held : Type 0 where
   pub queue : List Item
   pub task : Task
 
+-- a direction that is neither done nor broken
 abbrev pub whole : Direction
 whole = record { done = false; broken = false }
 
@@ -48,9 +50,11 @@ whole = record { done = false; broken = false }
 abbrev pub opening : Held
 opening = record { link = 0; layers = []; unread = []; receiving = whole; sending = whole; queue = []; task = Idle }
 
+-- the link of a stack that was made before it
 abbrev pub set_link : ℕ → Held → Held
 set_link link s = record s { link = link }
 
+-- what stands on top
 abbrev pub top : Held → Top
 top s = top_of s.layers
 

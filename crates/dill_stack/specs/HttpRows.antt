@@ -10,12 +10,14 @@ use Rattle.dill_stack.specs.declared.parting.Parting.TheVariants as parting
 use Rattle.dill_stack.specs.Held.{Held, opening, broke, top}
 use Rattle.dill_stack.specs.Refusals.{line_fault, done_fault, read_fault}
 use Rattle.dill_stack.specs.Sending.{offered, took, withdraw}
-use Rattle.dill_stack.specs.RowWords.{attached, sends_line, ends, leaves, reads, said, left, left_said, bytes, zero_given, crlf, with_bytes, with_end_behind}
+use Rattle.dill_http.specs.Lines.{crlf}
+use Rattle.dill_stack.specs.RowWords.{attached, sends_line, ends, leaves, reads, said, left, left_said, bytes, zero_given, with_bytes, with_end_behind}
 
 -- a request with four fields, and three bytes behind its empty line
 abbrev pub request_text : List ℕ
 request_text = codes "POST /a HTTP/1.1\r\nHost: x\r\nUser-Agent: curl/8.0\r\nAccept: */*\r\nContent-Length: 3\r\n\r\nxyz"
 
+-- an HTTP socket on which it came
 abbrev pub asked : Held
 asked = attached layer.Http (with_bytes request_text)
 
@@ -27,9 +29,11 @@ bare = attached layer.Http opening
 abbrev pub fields_read : Held
 fields_read = reads Field (reads Field (reads Field (reads Field (reads Request asked))))
 
+-- the empty line was met
 abbrev pub head_read : Held
 head_read = reads Field fields_read
 
+-- the line of a status
 abbrev pub status_line : List ℕ
 status_line = codes "HTTP/1.1 200 OK\r\n"
 
@@ -37,9 +41,11 @@ status_line = codes "HTTP/1.1 200 OK\r\n"
 abbrev pub status_sent : Held
 status_sent = took 17 (sends_line true status_line head_read)
 
+-- the empty line is queued and has gone too
 abbrev pub answered : Held
 answered = took 2 (ends status_sent)
 
+-- the head was left
 abbrev pub head_left : Held
 head_left = left (leaves parting.Plain answered)
 

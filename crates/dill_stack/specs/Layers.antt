@@ -1,5 +1,5 @@
 -- The layers of a stack, with the state of each.
-use Rattle.std.specs.Prelude.{◌≡◌, ◌<◌, ◌≤◌, ℕ, length, List, [], ◌∷◌, Bool, false, Option, None}
+use Rattle.std.specs.Prelude.{◌≡◌, ◌<◌, ◌≤◌, ℕ, length, List, [], ◌∷◌, Bool, true, false, Option, None}
 use Rattle.dill_frames.specs.declared.prefix.PrefixForm.{PrefixForm}
 use Rattle.dill_ws.specs.declared.side.Side.{Side}
 use Rattle.dill_stack.specs.declared.layer.Layer.{Layer}
@@ -12,6 +12,16 @@ pub data Place : Type 0 where
   BeforeFirst : Place
   AmongFields : Place
   BehindEmpty : Place
+
+-- the head hasn't begun
+abbrev pub is_first : Place → Bool
+is_first BeforeFirst = true
+is_first _ = false
+
+-- the empty line is behind
+abbrev pub is_behind : Place → Bool
+is_behind BehindEmpty = true
+is_behind _ = false
 
 -- An end by a terminal message: the peer's was met, its own was queued and not taken back.
 pub record TermLayer : Type 0 where

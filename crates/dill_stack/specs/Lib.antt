@@ -14,6 +14,7 @@ pub mod Greeting
 pub mod Needs
 pub mod Spelling
 pub mod Messages
+pub mod Joining
 pub mod Interface
 pub mod RowWords
 pub mod Rows

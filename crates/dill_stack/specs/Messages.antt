@@ -48,6 +48,7 @@ pub record IsReadable (layers : List Placed) : Type 0 where
   pub formed : IsFormed layers
   pub unmet : is_met layers ≡ false
 
+-- receives of messages, by what stands at the front
 pub record MessageLaws : Type 0 where
   -- A message is given exactly where it stands at the front, and just its bytes are used.
   pub gives : (layers : List Placed) (limit : ℕ) (u m : List ℕ) (n : ℕ) (ended : Bool) → IsReadable layers → MessageStands layers limit u m n → read_message layers u ended limit ≡ outcome n layers (Given (Bytes m))

@@ -29,9 +29,11 @@ need _ s = line_need
 abbrev pub head_need : ℕ
 head_need = 16384
 
+-- the greatest need of a detach: an item of 16,384 bytes and what spells it
 abbrev pub parting_need : ℕ
 parting_need = 16416
 
+-- the end of a whole connection drops all, and needs none
 abbrev pub closing_need : ℕ
 closing_need = 0
 

@@ -1,9 +1,9 @@
 -- The frames that a WebSocket layer passes before it gives a message, as a relation (RFC 6455, sections 5.4 and 5.5).
-use Rattle.std.specs.Prelude.{◌≡◌, ◌≤◌, ℕ, List, [], ◌∷◌, ◌++◌, Bool, true, not, ◌==◌, ◌&&◌, ◌||◌, length, take, drop, map, filter, flat_map, Option, Some, None}
+use Rattle.std.specs.Prelude.{◌≡◌, ◌≤◌, ℕ, List, [], ◌∷◌, ◌++◌, Bool, true, not, ◌==◌, ◌&&◌, ◌||◌, length, take, drop, map, filter, flat_map, is_some, if◌then◌else◌, Option, Some, None}
 use Rattle.std.specs.List.{list_all}
 use Rattle.std.specs.Option.{unwrap_or}
 use Rattle.dill_ws.specs.declared.side.Side.{Side}
-use Rattle.dill_ws.specs.Frames.{Part, Frame, peer_of, data_parts}
+use Rattle.dill_ws.specs.Frames.{Part, Frame, peer_of, data_parts, may_follow}
 use Rattle.dill_ws.specs.FrameLaws.{AreBytes}
 use Rattle.dill_stack.specs.Layers.{WsLayer}
 use Rattle.dill_stack.specs.WsReading.{Passed, passed, pass_by_front, ws_front, is_data}
@@ -16,6 +16,20 @@ AreFrames peer (part ∷ parts) w = (v : List ℕ) × (rest : List ℕ) × Frame
 -- a ping, a pong, or a part of a message that doesn't end it
 abbrev pub is_passing : Part → Bool
 is_passing part = part.opcode == 9 || part.opcode == 10 || is_data part.opcode && not part.fin
+
+-- a message is being joined behind this part, where one was or wasn't before it
+abbrev pub is_joining : Bool → Part → Bool
+is_joining joining part = if is_data part.opcode then not part.fin else joining
+
+-- Each part may come where it stands: a continuation where a message is being joined, text or binary where none is.
+abbrev pub AreFollowing : Bool → List Part → Type 0
+AreFollowing joining [] = Unit {0}
+AreFollowing joining (part ∷ parts) = (may_follow joining part.fin part.opcode (length part.payload) ≡ true) × AreFollowing (is_joining joining part) parts
+
+-- a message is being joined behind these parts
+abbrev pub joining_behind : Bool → List Part → Bool
+joining_behind joining [] = joining
+joining_behind joining (part ∷ parts) = joining_behind (is_joining joining part) parts
 
 -- the payloads of the pings, in their order
 abbrev pub pings_of : List Part → List (List ℕ)
@@ -35,6 +49,8 @@ pub record IsPassed (limit : ℕ) (ws : WsLayer) (u : List ℕ) (p : Passed) : T
   pub parts : List Part
   pub there : p.used ≤ length u
   pub frames : AreFrames (peer_of ws.side) parts (take p.used u)
+  pub follows : AreFollowing (is_some ws.joining) parts
+  pub joining : is_some p.ws.joining ≡ joining_behind (is_some ws.joining) parts
   pub passing : list_all is_passing parts ≡ true
   pub pings : p.pings ≡ pings_of parts
   pub layer : p.ws ≡ with_parts parts ws

@@ -15,7 +15,7 @@ use Rattle.dill_stack.specs.declared.want.Want.{Want}
 use Rattle.dill_stack.specs.declared.want.Want.TheVariants.{Exact, Message, Request, Status, Field}
 use Rattle.dill_stack.specs.declared.want.ReadOut.{ReadOut}
 use Rattle.dill_stack.specs.declared.want.ReadOut.TheVariants.{Given, Need, Fault}
-use Rattle.dill_stack.specs.Layers.{Place, BeforeFirst, AmongFields, BehindEmpty, TermLayer, HttpLayer, WsLayer, Placed, Prefix, Suffix, Term, Http, Ws}
+use Rattle.dill_stack.specs.Layers.{is_first, is_behind, Place, AmongFields, BehindEmpty, TermLayer, HttpLayer, WsLayer, Placed, Prefix, Suffix, Term, Http, Ws}
 use Rattle.dill_stack.specs.WsReading.{Passed, passed, Shown, shown}
 
 -- how many of the unread bytes are used, the layers after, the payloads of the pings that were passed, and the answer
@@ -109,30 +109,23 @@ abbrev pub given_line : HttpLayer → List Placed → ℕ → Option Answer → 
 given_line http below used (Some answer) = outcome used (received AmongFields http ∷ below) (Given answer)
 given_line http below used None = outcome 0 (Http http ∷ below) (Fault Eproto)
 
-abbrev pub is_first_place : Place → Bool
-is_first_place BeforeFirst = true
-is_first_place _ = false
-
 -- the line at the front, before the first line or among the fields; only before the first is a boundary
 abbrev pub by_line : Want → HttpLayer → List Placed → List ℕ → Bool → Front → Outcome
 by_line want http below unread ended (front.Whole from to used) =
     let line = take (to - from) (drop from unread) in
     if ends_fields want line then outcome used (received BehindEmpty http ∷ below) (Fault Epipe)
     else given_line http below used (line_answer want line)
-by_line want http below unread ended front.Need = outcome 0 (Http http ∷ below) (no_more ended (is_first_place http.receiving) unread)
+by_line want http below unread ended front.Need = outcome 0 (Http http ∷ below) (no_more ended (is_first http.receiving) unread)
 by_line want http below unread ended (front.Fault e) = outcome 0 (Http http ∷ below) (Fault e)
-
-abbrev pub is_behind_place : Place → Bool
-is_behind_place BehindEmpty = true
-is_behind_place _ = false
 
 -- the line of a head at the front; behind its empty line there is none
 abbrev pub read_line : Want → List Placed → List ℕ → Bool → Outcome
 read_line want (Http http ∷ below) unread ended =
-    if is_behind_place http.receiving then outcome 0 (Http http ∷ below) (Fault Epipe)
+    if is_behind http.receiving then outcome 0 (Http http ∷ below) (Fault Epipe)
     else by_line want http below unread ended (front_of_line unread)
 read_line want layers unread ended = outcome 0 layers Need
 
+-- the stack read: what a receive uses of the whole unread list, and answers
 unfoldable pub read_list : List Placed → List ℕ → Bool → Want → Outcome
 read_list layers unread ended (Exact n) = read_exact layers unread ended n
 read_list layers unread ended (Message limit) = read_message layers unread ended limit

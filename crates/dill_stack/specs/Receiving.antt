@@ -72,6 +72,7 @@ breaks (Fault Eproto) = true
 breaks (Fault Emsgsize) = true
 breaks _ = false
 
+-- the receiving direction after an answer
 abbrev pub broken_by : ReadOut → Held → Held
 broken_by said s = if breaks said then record s { receiving = record s.receiving { broken = true } } else s
 
@@ -79,8 +80,10 @@ broken_by said s = if breaks said then record s { receiving = record s.receiving
 abbrev pub read_of : Want → Held → Outcome
 read_of want s = read_list s.layers s.unread s.receiving.done want
 
+-- the stack after an answer
 abbrev pub settled : Looked → Looked
 settled l = record l { stack = broken_by l.said l.stack }
 
+-- a look of a receive at the unread list
 unfoldable pub read : Want → Stream → Held → Looked
 read want words s = settled (looked_over (read_of want s) words s)

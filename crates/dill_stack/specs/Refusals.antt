@@ -11,7 +11,7 @@ use Rattle.dill_stack.specs.declared.want.Want.{Want}
 use Rattle.dill_stack.specs.declared.want.Want.TheVariants.{Exact, Message, Request, Status, Field}
 use Rattle.dill_stack.specs.declared.parting.Parting.{Parting}
 use Rattle.dill_stack.specs.declared.parting.Parting.TheVariants as parting
-use Rattle.dill_stack.specs.Layers.{Place, BeforeFirst, AmongFields, BehindEmpty, Placed, Term, Http, Ws}
+use Rattle.dill_stack.specs.Layers.{is_behind, Place, BeforeFirst, AmongFields, BehindEmpty, Placed, Term, Http, Ws}
 use Rattle.dill_stack.specs.Composed.{message_limit, is_invalid, is_refused, is_too_long}
 use Rattle.dill_stack.specs.Held.{Held, is_broken}
 
@@ -24,11 +24,6 @@ first_fault invalid busy over broken long =
     else if broken then Some Econnreset
     else if long then Some Emsgsize
     else None
-
--- the empty line is behind
-abbrev pub is_behind : Place → Bool
-is_behind BehindEmpty = true
-is_behind _ = false
 
 -- the layer has sent its end
 abbrev pub is_done_layer : Placed → Bool
@@ -102,9 +97,11 @@ abbrev pub is_allowed_parting : Parting → Bool
 is_allowed_parting parting.Plain = true
 is_allowed_parting (parting.Close code reason) = code == 0 && length reason == 0 || is_close_code code && nat_le (length reason) 123 && is_utf8 reason
 
+-- the refusal of an attach, in a direction that is whole; where the handle is busy, EBUSY comes in its place of the order
 unfoldable pub attach_fault : Layer → Bool → Held → Option Errno
 attach_fault l busy s = first_fault (not (is_allowed l s.layers)) busy false (is_broken s) false
 
+-- the refusal of a message, or of bytes where no layer stands
 unfoldable pub send_fault : List ℕ → Bool → Held → Option Errno
 send_fault m busy s = first_fault (is_invalid s.layers m) busy (is_done s) s.sending.broken (is_too_long s.layers m)
 
@@ -112,11 +109,14 @@ send_fault m busy s = first_fault (is_invalid s.layers m) busy (is_done s) s.sen
 unfoldable pub line_fault : Bool → Bool → Held → Option Errno
 line_fault first busy s = first_fault (sends_out_of_order first s.layers) busy (is_done s) s.sending.broken false
 
+-- the refusal of the end of a direction
 unfoldable pub done_fault : Bool → Held → Option Errno
 done_fault busy s = first_fault false busy (is_done s) s.sending.broken false
 
+-- the refusal of a receive
 unfoldable pub read_fault : Want → Bool → Held → Option Errno
 read_fault want busy s = first_fault (is_invalid_want want s.layers) busy (is_met s.layers) s.receiving.broken (is_short_want want s.layers)
 
+-- the refusal of a detach that changes nothing
 unfoldable pub detach_fault : Parting → Bool → Held → Option Errno
 detach_fault p busy s = first_fault (not (is_allowed_parting p)) busy false false false

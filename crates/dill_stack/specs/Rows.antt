@@ -10,21 +10,26 @@ use Rattle.dill_stack.specs.declared.parting.Parting.TheVariants as parting
 use Rattle.dill_stack.specs.Held.{Held, opening, broke, top}
 use Rattle.dill_stack.specs.Refusals.{attach_fault, send_fault, done_fault, read_fault}
 use Rattle.dill_stack.specs.Sending.{offered, took, withdraw, is_sent}
-use Rattle.dill_stack.specs.RowWords.{attached, sends, ends, leaves, reads, said, left, left_said, bytes, zero_given, big2, crlf, with_bytes, with_end_behind}
+use Rattle.dill_http.specs.Lines.{crlf}
+use Rattle.dill_stack.specs.RowWords.{attached, sends, ends, leaves, reads, said, left, left_said, bytes, zero_given, big2, with_bytes, with_end_behind}
 
 -- A message, an empty message and the bytes behind them came in one read; PREFIX of two bytes and TERM with the empty message stand on it.
 abbrev pub came_at_once : List ℕ
 came_at_once = 0 ∷ 1 ∷ 97 ∷ 0 ∷ 0 ∷ 120 ∷ 121 ∷ 122 ∷ []
 
+-- the two layers over these bytes
 abbrev pub tower : Held
 tower = attached (layer.Term []) (attached (layer.Prefix big2) (with_bytes came_at_once))
 
+-- the message was read, and the end met
 abbrev pub tower_met : Held
 tower_met = reads (Message 10) (reads (Message 10) tower)
 
+-- the detach of the end begins
 abbrev pub tower_left : Held
 tower_left = leaves parting.Plain tower_met
 
+-- both layers were left
 abbrev pub framing_left : Held
 framing_left = left (leaves parting.Plain (left (took 2 tower_left)))
 
@@ -32,9 +37,11 @@ framing_left = left (leaves parting.Plain (left (took 2 tower_left)))
 abbrev pub framed : List ℕ → Held
 framed u = attached (layer.Prefix big2) (with_bytes u)
 
+-- the same, where the peer ended behind these bytes
 abbrev pub framed_end : List ℕ → Held
 framed_end u = attached (layer.Prefix big2) (with_end_behind u)
 
+-- messages before CR LF, where the peer ended behind these bytes
 abbrev pub lines_end : List ℕ → Held
 lines_end u = attached (layer.Suffix crlf) (with_end_behind u)
 
@@ -46,6 +53,7 @@ midway = took 2 (sends (codes "abcdef") opening)
 abbrev pub cut_at : (List ℕ → Held) → List ℕ → List ℕ → List ReadOut
 cut_at make item counts = map (λ n. said (Message 9) (make (take n item))) counts
 
+-- what these stacks answer, send and hold
 pub record StackRows : Type 0 where
   -- detach keeps what is unread
   pub tower_top : top tower ≡ top.Term

@@ -13,10 +13,12 @@ use Rattle.dill_stack.specs.Refusals.{send_fault, line_fault, done_fault}
 abbrev pub offer_limit : ℕ
 offer_limit = 65536
 
+-- the item is no call's
 abbrev pub is_pong_origin : Origin → Bool
 is_pong_origin Pong = true
 is_pong_origin _ = false
 
+-- the item is a pong
 abbrev pub is_pong : Item → Bool
 is_pong item = is_pong_origin item.origin
 
@@ -29,6 +31,7 @@ abbrev pub offered_of : List Item → List ℕ
 offered_of [] = []
 offered_of (item ∷ queue) = take offer_limit (drop item.gone item.bytes)
 
+-- what the next write is offered
 abbrev pub offered : Held → List ℕ
 offered s = offered_of s.queue
 
@@ -37,6 +40,7 @@ abbrev pub gone_on : ℕ → List Item → List Item
 gone_on count [] = []
 gone_on count (item ∷ queue) = if item.gone + count == length item.bytes then queue else record item { gone = item.gone + count } ∷ queue
 
+-- so many bytes of it have gone
 abbrev pub took : ℕ → Held → Held
 took count s = record s { queue = gone_on count s.queue }
 
@@ -87,6 +91,7 @@ with_end [] words s = Ok (record s { sending = record s.sending { done = true } 
 with_end (Http http ∷ below) words s = Ok (with_line BehindEmpty crlf s, words)
 with_end layers words s = with_ending layers words s
 
+-- the end of the top layer, or of the link's direction
 unfoldable pub done : Stream → Held → Result (Held × Stream) Errno
 done words s = unless (done_fault false s) (with_end s.layers words s)
 

@@ -48,6 +48,7 @@ by_head u (head.Whole h) = if nat_lt (length u) (h.start + h.length) then Short 
 by_head u head.Need = Short
 by_head u (head.Fault e) = Refused e
 
+-- the head is refused
 abbrev pub is_fault : HeadFront → Bool
 is_fault (head.Fault e) = true
 is_fault _ = false
@@ -56,6 +57,7 @@ is_fault _ = false
 abbrev pub judged : ℕ → WsLayer → List ℕ → HeadFront → WsFront
 judged limit ws u front = if not (is_fault front) && passes_limit limit ws u then Refused Emsgsize else by_head u front
 
+-- the frame at the front
 unfoldable pub ws_front : ℕ → WsLayer → List ℕ → WsFront
 ws_front limit ws u = judged limit ws u (head_front ws.side (is_some ws.joining) u)
 
@@ -77,14 +79,17 @@ pass_of ws part used =
     else if is_data part.opcode && not part.fin then Some (record { used = used; ws = with_part part ws; pings = [] })
     else None
 
+-- the pass at the front, if what stands there is passed
 abbrev pub pass_by_front : WsLayer → WsFront → Option Passed
 pass_by_front ws (Whole part used) = pass_of ws part used
 pass_by_front ws Short = None
 pass_by_front ws (Refused e) = None
 
+-- no frame is passed
 abbrev pub nothing_passed : WsLayer → Passed
 nothing_passed ws = record { used = 0; ws = ws; pings = [] }
 
+-- one pass, and then others
 abbrev pub then_passed : Passed → Passed → Passed
 then_passed p q = record { used = p.used + q.used; ws = q.ws; pings = p.pings ++ q.pings }
 
@@ -98,6 +103,7 @@ abbrev pub passed_within : ℕ → ℕ → WsLayer → List ℕ → Passed
 passed_within zero limit ws u = nothing_passed ws
 passed_within (suc most) limit ws u = after_pass (passed_within most limit) ws u (pass_by_front ws (ws_front limit ws u))
 
+-- all frames that are passed at the front of the list
 unfoldable pub passed : ℕ → WsLayer → List ℕ → Passed
 passed limit ws u = passed_within (length u) limit ws u
 
@@ -130,5 +136,6 @@ shown_by ended ws u (Whole part used) = if part.opcode == 8 then close_met ws pa
 shown_by ended ws u Short = record { used = 0; ws = ws; said = if ended then at_end ws u else Need }
 shown_by ended ws u (Refused e) = record { used = 0; ws = ws; said = Fault e }
 
+-- what stands behind the frames that were passed
 unfoldable pub shown : ℕ → Bool → WsLayer → List ℕ → Shown
 shown limit ended ws u = shown_by ended ws u (ws_front limit ws u)

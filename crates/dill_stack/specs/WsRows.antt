@@ -16,9 +16,11 @@ use Rattle.dill_stack.specs.RowWords.{attached, sends, leaves, reads, said, left
 abbrev pub server : List ℕ → Held
 server u = attached (layer.Ws Server true) (with_bytes u)
 
+-- the same, where the peer ended behind these bytes
 abbrev pub server_end : List ℕ → Held
 server_end u = attached (layer.Ws Server true) (with_end_behind u)
 
+-- a client's layer on which this came
 abbrev pub client : List ℕ → Held
 client u = attached (layer.Ws Client true) (with_bytes u)
 
@@ -38,6 +40,7 @@ two_pings = 137 ∷ 1 ∷ 1 ∷ 137 ∷ 1 ∷ 2 ∷ []
 abbrev pub cuts : List ℕ → List ℕ → List ReadOut
 cuts item counts = map (λ n. said (Message 9) (server_end (take n item))) counts
 
+-- what these layers answer, send and hold
 pub record WsRows : Type 0 where
   -- the standard's text frame, both ways
   pub read_hello : said (Message 64) (server hello_frame) ≡ bytes (codes "Hello")

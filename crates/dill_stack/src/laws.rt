@@ -1,3 +1,4 @@
+ghost use Rattle.dill_stack.specs.Joining.{GivesJoined};
 ghost use Rattle.dill_stack.specs.Messages.{MessageLaws};
 ghost use Rattle.dill_stack.specs.Passing.{PassesFrames};
 ghost use Rattle.dill_stack.specs.Spelling.{FramingLaws};
@@ -26,4 +27,11 @@ pub fn message_laws()
 {
     prefix_laws();
     suffix_laws();
+}
+
+/// What a WebSocket layer gives as one message stands at the front as the frames of one message.
+pub fn joining_laws()
+    ensures { GivesJoined }
+{
+    frame_laws();
 }
