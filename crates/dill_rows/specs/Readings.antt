@@ -1,13 +1,17 @@
 -- Worked runs of doubtful places: numbers that are occupied, cancelled takers, dead clauses, and the order of what is given up.
-use Rattle.std.specs.Prelude.{◌≡◌, true, ℕ, zero, List, [], ◌∷◌, codes}
-use Rattle.dill_base.specs.declared.deadline.Deadline.TheVariants.{Never}
+use Rattle.std.specs.Prelude.{◌≡◌, ◌==◌, Bool, true, false, ℕ, suc, zero, List, [], ◌∷◌, codes, decimal}
+use Rattle.dill_base.specs.declared.deadline.Deadline.TheVariants.{Never, At, After}
+use Rattle.dill_base.specs.declared.status.Address.{Address}
 use Rattle.dill_calls.specs.declared.call.Call.TheVariants as calls
-use Rattle.dill_calls.specs.declared.lists.Arg.TheVariants.{Show}
-use Rattle.dill_calls.specs.declared.lists.Clause.TheVariants.{Recv}
-use Rattle.dill_kernel.specs.declared.replies.KernelReply.TheVariants.{Done}
-use Rattle.dill_rows.specs.Play.{Does, Tries, Text}
-use Rattle.dill_rows.specs.Playing.{plain, nth, played, replayed, idle, place, connected}
-use Rattle.dill_rows.specs.Runs.{prints}
+use Rattle.dill_calls.specs.declared.lists.Arg.TheVariants.{Show, Give}
+use Rattle.dill_calls.specs.declared.lists.Clause.TheVariants.{Send, Recv}
+use Rattle.dill_kernel.specs.declared.replies.KernelFault.TheVariants as faults
+use Rattle.dill_kernel.specs.declared.replies.KernelReply.{KernelReply}
+use Rattle.dill_kernel.specs.declared.replies.KernelReply.TheVariants.{Woke, Done, NotYet, Came, Took, End, Failed}
+use Rattle.dill_rules.specs.Debts.{debt}
+use Rattle.dill_rows.specs.Play.{Item, Does, Tries, Again, Puts, Text, Play, playing}
+use Rattle.dill_rows.specs.Playing.{plain, nth, played, untraced, replayed, looped, idle, place, connected}
+use Rattle.dill_rows.specs.Runs.{Run, prints, does}
 
 abbrev pub occupied : ℕ → List ℕ → Text
 occupied zero args = plain 0 (Does (calls.TcpConnect (place 9) Never) ∷ Does (calls.Go 1 (Show 1 ∷ [])) ∷ Does calls.Yield ∷ Tries (calls.Hquery 1 4) ∷ Tries (calls.Hquery 1 5) ∷ Tries (calls.Bsend 1 [] Never) ∷ Tries (calls.Msend 1 [] Never) ∷ Tries (calls.Hown 1) ∷ Tries (calls.Hclose 1) ∷ [])
@@ -39,3 +43,11 @@ cancelled_takers program args = plain 1 (Tries (calls.Msleep Never) ∷ Tries (c
 -- A cancelled caller that takes another's handle is busy where its call gives a stack up, and else cancelled.
 pub record CancelledTakers : Type 0 where
   pub run : prints (replayed (connected []) 50 cancelled_takers) (codes "1 start =0" ∷ codes "1 tcp_connect =1" ∷ codes "1 bundle =2" ∷ codes "1 bundle_go =0" ∷ codes "2 start =0" ∷ codes "1 yield =0" ∷ codes "2 msleep ECANCELED" ∷ codes "2 tcp_close EBUSY" ∷ codes "2 hown ECANCELED" ∷ codes "2 hquery =0" ∷ codes "2 bundle ECANCELED" ∷ codes "2 end ok" ∷ codes "freed 2" ∷ codes "1 hclose =0" ∷ codes "1 end ok" ∷ codes "freed 1" ∷ codes "summary status=0 errno=none turns=12 rounds=2 closing=0 made=2 gone=2 lacks=0" ∷ []) ≡ true
+
+abbrev pub ends_sending : ℕ → List ℕ → Text
+ends_sending program args = plain 0 (Does (calls.TcpConnect (place 9) Never) ∷ Tries (calls.TcpDone 1 Never) ∷ Tries (calls.Bsend 1 (codes "x") Never) ∷ Tries (calls.Brecv 1 1 Never) ∷ Tries (calls.Bsend 1 (codes "x") Never) ∷ [])
+
+-- A direction whose shut failed is broken and not done; one that is done stays done where the link fails later.
+pub record DoneAndBroken : Type 0 where
+  pub shut_failed : does (replayed (connected (idle 0 ∷ Failed faults.Other ∷ [])) 40 ends_sending) (codes "1 start =0" ∷ codes "1 tcp_connect =1" ∷ codes "1 tcp_done ECONNRESET" ∷ codes "1 bsend ECONNRESET" ∷ codes "1 brecv ECONNRESET" ∷ codes "1 bsend ECONNRESET" ∷ codes "1 end ok" ∷ codes "freed 1" ∷ codes "summary status=0 errno=none turns=6 rounds=3 closing=0 made=1 gone=1 lacks=0" ∷ []) (codes "wait 0" ∷ codes "wait 0" ∷ codes "connect 1" ∷ codes "finish 1" ∷ codes "wait 0" ∷ codes "shut 1" ∷ codes "close 1" ∷ []) ≡ true
+  pub read_failed : does (replayed (connected (idle 0 ∷ Done ∷ idle 0 ∷ Failed faults.Other ∷ [])) 40 ends_sending) (codes "1 start =0" ∷ codes "1 tcp_connect =1" ∷ codes "1 tcp_done =0" ∷ codes "1 bsend EPIPE" ∷ codes "1 brecv ECONNRESET" ∷ codes "1 bsend EPIPE" ∷ codes "1 end ok" ∷ codes "freed 1" ∷ codes "summary status=0 errno=none turns=6 rounds=4 closing=0 made=1 gone=1 lacks=0" ∷ []) (codes "wait 0" ∷ codes "wait 0" ∷ codes "connect 1" ∷ codes "finish 1" ∷ codes "wait 0" ∷ codes "shut 1" ∷ codes "wait 0" ∷ codes "read 1" ∷ codes "close 1" ∷ []) ≡ true

@@ -7,7 +7,7 @@ ghost use Rattle.dill_rows.specs.Channels.{UnequalSizes, ChoosesEarliest, Choice
 ghost use Rattle.dill_rows.specs.Connecting.{ConnectAndReceive, RefusedConnections, BrokenConnections};
 ghost use Rattle.dill_rows.specs.Sockets.{SendGivenUp, TriedOnce, EndInside, DetachKeepsUnread, CancelledDetach, FailedWait};
 ghost use Rattle.dill_rows.specs.Looped.{LoadCounts, LoopedDetach, LoopedWait};
-ghost use Rattle.dill_rows.specs.Readings.{Occupied, DeadClause, GiveUps, CancelledTakers};
+ghost use Rattle.dill_rows.specs.Readings.{Occupied, DeadClause, GiveUps, CancelledTakers, DoneAndBroken};
 ghost use Rattle.dill_rows.specs.Lacks.{LacksChangeNothing};
 ghost use Rattle.dill_rows.specs.Limits.{LimitsAreExact};
 ghost use Rattle.dill_rows.specs.Relay.{RelayToWebsocket, LoadOfFour};
@@ -166,6 +166,11 @@ pub fn give_ups_go_by_coroutine()
 /// A cancelled caller that takes another's handle is busy where its call gives a stack up, and else cancelled.
 pub fn cancelled_takers()
     ensures { CancelledTakers }
+{}
+
+/// A direction whose shut failed is broken and not done; one that is done stays done where the link fails later.
+pub fn done_and_broken()
+    ensures { DoneAndBroken }
 {}
 
 /// A refusal of memory changes nothing but the answer, and only what takes memory meets one.

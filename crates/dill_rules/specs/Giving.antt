@@ -5,10 +5,11 @@ use Rattle.dill_calls.specs.declared.answer.Answer.{Answer}
 use Rattle.dill_calls.specs.declared.answer.Answer.TheVariants.{Number, Fault}
 use Rattle.dill_calls.specs.declared.call.Call.{Call}
 use Rattle.dill_calls.specs.declared.call.Call.TheVariants as calls
+use Rattle.dill_calls.specs.declared.word.Word.{Word}
 use Rattle.dill_calls.specs.declared.word.Word.TheVariants as words
 use Rattle.dill_calls.specs.CallTable.{word_of, gives_up, named_by}
 use Rattle.dill_handles.specs.Handles as handles
-use Rattle.dill_stack.specs.Interface.{withdraw}
+use Rattle.dill_stack.specs.Interface.{Held, withdraw}
 use Rattle.dill_maps.specs.Maps.{if_some}
 use Rattle.dill_rules.specs.Links as link
 use Rattle.dill_rules.specs.Links.{Link, connector, as_closing, with_stack}
@@ -19,7 +20,7 @@ use Rattle.dill_rules.specs.Effects.{next_number}
 use Rattle.dill_rules.specs.Directions.{is_send, is_receive, is_handshake}
 use Rattle.dill_rules.specs.Sockets.{stack_of, on_link, on_named}
 use Rattle.dill_rules.specs.Linking.{put, give_stack_up}
-use Rattle.dill_rules.specs.LinkAnswers.{is_tcp_close, look_of}
+use Rattle.dill_rules.specs.LinkAnswers.{is_tcp_done, is_tcp_close, look_of}
 
 -- the call was given up before it was done
 abbrev pub is_given_up : Answer → Bool
@@ -35,6 +36,19 @@ is_read (Fault errnos.Emsgsize) = true
 is_read (Fault e) = false
 is_read answer = true
 
+-- the call wasn't done
+abbrev pub is_fault : Answer → Bool
+is_fault (Fault e) = true
+is_fault answer = false
+
+-- The link's direction is done only where its `shut` was made.
+abbrev pub undone : Held → Held
+undone s = record s { sending = record s.sending { done = false } }
+
+-- What an answer of a send does to its stack: one that is given up takes back what has not begun to go, and else breaks its direction; a `tcp_done` that fails leaves the direction not done. A link that fails takes nothing else back.
+abbrev pub after_send : Word → Answer → Held → Held
+after_send word answer s = if is_given_up answer then withdraw s else (if is_tcp_done word && is_fault answer then undone s else s)
+
 -- a link whose `connect` this coroutine made, and whose `close` isn't due
 abbrev pub is_connecting_for : ℕ → Link → Bool
 is_connecting_for who x = not x.closing && if_some (connector x.sort) false (λ n. n == who)
@@ -49,10 +63,10 @@ module _ {V : Type 0} where
   abbrev pub give_close : World V → ℕ → ℕ → Answer → World V
   give_close w who number answer = reply (if_some (find (is_dead_as number) w.closings) w (free_bundle w)) who words.Hclose answer
 
-  -- a send that is given up takes back what has not begun to go, and else breaks its direction
+  -- a send is answered
   abbrev pub give_send : World V → ℕ → Call → Answer → World V
   give_send w who call answer =
-      reply (if is_given_up answer then if_some (named_by call) w (λ number. on_named w number (with_stack withdraw)) else w) who (word_of call) answer
+      reply (if_some (named_by call) w (λ number. on_named w number (with_stack (after_send (word_of call) answer)))) who (word_of call) answer
 
   -- a receive uses bytes only where it is answered by them
   abbrev pub give_receive : World V → ℕ → Call → Answer → World V
