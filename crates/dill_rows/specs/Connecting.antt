@@ -1,17 +1,13 @@
 -- Worked runs of one connection.
-use Rattle.std.specs.Prelude.{◌≡◌, ◌==◌, Bool, true, false, ℕ, suc, zero, List, [], ◌∷◌, codes, decimal}
-use Rattle.dill_base.specs.declared.deadline.Deadline.TheVariants.{Never, At, After}
-use Rattle.dill_base.specs.declared.status.Address.{Address}
+use Rattle.std.specs.Prelude.{◌≡◌, true, ℕ, List, [], ◌∷◌, codes}
+use Rattle.dill_base.specs.declared.deadline.Deadline.TheVariants.{Never}
 use Rattle.dill_calls.specs.declared.call.Call.TheVariants as calls
-use Rattle.dill_calls.specs.declared.lists.Arg.TheVariants.{Show, Give}
-use Rattle.dill_calls.specs.declared.lists.Clause.TheVariants.{Send, Recv}
 use Rattle.dill_kernel.specs.declared.replies.KernelFault.TheVariants as faults
 use Rattle.dill_kernel.specs.declared.replies.KernelReply.{KernelReply}
-use Rattle.dill_kernel.specs.declared.replies.KernelReply.TheVariants.{Woke, Done, NotYet, Came, Took, End, Failed}
-use Rattle.dill_rules.specs.Debts.{debt}
-use Rattle.dill_rows.specs.Play.{Item, Does, Tries, Again, Puts, Text, Play, playing}
-use Rattle.dill_rows.specs.Playing.{plain, nth, played, untraced, replayed, looped, idle, place, connected}
-use Rattle.dill_rows.specs.Runs.{Run, prints, does}
+use Rattle.dill_kernel.specs.declared.replies.KernelReply.TheVariants.{Done, Came, End, Failed}
+use Rattle.dill_rows.specs.Play.{Does, Text, Play}
+use Rattle.dill_rows.specs.Playing.{plain, replayed, idle, place, connected}
+use Rattle.dill_rows.specs.Runs.{Run, does}
 
 abbrev pub receives : ℕ → List ℕ → Text
 receives program args = plain 0 (Does (calls.TcpConnect (place 9) Never) ∷ Does (calls.Brecv 1 3 Never) ∷ Does (calls.Print (codes "abc")) ∷ [])

@@ -1,17 +1,7 @@
 -- Worked runs of limits of handles, numbers and links.
-use Rattle.std.specs.Prelude.{◌≡◌, ◌==◌, Bool, true, false, ℕ, suc, zero, List, [], ◌∷◌, codes, decimal}
-use Rattle.dill_base.specs.declared.deadline.Deadline.TheVariants.{Never, At, After}
-use Rattle.dill_base.specs.declared.status.Address.{Address}
-use Rattle.dill_calls.specs.declared.call.Call.TheVariants as calls
-use Rattle.dill_calls.specs.declared.lists.Arg.TheVariants.{Show, Give}
-use Rattle.dill_calls.specs.declared.lists.Clause.TheVariants.{Send, Recv}
-use Rattle.dill_kernel.specs.declared.replies.KernelFault.TheVariants as faults
-use Rattle.dill_kernel.specs.declared.replies.KernelReply.{KernelReply}
-use Rattle.dill_kernel.specs.declared.replies.KernelReply.TheVariants.{Woke, Done, NotYet, Came, Took, End, Failed}
-use Rattle.dill_rules.specs.Debts.{debt}
-use Rattle.dill_rows.specs.Play.{Item, Does, Tries, Again, Puts, Text, Play, playing}
-use Rattle.dill_rows.specs.Playing.{plain, nth, played, untraced, replayed, looped, idle, place, connected}
-use Rattle.dill_rows.specs.Runs.{Run, prints, does}
+use Rattle.std.specs.Prelude.{◌≡◌, true, ℕ, []}
+use Rattle.dill_rows.specs.Play.{Play}
+use Rattle.dill_rows.specs.Playing.{plain}
 use Rattle.std.specs.Prelude.{not}
 use Rattle.dill_handles.specs.Handles.{Handles, has_room}
 use Rattle.dill_rules.specs.declared.thing.Thing.{Thing}

@@ -1,17 +1,14 @@
 -- Worked runs of doubtful places: numbers that are occupied, cancelled takers, dead clauses, and the order of what is given up.
-use Rattle.std.specs.Prelude.{◌≡◌, ◌==◌, Bool, true, false, ℕ, suc, zero, List, [], ◌∷◌, codes, decimal}
-use Rattle.dill_base.specs.declared.deadline.Deadline.TheVariants.{Never, At, After}
-use Rattle.dill_base.specs.declared.status.Address.{Address}
+use Rattle.std.specs.Prelude.{◌≡◌, true, ℕ, zero, List, [], ◌∷◌, codes}
+use Rattle.dill_base.specs.declared.deadline.Deadline.TheVariants.{Never, At}
 use Rattle.dill_calls.specs.declared.call.Call.TheVariants as calls
-use Rattle.dill_calls.specs.declared.lists.Arg.TheVariants.{Show, Give}
-use Rattle.dill_calls.specs.declared.lists.Clause.TheVariants.{Send, Recv}
+use Rattle.dill_calls.specs.declared.lists.Arg.TheVariants.{Show}
+use Rattle.dill_calls.specs.declared.lists.Clause.TheVariants.{Recv}
 use Rattle.dill_kernel.specs.declared.replies.KernelFault.TheVariants as faults
-use Rattle.dill_kernel.specs.declared.replies.KernelReply.{KernelReply}
-use Rattle.dill_kernel.specs.declared.replies.KernelReply.TheVariants.{Woke, Done, NotYet, Came, Took, End, Failed}
-use Rattle.dill_rules.specs.Debts.{debt}
-use Rattle.dill_rows.specs.Play.{Item, Does, Tries, Again, Puts, Text, Play, playing}
-use Rattle.dill_rows.specs.Playing.{plain, nth, played, untraced, replayed, looped, idle, place, connected}
-use Rattle.dill_rows.specs.Runs.{Run, prints, does}
+use Rattle.dill_kernel.specs.declared.replies.KernelReply.TheVariants.{Done, NotYet, Failed}
+use Rattle.dill_rows.specs.Play.{Does, Tries, Text}
+use Rattle.dill_rows.specs.Playing.{plain, nth, played, replayed, idle, place, connected}
+use Rattle.dill_rows.specs.Runs.{prints, does}
 
 abbrev pub occupied : ℕ → List ℕ → Text
 occupied zero args = plain 0 (Does (calls.TcpConnect (place 9) Never) ∷ Does (calls.Go 1 (Show 1 ∷ [])) ∷ Does calls.Yield ∷ Tries (calls.Hquery 1 4) ∷ Tries (calls.Hquery 1 5) ∷ Tries (calls.Bsend 1 [] Never) ∷ Tries (calls.Msend 1 [] Never) ∷ Tries (calls.Hown 1) ∷ Tries (calls.Hclose 1) ∷ [])
@@ -51,3 +48,20 @@ ends_sending program args = plain 0 (Does (calls.TcpConnect (place 9) Never) ∷
 pub record DoneAndBroken : Type 0 where
   pub shut_failed : does (replayed (connected (idle 0 ∷ Failed faults.Other ∷ [])) 40 ends_sending) (codes "1 start =0" ∷ codes "1 tcp_connect =1" ∷ codes "1 tcp_done ECONNRESET" ∷ codes "1 bsend ECONNRESET" ∷ codes "1 brecv ECONNRESET" ∷ codes "1 bsend ECONNRESET" ∷ codes "1 end ok" ∷ codes "freed 1" ∷ codes "summary status=0 errno=none turns=6 rounds=3 closing=0 made=1 gone=1 lacks=0" ∷ []) (codes "wait 0" ∷ codes "wait 0" ∷ codes "connect 1" ∷ codes "finish 1" ∷ codes "wait 0" ∷ codes "shut 1" ∷ codes "close 1" ∷ []) ≡ true
   pub read_failed : does (replayed (connected (idle 0 ∷ Done ∷ idle 0 ∷ Failed faults.Other ∷ [])) 40 ends_sending) (codes "1 start =0" ∷ codes "1 tcp_connect =1" ∷ codes "1 tcp_done =0" ∷ codes "1 bsend EPIPE" ∷ codes "1 brecv ECONNRESET" ∷ codes "1 bsend EPIPE" ∷ codes "1 end ok" ∷ codes "freed 1" ∷ codes "summary status=0 errno=none turns=6 rounds=4 closing=0 made=1 gone=1 lacks=0" ∷ []) (codes "wait 0" ∷ codes "wait 0" ∷ codes "connect 1" ∷ codes "finish 1" ∷ codes "wait 0" ∷ codes "shut 1" ∷ codes "wait 0" ∷ codes "read 1" ∷ codes "close 1" ∷ []) ≡ true
+
+abbrev pub accepts_late : ℕ → List ℕ → Text
+accepts_late program args = plain 0 (Does (calls.TcpListen (place 9) 1) ∷ Tries (calls.TcpAccept 1 (At 0)) ∷ Tries (calls.TcpListen (place 9) 0) ∷ [])
+
+abbrev pub accepts_closed : ℕ → List ℕ → Text
+accepts_closed zero args = plain 0 (Does (calls.TcpListen (place 9) 1) ∷ Does (calls.Go 1 (Show 1 ∷ [])) ∷ Does calls.Yield ∷ Does (calls.Hclose 1) ∷ Does (calls.BundleWait 2 Never) ∷ [])
+accepts_closed program args = plain 1 (Tries (calls.TcpAccept (nth args 0) Never) ∷ [])
+
+abbrev pub connects_cancelled : ℕ → List ℕ → Text
+connects_cancelled zero args = plain 0 (Does calls.Bundle ∷ Does (calls.BundleGo 1 1 []) ∷ Does (calls.Msleep (At 5)) ∷ Does (calls.Hclose 1) ∷ Does (calls.Msleep (At 9)) ∷ [])
+connects_cancelled program args = plain 0 (Tries (calls.TcpConnect (place 9) Never) ∷ [])
+
+-- An accept that times out, or whose listener is closed, and a connect that is cancelled give back what they kept.
+pub record GivenBack : Type 0 where
+  pub late : does (replayed (idle 0 ∷ idle 0 ∷ Done ∷ idle 0 ∷ NotYet ∷ []) 40 accepts_late) (codes "1 start =0" ∷ codes "1 tcp_listen =1" ∷ codes "1 tcp_accept ETIMEDOUT" ∷ codes "1 tcp_listen EINVAL" ∷ codes "1 end ok" ∷ codes "freed 1" ∷ codes "summary status=0 errno=none turns=4 rounds=3 closing=0 made=1 gone=1 lacks=0" ∷ []) (codes "wait 0" ∷ codes "wait 0" ∷ codes "listen 1" ∷ codes "wait 0" ∷ codes "accept 1 2" ∷ codes "close 1" ∷ []) ≡ true
+  pub closed : does (replayed (idle 0 ∷ idle 0 ∷ Done ∷ []) 40 accepts_closed) (codes "1 start =0" ∷ codes "1 tcp_listen =1" ∷ codes "1 go =2" ∷ codes "2 start =0" ∷ codes "1 yield =0" ∷ codes "freed 1" ∷ codes "1 hclose =0" ∷ codes "2 tcp_accept EBADF" ∷ codes "2 end ok" ∷ codes "1 bundle_wait =0" ∷ codes "1 end ok" ∷ codes "freed 2" ∷ codes "summary status=0 errno=none turns=8 rounds=2 closing=0 made=2 gone=2 lacks=0" ∷ []) (codes "wait 0" ∷ codes "wait 0" ∷ codes "listen 1" ∷ codes "close 1" ∷ []) ≡ true
+  pub cancelled : does (replayed (idle 0 ∷ idle 0 ∷ Done ∷ NotYet ∷ idle 5 ∷ idle 5 ∷ idle 9 ∷ []) 50 connects_cancelled) (codes "1 start =0" ∷ codes "1 bundle =1" ∷ codes "1 bundle_go =0" ∷ codes "2 start =0" ∷ codes "1 msleep =0" ∷ codes "2 tcp_connect ECANCELED" ∷ codes "2 end ok" ∷ codes "freed 1" ∷ codes "1 hclose =0" ∷ codes "1 msleep =0" ∷ codes "1 end ok" ∷ codes "summary status=0 errno=none turns=8 rounds=5 closing=0 made=1 gone=1 lacks=0" ∷ []) (codes "wait 0" ∷ codes "wait 0" ∷ codes "connect 1" ∷ codes "finish 1" ∷ codes "wait until 5" ∷ codes "wait 0" ∷ codes "close 1" ∷ codes "wait until 9" ∷ []) ≡ true

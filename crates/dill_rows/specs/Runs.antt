@@ -193,10 +193,14 @@ begun view words net = record { state = opening_state view words; net = net; pha
 abbrev pub text : List (List ℕ) → List ℕ
 text lines = flat_map line lines
 
+-- nothing is kept for a call any more
+abbrev pub is_settled : {V N : Type 0} → Run V N → Bool
+is_settled r = r.state.world.handles.kept == 0 && r.state.world.links.kept == 0
+
 -- a run printed these lines
 abbrev pub prints : {V N : Type 0} → Run V N → List (List ℕ) → Bool
-prints r lines = bytes_eq r.out (text lines)
+prints r lines = is_settled r && bytes_eq r.out (text lines)
 
 -- a run printed these lines and asked so
 abbrev pub does : {V N : Type 0} → Run V N → List (List ℕ) → List (List ℕ) → Bool
-does r lines asks = bytes_eq r.out (text lines) && bytes_eq r.asks (text asks)
+does r lines asks = prints r lines && bytes_eq r.asks (text asks)

@@ -7,7 +7,7 @@ ghost use Rattle.dill_rows.specs.Channels.{UnequalSizes, ChoosesEarliest, Choice
 ghost use Rattle.dill_rows.specs.Connecting.{ConnectAndReceive, RefusedConnections, BrokenConnections};
 ghost use Rattle.dill_rows.specs.Sockets.{SendGivenUp, TriedOnce, EndInside, DetachKeepsUnread, CancelledDetach, FailedWait};
 ghost use Rattle.dill_rows.specs.Looped.{LoadCounts, LoopedDetach, LoopedWait};
-ghost use Rattle.dill_rows.specs.Readings.{Occupied, DeadClause, GiveUps, CancelledTakers, DoneAndBroken};
+ghost use Rattle.dill_rows.specs.Readings.{Occupied, DeadClause, GiveUps, CancelledTakers, DoneAndBroken, GivenBack};
 ghost use Rattle.dill_rows.specs.Lacks.{LacksChangeNothing};
 ghost use Rattle.dill_rows.specs.Limits.{LimitsAreExact};
 ghost use Rattle.dill_rows.specs.Relay.{RelayToWebsocket, LoadOfFour};
@@ -171,6 +171,11 @@ pub fn cancelled_takers()
 /// A direction whose shut failed is broken and not done; one that is done stays done where the link fails later.
 pub fn done_and_broken()
     ensures { DoneAndBroken }
+{}
+
+/// An accept that times out, or whose listener is closed, and a connect that is cancelled give back what they kept.
+pub fn what_was_kept_is_given_back()
+    ensures { GivenBack }
 {}
 
 /// A refusal of memory changes nothing but the answer, and only what takes memory meets one.
