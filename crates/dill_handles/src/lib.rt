@@ -1,0 +1,6 @@
+//! Handle numbers: what each one names and who owns it.
+#![tactic(auto)]
+
+mod entry;
+
+pub use entry::Entry;

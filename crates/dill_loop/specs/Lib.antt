@@ -1,0 +1,4 @@
+pub mod Network
+pub mod Calls
+pub mod Steps
+pub mod Rows

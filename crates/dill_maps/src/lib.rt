@@ -1,0 +1,2 @@
+//! Finite maps as contracts see them, lists of records in rising number. Definitions alone.
+#![tactic(auto)]

@@ -1,0 +1,14 @@
+pub mod Play
+pub mod Runs
+pub mod Playing
+pub mod Bundles
+pub mod Closing
+pub mod Channels
+pub mod Connecting
+pub mod Sockets
+pub mod Looped
+pub mod Readings
+pub mod Lacks
+pub mod Limits
+pub mod Relay
+pub mod Stories

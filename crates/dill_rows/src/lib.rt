@@ -1,0 +1,204 @@
+//! Worked runs, computed from the rules of the machine. It holds no code.
+#![tactic(auto)]
+
+ghost use Rattle.dill_rows.specs.Bundles.{EqualDeadlines, SleepForever, RenumberedHandle, BundleClosedWhole};
+ghost use Rattle.dill_rows.specs.Closing.{OwnBundle, CrossedGifts, NestedClose, CountedSleeps, FaultEndsMain, RenumberedWithoutClose, OwnBundleBusy, SleeperAndYielder};
+ghost use Rattle.dill_rows.specs.Channels.{UnequalSizes, ChoosesEarliest, ChoiceMeetsChoice};
+ghost use Rattle.dill_rows.specs.Connecting.{ConnectAndReceive, RefusedConnections, BrokenConnections};
+ghost use Rattle.dill_rows.specs.Sockets.{SendGivenUp, TriedOnce, EndInside, DetachKeepsUnread, CancelledDetach, FailedWait};
+ghost use Rattle.dill_rows.specs.Looped.{LoadCounts, LoopedDetach, LoopedWait};
+ghost use Rattle.dill_rows.specs.Readings.{Occupied, DeadClause, GiveUps, CancelledTakers, DoneAndBroken, GivenBack};
+ghost use Rattle.dill_rows.specs.Lacks.{LacksChangeNothing};
+ghost use Rattle.dill_rows.specs.Limits.{LimitsAreExact};
+ghost use Rattle.dill_rows.specs.Relay.{RelayToWebsocket, LoadOfFour};
+ghost use Rattle.dill_rows.specs.Stories.{WorkedStories};
+
+/// Three deadlines at one moment pass in the order of the coroutines.
+pub fn equal_deadlines_lower_first()
+    ensures { EqualDeadlines }
+{}
+
+/// A run in which all wait for ever is stuck.
+pub fn sleep_forever_is_stuck()
+    ensures { SleepForever }
+{}
+
+/// A number that was given up is dead, and its thing lives on under the next one.
+pub fn renumbered_handle()
+    ensures { RenumberedHandle }
+{}
+
+/// A bundle that is closed ends all its coroutines before it answers.
+pub fn bundle_closed_whole()
+    ensures { BundleClosedWhole }
+{}
+
+/// A coroutine can't close the bundle that it lives in.
+pub fn own_bundle_is_busy()
+    ensures { OwnBundle }
+{}
+
+/// Of two that would close each other's bundle the first one does, and the other is cancelled.
+pub fn crossed_gifts()
+    ensures { CrossedGifts }
+{}
+
+/// A closing reaches the whole tree at once, and what is done last is cancelled too.
+pub fn nested_close_with_finally()
+    ensures { NestedClose }
+{}
+
+/// A deadline after a while counts from its entry, and a budget stops the run.
+pub fn counted_sleeps()
+    ensures { CountedSleeps }
+{}
+
+/// A call on a number that isn't live ends a program that doesn't try it.
+pub fn fault_ends_main()
+    ensures { FaultEndsMain }
+{}
+
+/// What a coroutine owns is released at its end.
+pub fn renumbered_without_close()
+    ensures { RenumberedWithoutClose }
+{}
+
+/// A coroutine can't own the bundle that it lives in.
+pub fn own_bundle_busy_without_close()
+    ensures { OwnBundleBusy }
+{}
+
+/// A closed bundle ends within the turns that its coroutines declare.
+pub fn close_sleeper_and_yielder()
+    ensures { SleeperAndYielder }
+{}
+
+/// Unequal sizes fail both, and a receive where the sending is done has its end.
+pub fn unequal_sizes_then_done()
+    ensures { UnequalSizes }
+{}
+
+/// A choice takes its least clause that can be done.
+pub fn choose_earliest_clause()
+    ensures { ChoosesEarliest }
+{}
+
+/// The choice that is entered decides by its own least clause.
+pub fn choice_meets_choice()
+    ensures { ChoiceMeetsChoice }
+{}
+
+/// A connection is made, read and closed once, and no wait lasts.
+pub fn connect_and_receive()
+    ensures { ConnectAndReceive }
+{}
+
+/// A connection that isn't made ends the run with the kernel's reason, and is closed if it was begun.
+pub fn refused_connections()
+    ensures { RefusedConnections }
+{}
+
+/// A connection that fails or ends too early is an errno of the receive, and is closed once.
+pub fn broken_connections()
+    ensures { BrokenConnections }
+{}
+
+/// A send that is given up in the middle breaks its direction.
+pub fn send_given_up_midway()
+    ensures { SendGivenUp }
+{}
+
+/// A call on a link with a passed deadline is tried in one round, and no bytes are sent at once.
+pub fn deadline_passed_is_tried_once()
+    ensures { TriedOnce }
+{}
+
+/// The end inside a message breaks the receiving direction.
+pub fn end_inside_a_message()
+    ensures { EndInside }
+{}
+
+/// Detaches hand the lower socket back with exactly the bytes that were not used.
+pub fn detach_keeps_unread()
+    ensures { DetachKeepsUnread }
+{}
+
+/// A detach that is cancelled releases the whole stack, whose link is closed once.
+pub fn cancelled_detach()
+    ensures { CancelledDetach }
+{}
+
+/// A wait that fails stops the run.
+pub fn failed_wait()
+    ensures { FailedWait }
+{}
+
+/// A load of one client over the network in memory; a budget stops it, and its link is closed once.
+pub fn load_counts()
+    ensures { LoadCounts }
+{}
+
+/// The same detach that is cancelled, over the network in memory.
+pub fn cancelled_detach_over_the_network()
+    ensures { LoopedDetach }
+{}
+
+/// A wait for ever fails in the network in memory.
+pub fn failed_wait_over_the_network()
+    ensures { LoopedWait }
+{}
+
+/// While a handshake is pending its layer is on top, and every other call on the number is busy.
+pub fn pending_handshake_occupies()
+    ensures { Occupied }
+{}
+
+/// A choice with a dead number is refused whole, though an earlier clause could be done.
+pub fn dead_clause_refuses_the_choice()
+    ensures { DeadClause }
+{}
+
+/// What several coroutines give up in one step is released in the order of the coroutines.
+pub fn give_ups_go_by_coroutine()
+    ensures { GiveUps }
+{}
+
+/// A cancelled caller that takes another's handle is busy where its call gives a stack up, and else cancelled.
+pub fn cancelled_takers()
+    ensures { CancelledTakers }
+{}
+
+/// A direction whose shut failed is broken and not done; one that is done stays done where the link fails later.
+pub fn done_and_broken()
+    ensures { DoneAndBroken }
+{}
+
+/// An accept that times out, or whose listener is closed, and a connect that is cancelled give back what they kept.
+pub fn what_was_kept_is_given_back()
+    ensures { GivenBack }
+{}
+
+/// A refusal of memory changes nothing but the answer, and only what takes memory meets one.
+pub fn lacks_change_nothing()
+    ensures { LacksChangeNothing }
+{}
+
+/// The last handle, the last number and the last link can be had, and no more.
+pub fn limits_are_exact()
+    ensures { LimitsAreExact }
+{}
+
+/// Three clients over PREFIX to a WebSocket upstream.
+pub fn relay_to_websocket()
+    ensures { RelayToWebsocket }
+{}
+
+/// A load of four clients: twelve turns and three rounds for each, and three turns and two rounds besides.
+pub fn load_of_four()
+    ensures { LoadOfFour }
+{}
+
+/// The story of a run over the rules: its bytes and its asks.
+pub fn worked_stories()
+    ensures { WorkedStories }
+{}

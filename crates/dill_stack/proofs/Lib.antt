@@ -1,0 +1,5 @@
+pub mod Joinings
+pub mod Limits
+pub mod MessageReads
+pub mod Passings
+pub mod Spellings

@@ -1,0 +1,110 @@
+-- Handshakes, by which a WebSocket layer comes on a stack of bytes (RFC 6455, section 4).
+use Rattle.std.specs.Prelude.{ℕ, List, [], ◌∷◌, ◌++◌, Bool, true, not, ◌&&◌, ◌||◌, length, drop, nat_lt, codes, replicate, if◌then◌else◌, Result, Ok}
+use Rattle.std.specs.List.{list_any}
+use Rattle.rand_core.specs.Stream.{Stream}
+use Rattle.base64.specs.GeneralPurpose.{encode_of}
+use Rattle.base64.specs.Engines.{standard}
+use Rattle.dill_base.specs.declared.errno.Errno.{Errno}
+use Rattle.dill_base.specs.declared.errno.Front.{Front}
+use Rattle.dill_base.specs.declared.errno.Front.TheVariants as front
+use Rattle.dill_calls.specs.declared.answer.Answer.TheVariants.{Number}
+use Rattle.dill_http.specs.Bytes.{is_resource}
+use Rattle.dill_http.specs.Lines.{line_limit, crlf}
+use Rattle.dill_ws.specs.declared.request.Asked.{Asked}
+use Rattle.dill_ws.specs.declared.request.Asked.TheVariants as asked
+use Rattle.dill_ws.specs.declared.side.Side.TheVariants.{Client}
+use Rattle.dill_ws.specs.HeadLines.{head_limit, lines_text}
+use Rattle.dill_ws.specs.Handshakes.{accept_text, server_head_of, client_front, server_front}
+use Rattle.dill_stack.specs.declared.want.ReadOut.{ReadOut}
+use Rattle.dill_stack.specs.declared.want.ReadOut.TheVariants.{Given, Need, Fault}
+use Rattle.dill_stack.specs.Layers.{fresh_ws, Ws}
+use Rattle.dill_stack.specs.Held.{Held, Plain, Task, Idle, Greets, Expects, Answers}
+use Rattle.dill_stack.specs.Composed.{drawn_key}
+use Rattle.dill_stack.specs.Sending.{unless, is_sent, queued}
+use Rattle.dill_stack.specs.Read.{no_more}
+use Rattle.dill_stack.specs.Attaching.{greet_fault}
+
+-- the lines of a client's head
+abbrev pub client_lines : (resource host key : List ℕ) → List (List ℕ)
+client_lines resource host key =
+    (codes "GET " ++ resource ++ codes " HTTP/1.1")
+    ∷ (codes "Host: " ++ host)
+    ∷ codes "Upgrade: websocket"
+    ∷ codes "Connection: Upgrade"
+    ∷ (codes "Sec-WebSocket-Key: " ++ key)
+    ∷ codes "Sec-WebSocket-Version: 13"
+    ∷ []
+
+-- the head, which an empty line ends
+abbrev pub client_head_of : (resource host key : List ℕ) → List ℕ
+client_head_of resource host key = lines_text (client_lines resource host key) ++ crlf
+
+-- Resource and host are one or more bytes that are seen, in ASCII.
+abbrev pub is_wrong_offer : (resource host : List ℕ) → Bool
+is_wrong_offer resource host = not (is_resource resource && is_resource host)
+
+-- A line, or the whole head, is over its limit; every key has 24 bytes.
+abbrev pub is_long_offer : (resource host : List ℕ) → Bool
+is_long_offer resource host =
+    let key = replicate 24 0 in
+    list_any (λ line. nat_lt line_limit (length line)) (client_lines resource host key) || nat_lt head_limit (length (client_head_of resource host key))
+
+-- sixteen bytes of four random words, and the words that are left
+abbrev pub nonce : Stream → List ℕ × Stream
+nonce words =
+    let a = drawn_key words in
+    let b = drawn_key a.1 in
+    let c = drawn_key b.1 in
+    let d = drawn_key c.1 in
+    (a.0 ++ b.0 ++ c.0 ++ d.0, d.1)
+
+-- the text of a key
+abbrev pub key_text : Stream → List ℕ
+key_text words = encode_of standard (nonce words).0
+
+-- A client's layer stands on top from now on, its head is queued, and the server's is waited for.
+abbrev pub greeting : Bool → (resource host key : List ℕ) → Held → Held
+greeting text resource host key s =
+    record (queued Plain (client_head_of resource host key) s) { layers = Ws (fresh_ws Client text) ∷ s.layers; task = Greets (accept_text key) }
+
+-- the handshake of a client begins
+unfoldable pub greet : Bool → (resource host : List ℕ) → Stream → Held → Result (Held × Stream) Errno
+greet text resource host words s =
+    unless (greet_fault (is_wrong_offer resource host) (is_long_offer resource host) s)
+    (Ok (greeting text resource host (key_text words) s, (nonce words).1))
+
+-- a stack after a look at its handshake, and what was answered
+pub record Heard : Type 0 where
+  pub stack : Held
+  pub said : ReadOut
+
+-- the handshake is over
+abbrev pub met_after : ℕ → Held → Heard
+met_after used s = record { stack = record s { unread = drop used s.unread; task = Idle }; said = Given (Number 0) }
+
+-- no whole head is there
+abbrev pub unmet : Held → Heard
+unmet s = record { stack = s; said = no_more s.receiving.done true s.unread }
+
+-- a server's head at the front
+abbrev pub by_server : Front → Held → Heard
+by_server (front.Whole from to used) s = met_after used s
+by_server front.Need s = unmet s
+by_server (front.Fault e) s = record { stack = s; said = Fault e }
+
+-- a client's head at the front: it is used, and the own head is queued
+abbrev pub by_client : Asked → Held → Heard
+by_client (asked.Whole key used) s = record { stack = record (queued Plain (server_head_of (accept_text key)) s) { unread = drop used s.unread; task = Answers }; said = Need }
+by_client asked.Need s = unmet s
+by_client (asked.Fault e) s = record { stack = s; said = Fault e }
+
+-- A client looks for the server's head once its own has gone. A server looks for the client's, and then waits until its own has gone.
+abbrev pub heard_by : Task → Held → Heard
+heard_by (Greets accept) s = if is_sent s then by_server (server_front accept s.unread) s else record { stack = s; said = Need }
+heard_by Expects s = by_client (client_front s.unread) s
+heard_by Answers s = if is_sent s then met_after 0 s else record { stack = s; said = Need }
+heard_by task s = record { stack = s; said = Need }
+
+-- a look at the handshake that has begun
+unfoldable pub greeted : Held → Heard
+greeted s = heard_by s.task s

@@ -1,0 +1,87 @@
+-- What contracts see of a stack: a link with what came on it, what is to be sent, and the layers.
+use Rattle.std.specs.Prelude.{ℕ, List, [], ◌++◌, Bool, true, false, ◌||◌}
+use Rattle.dill_stack.specs.declared.layer.Top.{Top}
+use Rattle.dill_stack.specs.Layers.{Place, Placed, top_of}
+
+-- A direction of the link, which is whole where it is neither done nor broken. What the link sends is done from the call that ends it, unless that is taken back; what it receives is done where the peer has ended.
+pub record Direction : Type 0 where
+  pub done : Bool
+  pub broken : Bool
+
+-- What is taken back where an item is given up before a byte of it has gone: nothing, that the top layer's end was sent, or that the head's place moved from here. A pong is no call's, and is not given up.
+pub data Origin : Type 0 where
+  Plain : Origin
+  Ending : Origin
+  Line : Place → Origin
+  Pong : Origin
+
+-- what is to be sent whole, and how many of its bytes have gone
+pub record Item : Type 0 where
+  pub bytes : List ℕ
+  pub gone : ℕ
+  pub origin : Origin
+
+-- A call that goes on over several steps: a client's handshake, which expects this accept value, a server's before and after the client's head has come, or a detach.
+pub data Task : Type 0 where
+  Idle : Task
+  Greets : (accept : List ℕ) → Task
+  Expects : Task
+  Answers : Task
+  Leaves : Task
+
+-- the whole stack, but for the memory that it has reserved
+pub record Held : Type 0 where
+  pub link : ℕ
+  -- the top first
+  pub layers : List Placed
+  -- what came and isn't used
+  pub unread : List ℕ
+  pub receiving : Direction
+  pub sending : Direction
+  -- the first to be sent first
+  pub queue : List Item
+  pub task : Task
+
+-- a direction that is neither done nor broken
+abbrev pub whole : Direction
+whole = record { done = false; broken = false }
+
+-- a stack as it is made
+abbrev pub opening : Held
+opening = record { link = 0; layers = []; unread = []; receiving = whole; sending = whole; queue = []; task = Idle }
+
+-- the link of a stack that was made before it
+abbrev pub set_link : ℕ → Held → Held
+set_link link s = record s { link = link }
+
+-- what stands on top
+abbrev pub top : Held → Top
+top s = top_of s.layers
+
+-- one of the directions is
+abbrev pub is_broken : Held → Bool
+is_broken s = s.receiving.broken || s.sending.broken
+
+-- more bytes have come
+abbrev pub came : List ℕ → Held → Held
+came bytes s = record s { unread = s.unread ++ bytes }
+
+-- the peer has ended
+abbrev pub ended : Held → Held
+ended s = record s { receiving = record s.receiving { done = true } }
+
+-- The sending direction is broken: what is queued is dropped.
+abbrev pub broken_off : Held → Held
+broken_off s = record s { sending = record s.sending { broken = true }; queue = [] }
+
+-- The link failed: both directions are broken, and nothing is taken back.
+abbrev pub broke : Held → Held
+broke s = record (broken_off s) { receiving = record s.receiving { broken = true } }
+
+-- all that is unread is dropped
+abbrev pub drop_unread : Held → Held
+drop_unread s = record s { unread = [] }
+
+-- the peer has ended
+abbrev pub has_ended : Held → Bool
+has_ended s = s.receiving.done

@@ -1,0 +1,26 @@
+-- How the layers of a stack spell a message, as a relation.
+use Rattle.std.specs.Prelude.{◌≡◌, ◌≤◌, ℕ, List, [], ◌∷◌, true, false, length, IsUtf8, if◌then◌else◌, None, Ok}
+use Rattle.rand_core.specs.Stream.{Stream}
+use Rattle.dill_frames.specs.Prefix.{PrefixSpells}
+use Rattle.dill_frames.specs.Suffix.{SuffixSpells}
+use Rattle.dill_ws.specs.Frames.{Frame}
+use Rattle.dill_stack.specs.Layers.{Placed, Prefix, Suffix, Term, Http, Ws, IsStanding, IsFormed}
+use Rattle.dill_stack.specs.Held.{Held}
+use Rattle.dill_stack.specs.Composed.{message_limit, composed, words_after}
+use Rattle.dill_stack.specs.Refusals.{send_fault}
+
+-- w is the spelling of m by the top layer, spelled again by each layer below. A WebSocket layer in text mode sends UTF-8 alone.
+abbrev pub SpelledBy : List Placed → List ℕ → List ℕ → Type 0
+SpelledBy [] m w = w ≡ m
+SpelledBy (Prefix form ∷ below) m w = (v : List ℕ) × PrefixSpells form m v × SpelledBy below v w
+SpelledBy (Suffix end ∷ below) m w = (v : List ℕ) × SuffixSpells end m v × SpelledBy below v w
+SpelledBy (Term term ∷ below) m w = (m ≡ term.terminal → ⊥) × SpelledBy below m w
+SpelledBy (Http http ∷ below) m w = ⊥
+SpelledBy (Ws ws ∷ below) m w = (v : List ℕ) × (ws.text ≡ true → IsUtf8 m) × Frame ws.side true (if ws.text then 1 else 2) m v × SpelledBy below v w
+
+-- what is sent for a message
+pub record FramingLaws : Type 0 where
+  -- a message that isn't refused has a composed framing, which takes the words that its layers draw
+  pub taken : (s : Held) (m : List ℕ) (words : Stream) → IsStanding s.layers → send_fault m false s ≡ None → (w : List ℕ) × (composed s.layers m words ≡ Ok (w, words_after s.layers words))
+  -- what is composed is the spelling
+  pub spelled : (layers : List Placed) (m w : List ℕ) (words rest : Stream) → IsStanding layers → IsFormed layers → length m ≤ message_limit → composed layers m words ≡ Ok (w, rest) → SpelledBy layers m w

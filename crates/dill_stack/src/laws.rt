@@ -1,0 +1,37 @@
+ghost use Rattle.dill_stack.specs.Joining.{GivesJoined};
+ghost use Rattle.dill_stack.specs.Messages.{MessageLaws};
+ghost use Rattle.dill_stack.specs.Passing.{PassesFrames};
+ghost use Rattle.dill_stack.specs.Spelling.{FramingLaws};
+
+use dill_frames::{prefix_laws, suffix_laws};
+use dill_ws::frame_laws;
+
+/// A message that isn't refused is sent in the spelling by each layer.
+pub fn framing_laws()
+    ensures { FramingLaws }
+{
+    prefix_laws();
+    suffix_laws();
+}
+
+/// A WebSocket layer passes whole frames that don't end a message, and all of them.
+pub fn passing_laws()
+    ensures { PassesFrames }
+{
+    frame_laws();
+}
+
+/// A message is given exactly where its spelling stands at the front of what came, and just its bytes are used.
+pub fn message_laws()
+    ensures { MessageLaws }
+{
+    prefix_laws();
+    suffix_laws();
+}
+
+/// What a WebSocket layer gives as one message stands at the front as the frames of one message.
+pub fn joining_laws()
+    ensures { GivesJoined }
+{
+    frame_laws();
+}

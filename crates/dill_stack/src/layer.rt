@@ -1,0 +1,26 @@
+use dill_base::Octets;
+use dill_frames::PrefixForm;
+use dill_ws::Side;
+
+/// What is attached to a stack: each message behind its length, each before a terminator, an end by a terminal
+/// message, the heads of HTTP, or frames of WebSocket after the handshake.
+#[derive(Debug, Drop)]
+pub enum Layer {
+    Prefix(PrefixForm),
+    Suffix(Octets),
+    Term(Octets),
+    Http,
+    /// `text`: messages are sent as text, and have to be UTF-8. Both kinds are received alike.
+    Ws { side: Side, text: bool },
+}
+
+/// What stands on top of a stack. `Bytes` is a stack without layers.
+#[derive(Clone, Copy, Debug, PartialEq, Eq)]
+pub enum Top {
+    Bytes,
+    Prefix,
+    Suffix,
+    Term,
+    Http,
+    Ws,
+}

@@ -1,0 +1,9 @@
+use dill_base::Octets;
+
+/// How a layer is taken leave of. A WebSocket layer sends a close frame with this code and reason, or, at code 0 and
+/// no reason, one without either (RFC 6455, section 5.5.1).
+#[derive(Debug, Drop)]
+pub enum Parting {
+    Plain,
+    Close { code: u16, reason: Octets },
+}
