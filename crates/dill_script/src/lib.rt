@@ -1,0 +1,19 @@
+//! Scripts: their statements, the text that spells them, and what is wrong with a text that spells none.
+//! It runs nothing: what the statements do stands above it.
+#![tactic(auto)]
+
+mod form;
+mod laws;
+mod line;
+mod operand;
+mod refusal;
+mod script;
+mod statement;
+
+pub use form::{Form, Kind, Operand, Operands, Rest};
+pub use laws::{canonical_rows, first_line_rows};
+pub use line::{Block, Keyword, Register};
+pub use operand::{Bytes, Dest, Mode, Num, Order, Role, Wait};
+pub use refusal::{Reason, Refusal};
+pub use script::{Program, Script, Statements};
+pub use statement::{Cond, Relation, Statement};
