@@ -8,6 +8,8 @@ pub mod Printing
 pub mod Reading
 pub mod Refusals
 pub mod RowsReading
+pub mod RowsRefused
+pub mod RowsScripts
 pub mod Statements
 pub mod Table
 pub mod Tokens
