@@ -1,0 +1,7 @@
+pub mod Calls
+pub mod Effects
+pub mod Meaning
+pub mod RowsRuns
+pub mod Values
+pub mod Views
+pub mod Walks
