@@ -1,10 +1,13 @@
 -- Texts that are refused, with the line and the reason that is told.
-use Rattle.std.specs.Prelude.{◌≡◌, ℕ, List, [], ◌∷◌, ◌++◌, Err, Bool, true, false, codes}
+use Rattle.std.specs.Prelude.{◌≡◌, ℕ, zero, suc, ◌+◌, flat_map, decimal, replicate, is_ok, List, [], ◌∷◌, ◌++◌, Err, Bool, true, false, codes}
 use Rattle.dill_calls.specs.declared.word.Word.{Word}
 use Rattle.dill_calls.specs.declared.word.Word.TheVariants as words
 use Rattle.dill_script.specs.declared.refusal.Reason.{Reason}
 use Rattle.dill_script.specs.declared.refusal.Reason.TheVariants.{NoVersion, BadByte, BadText, UnknownWord, NotBuilt, BadBlock, BadOperand, RepeatedName, TooLarge, NoProgram, NoMain}
-use Rattle.dill_script.specs.Reading.{script_of, script_with}
+use Rattle.dill_script.specs.declared.line.Block.TheVariants.{Program}
+use Rattle.dill_script.specs.declared.statement.Statement.TheVariants.{EndLoop}
+use Rattle.dill_script.specs.Contexts.{Context}
+use Rattle.dill_script.specs.Reading.{script_of, script_with, judged}
 use Rattle.dill_script.specs.RowsReading.{PrintsBack}
 
 -- the text is refused at this line for this reason
@@ -109,3 +112,25 @@ pub record BuiltRows : Type 0 where
   pub unbuilt : script_with first_calls (codes "dill 1\nprogram main 0\nnow\nset b0 \"\"\nyield 5\nend\n") ≡ Err (5, NotBuilt)
   pub unknown_first : script_with first_calls (codes "dill 1\nprogram main 0\nyields\nyield\nend\n") ≡ Err (3, UnknownWord)
   pub outside : script_with first_calls (codes "dill 1\nyield\n") ≡ Err (2, NotBuilt)
+
+-- the numbers from one on, so many
+abbrev pub numbers_from : ℕ → ℕ → List ℕ
+numbers_from first zero = []
+numbers_from first (suc count) = first ∷ numbers_from (first + 1) count
+
+-- so many programs, with no line but their first and their last
+abbrev pub empty_programs : ℕ → List ℕ
+empty_programs count = codes "dill 1\n" ++ flat_map (λ number. codes "program p" ++ (decimal number ++ codes " 0\nend\n")) (numbers_from 1 count)
+
+-- behind so many places
+abbrev pub behind_places : ℕ → Context
+behind_places count = record { begun = true; whole = []; current = record { name = codes "main"; params = 0; statements = replicate count EndLoop }; open_blocks = Program ∷ [] }
+
+-- limits that take long texts to reach
+pub record LimitRows : Type 0 where
+  pub programs : Refused (empty_programs 257) 514 TooLarge
+  pub most_programs : Refused (empty_programs 256) 1 NoMain
+  pub places : judged (λ word. true) 9 (behind_places 4096) (codes "now" ∷ codes "end" ∷ []) ≡ Err (9, TooLarge)
+  pub places_and_statements : judged (λ word. true) 9 (behind_places 4096) (codes "set n0 0" ∷ codes "set b0 b0" ∷ codes "end" ∷ []) ≡ Err (10, TooLarge)
+  pub loop_end : judged (λ word. true) 9 (behind_places 4095) (codes "now" ∷ codes "loop" ∷ codes "end" ∷ codes "end" ∷ []) ≡ Err (11, TooLarge)
+  pub most_places : is_ok (judged (λ word. true) 9 (behind_places 4095) (codes "now" ∷ codes "end" ∷ [])) ≡ true

@@ -1,5 +1,5 @@
 ghost use Rattle.dill_script.specs.RowsReading.{FirstLineRows, CanonicalRows};
-ghost use Rattle.dill_script.specs.RowsRefused.{TokenRows, PlaceRows, OperandRows, WholeRows, ByteRows, ReadRows, BuiltRows};
+ghost use Rattle.dill_script.specs.RowsRefused.{LimitRows, TokenRows, PlaceRows, OperandRows, WholeRows, ByteRows, ReadRows, BuiltRows};
 ghost use Rattle.dill_script.specs.RowsScripts.{ScriptRows, ChannelRows, RelayRows, FormRows};
 
 /// First lines that are refused.
@@ -65,4 +65,9 @@ pub fn read_rows()
 /// Calls that are not built.
 pub fn built_rows()
     ensures { BuiltRows }
+{}
+
+/// Limits that take long texts to reach.
+pub fn limit_rows()
+    ensures { LimitRows }
 {}
