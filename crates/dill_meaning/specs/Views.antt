@@ -1,5 +1,5 @@
 -- What a coroutine that runs a script's program holds.
-use Rattle.std.specs.Prelude.{ℕ, ◌-◌, List, [], ◌++◌, length, drop, replicate, get_or, set, slice_get, position, true, false, ◌==◌, Option, Some, None, unwrap_or, codes}
+use Rattle.std.specs.Prelude.{ℕ, zero, suc, ◌-◌, List, [], ◌++◌, length, drop, replicate, get_or, set, slice_get, position, Option, Some, None, unwrap_or, codes}
 use Rattle.dill_base.specs.declared.errno.Errno.{Errno}
 use Rattle.dill_script.specs.declared.script.Program.{Program}
 use Rattle.dill_script.specs.declared.statement.Statement.{Statement}
@@ -41,12 +41,14 @@ statements_of view = statements_in (slice_get view.script view.program)
 abbrev pub ahead : ScriptView → List Statement
 ahead view = drop view.passed (statements_of view)
 
+-- the last of so many statements
+abbrev pub last_of : List Statement → ℕ → Option Statement
+last_of list zero = None
+last_of list (suc count) = slice_get list count
+
 -- the statement of the call that was made last
 abbrev pub pending : ScriptView → Option Statement
-pending view = elim (view.passed == 0) [
-  | true ↦ None
-  | false ↦ slice_get (statements_of view) (view.passed - 1)
-]
+pending view = last_of (statements_of view) view.passed
 
 abbrev pub number_in : ScriptView → ℕ → ℕ
 number_in view place = get_or view.numbers place 0

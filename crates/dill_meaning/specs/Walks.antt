@@ -74,7 +74,7 @@ call_at view _ = None
 
 -- the view with one more statement behind it
 abbrev pub passing : ScriptView → ScriptView
-passing view = record view { passed = view.passed + 1 }
+passing view = record view { passed = suc view.passed }
 
 -- the call of a statement in this mode
 abbrev pub call_in : Mode → ScriptView → Statement → Option Call
@@ -92,13 +92,18 @@ pub record Stop : Type 0 where
   -- the statement that makes a call and that call; none at the end
   pub made : Option (Statement × Call)
 
+-- the stop at a statement that makes a call, or the stop further on
+abbrev pub stopped : ScriptView → Statement → Option Call → Stop → Stop
+stopped view statement (Some call) further = record { view = view; made = Some (statement, call) }
+stopped view statement None further = further
+
 -- from these statements on to the first that makes a call; each is passed once
 abbrev pub walk : Mode → ScriptView → List Statement → Stop
 walk mode view [] = record { view = view; made = None }
-walk mode view (statement ∷ rest) = elim (call_in mode (passing view) statement) [
-  | Some call ↦ record { view = passing view; made = Some (statement, call) }
-  | None ↦ let gone = behind mode (passing view) statement in walk gone.0 gone.1 rest
-]
+walk mode view (statement ∷ rest) =
+    let gone = behind mode (passing view) statement in
+    let further = walk gone.0 gone.1 rest in
+    stopped (passing view) statement (call_in mode (passing view) statement) further
 
 -- with `try` the fault, or none, becomes `err`; without it a fault leads to `finally`
 abbrev pub settled : Bool → ScriptView → Option Errno → Mode × ScriptView

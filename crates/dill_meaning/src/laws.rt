@@ -1,4 +1,11 @@
+ghost use Rattle.dill_calls.specs.Program.{IsLawful};
+ghost use Rattle.dill_meaning.specs.Meaning.{scripts};
 ghost use Rattle.dill_meaning.specs.RowsRuns.{LoopRows, IfRows, FaultRows, NumberRows, AnswerRows, KeepRows, StartRows};
+
+/// The programs of scripts keep the law of programs.
+pub fn scripts_are_lawful()
+    ensures { IsLawful scripts }
+{}
 
 /// Loops.
 pub fn loop_rows()

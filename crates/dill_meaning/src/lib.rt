@@ -4,4 +4,7 @@
 
 mod laws;
 
-pub use laws::{answer_rows, fault_rows, if_rows, keep_rows, loop_rows, number_rows, start_rows};
+pub use laws::{
+    answer_rows, fault_rows, if_rows, keep_rows, loop_rows, number_rows, scripts_are_lawful,
+    start_rows,
+};
