@@ -10,6 +10,7 @@ pub mod Refusals
 pub mod RowsReading
 pub mod RowsRefused
 pub mod RowsScripts
+pub mod Spelling
 pub mod Statements
 pub mod Table
 pub mod Tokens
