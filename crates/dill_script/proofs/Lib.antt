@@ -1,0 +1,4 @@
+pub mod Addresses
+pub mod OperandWords
+pub mod Somes
+pub mod Words
