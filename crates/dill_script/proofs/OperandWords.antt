@@ -89,3 +89,71 @@ spliced operand list some more e f = rw e (rw f refl)
 each_is : (f : Token → Option Operand) (tokens : List Token) → ((token : Token) → IfSome (f token) (λ operand. operand_tokens operand ≡ token ∷ [])) → IfSome (each f tokens) (λ list. flat_map operand_tokens list ≡ tokens)
 each_is f [] h = refl
 each_is f (token ∷ tokens) h = if_joined (λ operand. operand_tokens operand ≡ token ∷ []) (λ list. flat_map operand_tokens list ≡ tokens) (λ list. flat_map operand_tokens list ≡ token ∷ tokens) (f token) (each f tokens) (λ operand list e g. spliced operand list (token ∷ []) tokens e g) (h token) (each_is f tokens h)
+
+-- the token is the word that it was tested to be
+pub is_that_word : (word : List ℕ) (token : Token) → is_word word token ≡ true → Plain word ≡ token
+is_that_word word (Plain bytes) e = ap Plain (sym (bytes_same bytes word e))
+is_that_word word (Text literal) e = cc
+
+items_is : (tokens : List Token) → IfSome (items_of tokens) (λ list. flat_map operand_tokens list ≡ tokens)
+items_is tokens = if_test (λ list. flat_map operand_tokens list ≡ tokens) (nat_le 1 (length tokens) && nat_le (length tokens) 16) (each item_of tokens) None (λ e. each_is item_of tokens item_is) (λ e. tt)
+
+two_tokens : (a b c d : Token) (rest : List Token) → a ≡ c → b ≡ d → a ∷ b ∷ rest ≡ c ∷ d ∷ rest
+two_tokens a b c d rest e f = cc
+
+give_is : (token next : Token) → is_word (codes "give") token ≡ true → IfSome (option_map operands.Give (number_register next)) (λ operand. operand_tokens operand ≡ token ∷ next ∷ [])
+give_is token next e = if_map (λ operand. operand_tokens operand ≡ token ∷ next ∷ []) operands.Give (number_register next) (if_more (λ p. Plain (number_register_text p) ≡ next) (λ p. Plain (codes "give") ∷ Plain (number_register_text p) ∷ [] ≡ token ∷ next ∷ []) (number_register next) (λ p f. two_tokens (Plain (codes "give")) (Plain (number_register_text p)) token next [] (is_that_word (codes "give") token e) f) (register_token_is next))
+
+num_operand_is : (token : Token) → IfSome (option_map operands.Num (num_of token)) (λ operand. operand_tokens operand ≡ token ∷ [])
+num_operand_is token = one_token operands.Num (λ n. Plain (num_text n)) (num_of token) token (λ n. refl) (num_token_is token)
+
+args_is : (tokens : List Token) → IfSome (args_of tokens) (λ list. flat_map operand_tokens list ≡ tokens)
+args_is [] = refl
+args_is (token ∷ []) = if_joined (λ operand. operand_tokens operand ≡ token ∷ []) (λ list. flat_map operand_tokens list ≡ []) (λ list. flat_map operand_tokens list ≡ token ∷ []) (option_map operands.Num (num_of token)) (Some []) (λ operand list e g. spliced operand list (token ∷ []) [] e g) (num_operand_is token) refl
+args_is (token ∷ next ∷ rest) = if_test (λ list. flat_map operand_tokens list ≡ token ∷ next ∷ rest) (is_word (codes "give") token) (joined (option_map operands.Give (number_register next)) (args_of rest)) (joined (option_map operands.Num (num_of token)) (args_of (next ∷ rest)))
+    (λ e. if_joined (λ operand. operand_tokens operand ≡ token ∷ next ∷ []) (λ list. flat_map operand_tokens list ≡ rest) (λ list. flat_map operand_tokens list ≡ token ∷ next ∷ rest) (option_map operands.Give (number_register next)) (args_of rest) (λ operand list f g. spliced operand list (token ∷ next ∷ []) rest f g) (give_is token next e) (args_is rest))
+    (λ e. if_joined (λ operand. operand_tokens operand ≡ token ∷ []) (λ list. flat_map operand_tokens list ≡ next ∷ rest) (λ list. flat_map operand_tokens list ≡ token ∷ next ∷ rest) (option_map operands.Num (num_of token)) (args_of (next ∷ rest)) (λ operand list f g. spliced operand list (token ∷ []) (next ∷ rest) f g) (num_operand_is token) (args_is (next ∷ rest)))
+
+three_tokens : (a b c d x y : Token) → a ≡ d → b ≡ x → c ≡ y → a ∷ b ∷ c ∷ [] ≡ d ∷ x ∷ y ∷ []
+three_tokens a b c d x y e f g = cc
+
+send_is : (token end item : Token) → is_word (codes "send") token ≡ true → IfSome (send_of end item) (λ operand. operand_tokens operand ≡ token ∷ end ∷ item ∷ [])
+send_is token end item e = if_then (λ operand. operand_tokens operand ≡ token ∷ end ∷ item ∷ []) (λ place. option_map (operands.Send place) (bytes_of item)) (num_of end) (if_more (λ n. Plain (num_text n) ≡ end) (λ n. IfSome (option_map (operands.Send n) (bytes_of item)) (λ operand. operand_tokens operand ≡ token ∷ end ∷ item ∷ [])) (num_of end) (λ n f. if_map (λ operand. operand_tokens operand ≡ token ∷ end ∷ item ∷ []) (operands.Send n) (bytes_of item) (if_more (λ b. bytes_token b ≡ item) (λ b. Plain (codes "send") ∷ Plain (num_text n) ∷ bytes_token b ∷ [] ≡ token ∷ end ∷ item ∷ []) (bytes_of item) (λ b g. three_tokens (Plain (codes "send")) (Plain (num_text n)) (bytes_token b) token end item (is_that_word (codes "send") token e) f g) (bytes_token_is item))) (num_token_is end))
+
+recv_is : (token end size : Token) → is_word (codes "recv") token ≡ true → IfSome (recv_of end size) (λ operand. operand_tokens operand ≡ token ∷ end ∷ size ∷ [])
+recv_is token end size e = if_then (λ operand. operand_tokens operand ≡ token ∷ end ∷ size ∷ []) (λ place. option_map (operands.Recv place) (num_of size)) (num_of end) (if_more (λ n. Plain (num_text n) ≡ end) (λ n. IfSome (option_map (operands.Recv n) (num_of size)) (λ operand. operand_tokens operand ≡ token ∷ end ∷ size ∷ [])) (num_of end) (λ n f. if_map (λ operand. operand_tokens operand ≡ token ∷ end ∷ size ∷ []) (operands.Recv n) (num_of size) (if_more (λ b. Plain (num_text b) ≡ size) (λ b. Plain (codes "recv") ∷ Plain (num_text n) ∷ Plain (num_text b) ∷ [] ≡ token ∷ end ∷ size ∷ []) (num_of size) (λ b g. three_tokens (Plain (codes "recv")) (Plain (num_text n)) (Plain (num_text b)) token end size (is_that_word (codes "recv") token e) f g) (num_token_is size))) (num_token_is end))
+
+clause_is : (token end what : Token) → IfSome (if is_word (codes "send") token then send_of end what else (if is_word (codes "recv") token then recv_of end what else None)) (λ operand. operand_tokens operand ≡ token ∷ end ∷ what ∷ [])
+clause_is token end what = if_test (λ operand. operand_tokens operand ≡ token ∷ end ∷ what ∷ []) (is_word (codes "send") token) (send_of end what) (if is_word (codes "recv") token then recv_of end what else None) (λ e. send_is token end what e) (λ e. if_test (λ operand. operand_tokens operand ≡ token ∷ end ∷ what ∷ []) (is_word (codes "recv") token) (recv_of end what) None (λ f. recv_is token end what f) (λ f. tt))
+
+clauses_is : (tokens : List Token) → IfSome (clauses_of tokens) (λ list. flat_map operand_tokens list ≡ tokens)
+clauses_is [] = refl
+clauses_is (token ∷ end ∷ what ∷ rest) = if_joined (λ operand. operand_tokens operand ≡ token ∷ end ∷ what ∷ []) (λ list. flat_map operand_tokens list ≡ rest) (λ list. flat_map operand_tokens list ≡ token ∷ end ∷ what ∷ rest) (if is_word (codes "send") token then send_of end what else (if is_word (codes "recv") token then recv_of end what else None)) (clauses_of rest) (λ operand list f g. spliced operand list (token ∷ end ∷ what ∷ []) rest f g) (clause_is token end what) (clauses_is rest)
+clauses_is _ = tt
+
+rest_is : (rest : Rest) (tokens : List Token) → IfSome (rest_of rest tokens) (λ list. flat_map operand_tokens list ≡ tokens)
+rest_is rests.Nothing [] = refl
+rest_is rests.Nothing (token ∷ tokens) = tt
+rest_is rests.Items tokens = items_is tokens
+rest_is rests.Args tokens = args_is tokens
+rest_is rests.Clauses tokens = clauses_is tokens
+
+-- the operands of a call are written as they were read
+pub operands_is : (kinds : List Kind) (rest : Rest) (tokens : List Token) → IfSome (operands_of kinds rest tokens) (λ list. flat_map operand_tokens list ≡ tokens)
+operands_is [] rest tokens = rest_is rest tokens
+operands_is (kind ∷ kinds) rest [] = tt
+operands_is (kind ∷ kinds) rest (token ∷ tokens) = if_joined (λ operand. operand_tokens operand ≡ token ∷ []) (λ list. flat_map operand_tokens list ≡ tokens) (λ list. flat_map operand_tokens list ≡ token ∷ tokens) (operand_of kind token) (operands_of kinds rest tokens) (λ operand list e g. spliced operand list (token ∷ []) tokens e g) (operand_is kind token) (operands_is kinds rest tokens)
+
+-- a register as a token
+abbrev pub register_token : Register → Token
+register_token (registers.Number place) = Plain (number_register_text place)
+register_token (registers.Bytes place) = Plain (bytes_register_text place)
+
+pub dest_is : (form : Form) (list : List Register) → IfSome (dest_of form list) (λ dest. dest_tokens (Some dest) ≡ map register_token list ++ Plain (codes "=") ∷ [])
+dest_is OneNumber (registers.Number first ∷ []) = refl
+dest_is TwoNumbers (registers.Number first ∷ registers.Number second ∷ []) = refl
+dest_is OneBytes (registers.Bytes first ∷ []) = refl
+dest_is TwoBytes (registers.Bytes first ∷ registers.Bytes second ∷ []) = refl
+dest_is CodeAndBytes (registers.Number first ∷ registers.Bytes second ∷ []) = refl
+dest_is Choice (registers.Number first ∷ registers.Bytes second ∷ []) = refl
+dest_is _ _ = tt
