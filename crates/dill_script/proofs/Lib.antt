@@ -1,4 +1,5 @@
 pub mod Addresses
+pub mod HeadWords
 pub mod LineWords
 pub mod OperandWords
 pub mod Somes

@@ -29,7 +29,7 @@ use Rattle.dill_script.proofs.OperandWords.{of_word, num_token_is, register_toke
 use Rattle.dill_script.proofs.Somes.{if_map, if_or, if_then, if_more, if_test, if_only, if_both}
 use Rattle.dill_script.proofs.Words.{named_is, number_is, register_is}
 
-two : (a b c d : Token) → a ≡ c → b ≡ d → a ∷ b ∷ [] ≡ c ∷ d ∷ []
+pub two : (a b c d : Token) → a ≡ c → b ≡ d → a ∷ b ∷ [] ≡ c ∷ d ∷ []
 two a b c d e f = cc
 
 three : (a b c d x y : Token) → a ≡ d → b ≡ x → c ≡ y → a ∷ b ∷ c ∷ [] ≡ d ∷ x ∷ y ∷ []
@@ -81,7 +81,7 @@ abbrev pub worded : Keyword → List Token → List Token
 worded keyword tokens = Plain (keyword_text keyword) ∷ tokens
 
 -- a line of two operands, or of none
-two_is : {X : Type 0} (P : List Token → X → Type 0) (f : Token → Token → Option X) (tokens : List Token) → ((a b : Token) → IfSome (f a b) (P (a ∷ b ∷ []))) → IfSome (with_two f tokens) (P tokens)
+pub two_is : {X : Type 0} (P : List Token → X → Type 0) (f : Token → Token → Option X) (tokens : List Token) → ((a b : Token) → IfSome (f a b) (P (a ∷ b ∷ []))) → IfSome (with_two f tokens) (P tokens)
 two_is P f (a ∷ b ∷ []) h = h a b
 two_is P f _ h = tt
 
@@ -89,11 +89,11 @@ none_is : {X : Type 0} (P : List Token → X → Type 0) (x : X) (tokens : List 
 none_is P x [] h = h
 none_is P x (token ∷ rest) h = tt
 
-same_behind : (word : Token) (xs ys : List Token) → xs ≡ ys → word ∷ xs ≡ word ∷ ys
+pub same_behind : (word : Token) (xs ys : List Token) → xs ≡ ys → word ∷ xs ≡ word ∷ ys
 same_behind word xs ys e = cc
 
 -- what a plain line of this word spells
-abbrev Plainly : Keyword → List Token → Line → Type 0
+abbrev pub Plainly : Keyword → List Token → Line → Type 0
 Plainly keyword tokens line = spelled line ≡ worded keyword tokens
 
 program_is : (a b : Token) → IfSome (program_of a b) (Plainly keywords.Program (a ∷ b ∷ []))
@@ -118,7 +118,7 @@ loop_is [] = refl
 loop_is (token ∷ []) = if_map (λ statement. statement_tokens statement ≡ Plain (codes "loop") ∷ token ∷ []) (λ rounds. statements.Loop (Some rounds)) (num_of token) (if_more (λ n. Plain (num_text n) ≡ token) (λ n. Plain (codes "loop") ∷ Plain (num_text n) ∷ [] ≡ Plain (codes "loop") ∷ token ∷ []) (num_of token) (λ n f. two (Plain (codes "loop")) (Plain (num_text n)) (Plain (codes "loop")) token refl f) (num_token_is token))
 loop_is _ = tt
 
-plain_is : (keyword : Keyword) (tokens : List Token) → IfSome (plain_line keyword tokens) (Plainly keyword tokens)
+pub plain_is : (keyword : Keyword) (tokens : List Token) → IfSome (plain_line keyword tokens) (Plainly keyword tokens)
 plain_is keywords.Program tokens = two_is (Plainly keywords.Program) program_of tokens program_is
 plain_is keywords.Finally tokens = none_is (Plainly keywords.Finally) (Says statements.Finally) tokens refl
 plain_is keywords.Else tokens = none_is (Plainly keywords.Else) (Says statements.Else) tokens refl
@@ -134,7 +134,7 @@ plain_is keywords.Fail tokens = if_map (Plainly keywords.Fail tokens) Says (fail
 plain_is _ tokens = tt
 
 -- what a line with these parts spells
-abbrev Wholly : Bool → List Register → Keyword → List Token → Line → Type 0
+abbrev pub Wholly : Bool → List Register → Keyword → List Token → Line → Type 0
 Wholly tried targets keyword tokens line = spelled line ≡ try_tokens tried ++ (target_tokens targets ++ worded keyword tokens)
 
 dest_at_is : (word : Word) (targets : List Register) → IfSome (dest_at word targets) (λ dest. dest_tokens dest ≡ target_tokens targets)
@@ -144,6 +144,6 @@ dest_at_is word (register ∷ targets) = if_map (λ dest. dest_tokens dest ≡ t
 call_same : (tried : Bool) (word : Token) (a b xs ys : List Token) → a ≡ b → xs ≡ ys → try_tokens tried ++ (a ++ word ∷ xs) ≡ try_tokens tried ++ (b ++ word ∷ ys)
 call_same tried word a b xs ys e f = rw e (rw f refl)
 
-call_is : (tried : Bool) (targets : List Register) (word : Word) (tokens : List Token) → IfSome (call_of_line tried word targets tokens) (λ statement. statement_tokens statement ≡ try_tokens tried ++ (target_tokens targets ++ worded (keywords.Call word) tokens))
+pub call_is : (tried : Bool) (targets : List Register) (word : Word) (tokens : List Token) → IfSome (call_of_line tried word targets tokens) (λ statement. statement_tokens statement ≡ try_tokens tried ++ (target_tokens targets ++ worded (keywords.Call word) tokens))
 call_is tried targets word tokens = if_both (λ dest. dest_tokens dest ≡ target_tokens targets) (λ list. flat_map operand_tokens list ≡ tokens) (λ statement. statement_tokens statement ≡ try_tokens tried ++ (target_tokens targets ++ worded (keywords.Call word) tokens)) (λ dest operands. statements.Call tried dest (record { word = word; operands = operands })) (dest_at word targets) (operands_of (kinds_of word) (rest_kind word) tokens)
     (λ dest list e f. call_same tried (Plain (word_text word)) (dest_tokens dest) (target_tokens targets) (flat_map operand_tokens list) tokens e f) (dest_at_is word targets) (operands_is (kinds_of word) (rest_kind word) tokens)

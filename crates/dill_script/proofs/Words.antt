@@ -88,7 +88,7 @@ pub lettered : (letter c : ℕ) (text rest : List ℕ) → c ≡ letter → text
 lettered letter c text rest e f = cc
 
 -- a register is written by its letter and place
-abbrev register_text : Register → List ℕ
+abbrev pub register_text : Register → List ℕ
 register_text (registers.Number place) = number_register_text place
 register_text (registers.Bytes place) = bytes_register_text place
 
