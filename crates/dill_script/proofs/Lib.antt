@@ -6,3 +6,4 @@ pub mod OperandWords
 pub mod Somes
 pub mod Tokenwise
 pub mod Words
+pub mod Written

@@ -85,7 +85,7 @@ pub two_is : {X : Type 0} (P : List Token → X → Type 0) (f : Token → Token
 two_is P f (a ∷ b ∷ []) h = h a b
 two_is P f _ h = tt
 
-none_is : {X : Type 0} (P : List Token → X → Type 0) (x : X) (tokens : List Token) → P [] x → IfSome (with_none x tokens) (P tokens)
+pub none_is : {X : Type 0} (P : List Token → X → Type 0) (x : X) (tokens : List Token) → P [] x → IfSome (with_none x tokens) (P tokens)
 none_is P x [] h = h
 none_is P x (token ∷ rest) h = tt
 
