@@ -4,6 +4,7 @@ pub mod Judging
 pub mod LineWords
 pub mod OperandWords
 pub mod Somes
+pub mod Spoken
 pub mod Tokenwise
 pub mod Words
 pub mod Written

@@ -180,7 +180,7 @@ end_added context (blocks.If ∷ outer) e n f = record { nested = n.1; written =
 end_added context (blocks.Else ∷ outer) e n f = record { nested = n.1; written = says_written context statements.EndIf outer (ap is_empty e) n.0 }
 end_added context (blocks.Loop ∷ outer) e n f = record { nested = n.1; written = says_written context statements.EndLoop outer (ap is_empty e) n.0 }
 
-nothing_open : (open_blocks : List Block) (program : Program) → is_empty open_blocks ≡ true → open_lines open_blocks program ≡ []
+pub nothing_open : (open_blocks : List Block) (program : Program) → is_empty open_blocks ≡ true → open_lines open_blocks program ≡ []
 nothing_open [] program e = refl
 nothing_open (block ∷ outer) program e = cc
 
