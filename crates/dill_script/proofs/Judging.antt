@@ -44,7 +44,7 @@ and_parts true b e = (refl, e)
 and_parts false b e = cc
 
 -- the tokens of a line before those of others, where it has some
-spoken_is : (line : List ℕ) (rest : List (List ℕ)) (b : Bool) → has_tokens line ≡ b → spoken (line ∷ rest) ≡ (if b then tokens_in line ∷ spoken rest else spoken rest)
+pub spoken_is : (line : List ℕ) (rest : List (List ℕ)) (b : Bool) → has_tokens line ≡ b → spoken (line ∷ rest) ≡ (if b then tokens_in line ∷ spoken rest else spoken rest)
 spoken_is line rest true e = ap (λ b. map tokens_in (cond b (line ∷ filter has_tokens rest) (filter has_tokens rest))) e
 spoken_is line rest false e = ap (λ b. map tokens_in (cond b (line ∷ filter has_tokens rest) (filter has_tokens rest))) e
 

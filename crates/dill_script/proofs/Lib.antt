@@ -2,8 +2,11 @@ pub mod Addresses
 pub mod HeadWords
 pub mod Judging
 pub mod LineWords
+pub mod Linking
 pub mod OperandWords
+pub mod Scanned
 pub mod Somes
+pub mod Spellings
 pub mod Spoken
 pub mod Tokenwise
 pub mod Words
