@@ -4,6 +4,7 @@ pub mod Judging
 pub mod LineWords
 pub mod Linking
 pub mod OperandWords
+pub mod Printed
 pub mod Scanned
 pub mod Somes
 pub mod Spellings

@@ -33,12 +33,12 @@ AreTokens [] = Unit {0}
 AreTokens (token ∷ rest) = IsToken token × AreTokens rest
 
 -- tokens of which the first began before
-abbrev InWords : List Token → Type 0
+abbrev pub InWords : List Token → Type 0
 InWords [] = ⊥
 InWords (Plain word ∷ rest) = AreWordBytes word × AreTokens rest
 InWords (Text bytes ∷ rest) = ⊥
 
-abbrev InTexts : List Token → Type 0
+abbrev pub InTexts : List Token → Type 0
 InTexts [] = ⊥
 InTexts (Plain word ∷ rest) = ⊥
 InTexts (Text bytes ∷ rest) = AreBytes bytes × AreTokens rest
@@ -112,25 +112,25 @@ solid_mark : (byte : ℕ) (m : Mark) → mark_of byte ≡ m → (m ≡ Blank →
 solid_mark byte m e n = blank_test (is_blank byte) (if byte == 35 then Hash else (if byte == 34 then Quote else (if byte == 92 then Backslash else Other))) m e n
 
 -- the tokens behind a byte between tokens, in a text and in an escape
-abbrev between_by : ℕ → List ℕ → Mark → Option (List Token)
+abbrev pub between_by : ℕ → List ℕ → Mark → Option (List Token)
 between_by byte bytes m = elim m [ Blank ↦ tokens_from Between bytes | Hash ↦ Some [] | Quote ↦ tokens_from InText bytes | _ ↦ put byte (tokens_from InWord bytes) ]
 
-abbrev word_by : ℕ → List ℕ → Bool → Option (List Token)
+abbrev pub word_by : ℕ → List ℕ → Bool → Option (List Token)
 word_by byte bytes b = elim b [ true ↦ before (Plain []) (tokens_from Between bytes) | false ↦ put byte (tokens_from InWord bytes) ]
 
-abbrev text_by : ℕ → List ℕ → Mark → Option (List Token)
+abbrev pub text_by : ℕ → List ℕ → Mark → Option (List Token)
 text_by byte bytes m = elim m [ Quote ↦ tokens_from BehindText bytes | Backslash ↦ tokens_from InEscape bytes | _ ↦ put byte (tokens_from InText bytes) ]
 
-abbrev meant_by : List ℕ → Option ℕ → Option (List Token)
+abbrev pub meant_by : List ℕ → Option ℕ → Option (List Token)
 meant_by bytes o = elim o [ Some meant ↦ put meant (tokens_from InText bytes) | None ↦ None ]
 
 abbrev escape_by : ℕ → List ℕ → Bool → Option (List Token)
 escape_by byte bytes b = elim b [ true ↦ tokens_from InHex bytes | false ↦ meant_by bytes (escaped byte) ]
 
-abbrev hex_by : ℕ → List ℕ → Bool → Option (List Token)
+abbrev pub hex_by : ℕ → List ℕ → Bool → Option (List Token)
 hex_by byte bytes b = elim b [ true ↦ tokens_from (InHexOf (hex_value byte)) bytes | false ↦ None ]
 
-abbrev low_by : ℕ → ℕ → List ℕ → Bool → Option (List Token)
+abbrev pub low_by : ℕ → ℕ → List ℕ → Bool → Option (List Token)
 low_by high byte bytes b = elim b [ true ↦ put (16 * high + hex_value byte) (tokens_from InText bytes) | false ↦ None ]
 
 abbrev behind_by : List ℕ → Bool → Option (List Token)
@@ -198,16 +198,16 @@ behind_is bytes true h = before_text (tokens_from Between bytes) h
 behind_is bytes false h = tt
 
 -- what is met on the way through a line, wherever it begins
-record Scans (bytes : List ℕ) : Type 0 where
-  between : IfSome (tokens_from Between bytes) AreTokens
-  word : IfSome (tokens_from InWord bytes) InWords
-  text : IfSome (tokens_from InText bytes) InTexts
-  escape : IfSome (tokens_from InEscape bytes) InTexts
-  hex : IfSome (tokens_from InHex bytes) InTexts
-  low : (high : ℕ) → high < 16 → IfSome (tokens_from (InHexOf high) bytes) InTexts
-  behind : IfSome (tokens_from BehindText bytes) InTexts
+pub record Scans (bytes : List ℕ) : Type 0 where
+  pub between : IfSome (tokens_from Between bytes) AreTokens
+  pub word : IfSome (tokens_from InWord bytes) InWords
+  pub text : IfSome (tokens_from InText bytes) InTexts
+  pub escape : IfSome (tokens_from InEscape bytes) InTexts
+  pub hex : IfSome (tokens_from InHex bytes) InTexts
+  pub low : (high : ℕ) → high < 16 → IfSome (tokens_from (InHexOf high) bytes) InTexts
+  pub behind : IfSome (tokens_from BehindText bytes) InTexts
 
-scans : (bytes : List ℕ) → list_all is_line_byte bytes ≡ true → Scans bytes
+pub scans : (bytes : List ℕ) → list_all is_line_byte bytes ≡ true → Scans bytes
 scans [] e = record { between = tt; word = (tt, tt); text = tt; escape = tt; hex = tt; low = λ high l. tt; behind = (tt, tt) }
 scans (byte ∷ bytes) e =
     let p = and_parts (is_line_byte byte) (list_all is_line_byte bytes) e in
