@@ -1,4 +1,5 @@
 pub mod Addresses
+pub mod Canonical
 pub mod HeadWords
 pub mod Judging
 pub mod LineWords

@@ -55,7 +55,7 @@ pub record IsDigit (d : ℕ) : Type 0 where
   pub is : is_hex (hex_digit d) ≡ true
   pub means : hex_value (hex_digit d) ≡ d
 
-digit_is : (d : ℕ) → d < 16 → IsDigit d
+pub digit_is : (d : ℕ) → d < 16 → IsDigit d
 digit_is d l =
     let p = and_parts (is_hex (hex_digit d)) (hex_value (hex_digit d) == d) (below_holds 16 d refl l) in
     record { is = p.0; means = eqb-true (hex_value (hex_digit d)) d p.1 }
