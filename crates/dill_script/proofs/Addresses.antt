@@ -1,13 +1,13 @@
 -- What was read as an address is written as it was.
-use Rattle.std.proofs.Common.{◌≡◌, ℕ, ◌+◌, ◌^◌, ◌<◌, ◌≤◌, length, List, [], ◌∷◌, ◌++◌, map, Bool, true, false, ◌&&◌, ◌==◌, nat_le, cond, if◌then◌else◌, Option, Some, None, IfSome, decimal, refl, sym, ap, ◌∙◌, subst, arith}
+use Rattle.std.proofs.Common.{◌≡◌, ℕ, ◌^◌, ◌<◌, length, List, [], ◌∷◌, ◌++◌, map, Bool, true, false, ◌==◌, nat_le, if◌then◌else◌, Option, Some, None, IfSome, decimal, refl, sym, ap, ◌∙◌, subst, arith}
 use Rattle.std.specs.List.{join_with_byte}
 use Rattle.std.proofs.lemmas.Bool.{eqb-true}
 use Rattle.dill_base.specs.declared.status.Address.{Address}
 use Rattle.dill_script.specs.Lines.{longer}
-use Rattle.dill_script.specs.Numbers.{parts, each, only_if, number_up_to, address_with, address_in, address_of}
+use Rattle.dill_script.specs.Numbers.{parts, each, number_up_to, address_with, address_in, address_of}
 use Rattle.dill_script.specs.Printing.{address_text}
-use Rattle.dill_script.proofs.Somes.{if_map, if_or, if_then, if_more, if_test, if_only, if_joined, and_parts}
-use Rattle.dill_script.proofs.Words.{number_is, lettered}
+use Rattle.dill_script.proofs.Somes.{if_only, if_joined}
+use Rattle.dill_script.proofs.Words.{number_is}
 
 -- a byte at the front of the first of the parts
 longer_joined : (c byte : ℕ) (xs : List (List ℕ)) → join_with_byte c (longer byte xs) ≡ byte ∷ join_with_byte c xs

@@ -9,11 +9,11 @@ use Rattle.dill_script.specs.declared.statement.Statement.{Statement}
 use Rattle.dill_script.specs.declared.statement.Statement.TheVariants as statements
 use Rattle.dill_script.specs.Headings.{Heading, keyword_text, all_keywords, keyword_of, with_target, up_to_equals, with_word, with_targets, heading_of}
 use Rattle.dill_script.specs.Numbers.{named, register_of}
-use Rattle.dill_script.specs.Operands.{word_in, register_in, bytes_register, num_of, bytes_of}
+use Rattle.dill_script.specs.Operands.{register_in, bytes_register, num_of, bytes_of}
 use Rattle.dill_script.specs.Printing.{number_register_text, bytes_register_text, num_text, bytes_token, try_tokens, statement_tokens}
-use Rattle.dill_script.specs.Statements.{Line, Opens, Ends, Says, both, set_at, with_two, worded_line, line_of}
+use Rattle.dill_script.specs.Statements.{Says, both, set_at, with_two, worded_line, line_of}
 use Rattle.dill_script.specs.Tokens.{Token, Plain, Text, is_word}
-use Rattle.dill_script.proofs.LineWords.{spelled, target_tokens, worded, Wholly, two_is, same_behind, two, plain_is, call_is}
+use Rattle.dill_script.proofs.LineWords.{spelled, target_tokens, worded, Wholly, two_is, plain_is, call_is}
 use Rattle.dill_script.proofs.OperandWords.{of_word, num_token_is, bytes_register_token_is, bytes_token_is, register_token, is_that_word}
 use Rattle.dill_script.proofs.Somes.{if_map, if_then, if_more, if_test, if_both}
 use Rattle.dill_script.proofs.Words.{named_is, register_is, register_text}
@@ -39,7 +39,7 @@ no_try false o P h = h refl
 set_at_is : (tried : Bool) (register : Register) (target value : Token) → register_token register ≡ target → IfSome (set_at tried register value) (λ statement. statement_tokens statement ≡ try_tokens tried ++ Plain (codes "set") ∷ target ∷ value ∷ [])
 set_at_is tried (registers.Number place) target value e = no_try tried (option_map (statements.Set place) (num_of value)) (λ statement. statement_tokens statement ≡ try_tokens tried ++ Plain (codes "set") ∷ target ∷ value ∷ [])
     (λ untried. if_map (λ statement. statement_tokens statement ≡ try_tokens tried ++ Plain (codes "set") ∷ target ∷ value ∷ []) (statements.Set place) (num_of value) (if_more (λ n. Plain (num_text n) ≡ value) (λ n. Plain (codes "set") ∷ Plain (number_register_text place) ∷ Plain (num_text n) ∷ [] ≡ try_tokens tried ++ Plain (codes "set") ∷ target ∷ value ∷ []) (num_of value)
-      (λ n f. three_same (Plain (codes "set")) (Plain (number_register_text place)) (Plain (num_text n)) target value e f ∙ sym (ap (λ b. try_tokens b ++ Plain (codes "set") ∷ target ∷ value ∷ []) untried)) (num_token_is value)))
+    (λ n f. three_same (Plain (codes "set")) (Plain (number_register_text place)) (Plain (num_text n)) target value e f ∙ sym (ap (λ b. try_tokens b ++ Plain (codes "set") ∷ target ∷ value ∷ []) untried)) (num_token_is value)))
 set_at_is tried (registers.Bytes place) target value e = if_map (λ statement. statement_tokens statement ≡ try_tokens tried ++ Plain (codes "set") ∷ target ∷ value ∷ []) (statements.Keep tried place) (bytes_of value) (if_more (λ b. bytes_token b ≡ value) (λ b. try_tokens tried ++ Plain (codes "set") ∷ Plain (bytes_register_text place) ∷ bytes_token b ∷ [] ≡ try_tokens tried ++ Plain (codes "set") ∷ target ∷ value ∷ []) (bytes_of value)
     (λ b f. try_behind tried (Plain (codes "set") ∷ Plain (bytes_register_text place) ∷ bytes_token b ∷ []) (Plain (codes "set") ∷ target ∷ value ∷ []) (three_same (Plain (codes "set")) (Plain (bytes_register_text place)) (bytes_token b) target value e f)) (bytes_token_is value))
 

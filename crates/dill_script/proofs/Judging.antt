@@ -1,6 +1,6 @@
 -- Lines are judged well exactly where their bytes and texts may stand and their tokens lead to the programs.
-use Rattle.std.proofs.Common.{◌≡◌, ℕ, ◌+◌, List, [], ◌∷◌, ◌++◌, map, filter, Bool, true, false, not, ◌&&◌, ◌||◌, cond, if◌then◌else◌, Option, Some, None, option_and_then, is_some, is_none, unwrap_or, Result, Ok, Err, refl, sym, ap, ◌∙◌, subst}
-use Rattle.std.specs.List.{list_all, list_any}
+use Rattle.std.proofs.Common.{◌≡◌, ℕ, ◌+◌, List, [], ◌∷◌, map, filter, Bool, true, false, not, ◌&&◌, ◌||◌, cond, if◌then◌else◌, Option, Some, None, option_and_then, is_some, is_none, Ok, refl, sym, ap, ◌∙◌, subst}
+use Rattle.std.specs.List.{list_all}
 use Rattle.dill_calls.specs.declared.word.Word.{Word}
 use Rattle.dill_script.specs.declared.refusal.Reason.{Reason}
 use Rattle.dill_script.specs.declared.line.Block.{Block}
@@ -13,7 +13,7 @@ use Rattle.dill_script.specs.Refusals.{faults, first_reason, is_some_with, word_
 use Rattle.dill_script.specs.Spelling.{tokens_in, spoken}
 use Rattle.dill_script.specs.Statements.{line_of}
 use Rattle.dill_script.specs.Tokens.{Token, tokens}
-use Rattle.dill_script.proofs.Tokenwise.{said_none, or_parts, IsFine, Leads, Passes, passes, no_reason, fine_of, passes_of, after_by, after_is, after_none}
+use Rattle.dill_script.proofs.Tokenwise.{said_none, or_parts, Leads, Passes, passes, no_reason, fine_of, passes_of, after_is, after_none}
 
 -- bytes and texts as they may be
 pub record AreClean (lines : List (List ℕ)) : Type 0 where
@@ -79,9 +79,10 @@ leads_of built number context [] script c e = (record { bytes = refl; texts = re
 leads_of built number context (line ∷ rest) script c e =
     let d = decided number (first_reason (faults built context (is_empty rest) line)) (judged built (number + 1) (after context line) rest) script e in
     let p : Passes built context (is_empty rest) line = passes built context (is_empty rest) line d.0 in
-    let l = leads_of built (number + 1) (after context line) rest script (λ x. closed (is_empty rest) (after context line).open_blocks (is_last rest x) (last_part built context (is_empty rest) line p)) d.1 in
-    (record { bytes = true_and (list_all is_line_byte line) (list_all (λ x. list_all is_line_byte x) rest) (not_false (list_all is_line_byte line) p.bytes) l.0.bytes; texts = true_and (is_some (tokens line)) (list_all (λ x. is_some (tokens x)) rest) (some_of (tokens line) p.texts) l.0.texts },
-      leads_step built context line rest script (has_tokens line) refl p l.1)
+    let l = leads_of built (number + 1) (after context line) rest script (λ x. closed (is_empty rest) (after context line).open_blocks (is_last rest x) (last_part built context (is_empty rest) line p)) d.1 in (
+      record { bytes = true_and (list_all is_line_byte line) (list_all (λ x. list_all is_line_byte x) rest) (not_false (list_all is_line_byte line) p.bytes) l.0.bytes; texts = true_and (is_some (tokens line)) (list_all (λ x. is_some (tokens x)) rest) (some_of (tokens line) p.texts) l.0.texts },
+      leads_step built context line rest script (has_tokens line) refl p l.1,
+    )
 
 last_closed : (built : Word → Bool) (context : Context) (rest : List (List ℕ)) (script : List Program) → Leads built context (spoken rest) script → (is_empty rest && not (is_empty context.open_blocks)) ≡ false
 last_closed built context [] script l = rw l.0 refl

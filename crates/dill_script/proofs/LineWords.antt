@@ -1,33 +1,26 @@
 -- What the tokens of a line were read as is written as those tokens.
-use Rattle.std.proofs.Common.{◌≡◌, ℕ, ◌^◌, ◌<◌, List, [], ◌∷◌, ◌++◌, map, flat_map, Bool, true, false, ◌&&◌, ◌||◌, ◌==◌, not, nat_le, if◌then◌else◌, Option, Some, None, IfSome, option_map, option_and_then, decimal, refl, sym, ap, ◌∙◌, subst, arith, codes, bytes_eq, append_assoc}
-use Rattle.std.specs.Option.{option_or}
-use Rattle.dill_base.specs.declared.errno.Errno.{Errno}
+use Rattle.std.proofs.Common.{◌≡◌, ℕ, List, [], ◌∷◌, ◌++◌, map, flat_map, Bool, true, if◌then◌else◌, Option, Some, None, IfSome, option_map, option_and_then, decimal, refl, ◌∙◌, arith, codes}
 use Rattle.dill_base.specs.Errnos.{errno_text}
 use Rattle.dill_calls.specs.CallTable.{form_of}
 use Rattle.dill_calls.specs.declared.word.Word.{Word}
 use Rattle.dill_calls.specs.Words.{word_text}
-use Rattle.dill_script.specs.declared.form.Operand.{Operand}
 use Rattle.dill_script.specs.declared.line.Keyword.{Keyword}
 use Rattle.dill_script.specs.declared.line.Keyword.TheVariants as keywords
 use Rattle.dill_script.specs.declared.line.Register.{Register}
-use Rattle.dill_script.specs.declared.line.Register.TheVariants as registers
-use Rattle.dill_script.specs.declared.operand.Dest.{Dest}
-use Rattle.dill_script.specs.declared.statement.Cond.{Cond}
 use Rattle.dill_script.specs.declared.statement.Cond.TheVariants as conds
-use Rattle.dill_script.specs.declared.statement.Relation.{Relation}
 use Rattle.dill_script.specs.declared.statement.Relation.TheVariants.{Equal, Unequal, Less, AtMost, Greater, AtLeast}
 use Rattle.dill_script.specs.declared.statement.Statement.{Statement}
 use Rattle.dill_script.specs.declared.statement.Statement.TheVariants as statements
-use Rattle.dill_script.specs.Headings.{Heading, keyword_text, all_keywords, keyword_of, with_target, up_to_equals, with_word, with_targets, heading_of}
-use Rattle.dill_script.specs.Numbers.{named, only_if, number_up_to, errnos, errno_of, register_of}
-use Rattle.dill_script.specs.Operands.{word_in, name_of, register_in, number_register, bytes_register, num_of, bytes_of, operands_of, dest_of}
+use Rattle.dill_script.specs.Headings.{keyword_text}
+use Rattle.dill_script.specs.Numbers.{named, only_if, number_up_to, errnos, errno_of}
+use Rattle.dill_script.specs.Operands.{word_in, name_of, number_register, bytes_register, num_of, bytes_of, operands_of, dest_of}
 use Rattle.dill_script.specs.Printing.{number_register_text, bytes_register_text, num_text, bytes_token, operand_tokens, dest_tokens, try_tokens, cond_tokens, statement_tokens}
-use Rattle.dill_script.specs.Statements.{Line, Opens, Ends, Says, relation_text, relation_of, both, number_cond, bytes_cond, err_of, cond_of, set_at, with_two, with_none, fail_of, loop_of, params_fit, program_of, dest_at, call_of_line, plain_line, worded_line, line_of}
+use Rattle.dill_script.specs.Statements.{Line, Opens, Ends, Says, relation_text, relation_of, both, number_cond, bytes_cond, err_of, cond_of, with_two, with_none, fail_of, loop_of, params_fit, program_of, dest_at, call_of_line, plain_line}
 use Rattle.dill_script.specs.Table.{kinds_of, rest_kind}
-use Rattle.dill_script.specs.Tokens.{Token, Plain, Text, is_word}
+use Rattle.dill_script.specs.Tokens.{Token, Plain, is_word}
 use Rattle.dill_script.proofs.OperandWords.{of_word, num_token_is, register_token_is, bytes_register_token_is, bytes_token_is, name_token_is, operands_is, register_token, dest_is, is_that_word}
 use Rattle.dill_script.proofs.Somes.{if_map, if_or, if_then, if_more, if_test, if_only, if_both}
-use Rattle.dill_script.proofs.Words.{named_is, number_is, register_is}
+use Rattle.dill_script.proofs.Words.{named_is, number_is}
 
 pub two : (a b c d : Token) → a ≡ c → b ≡ d → a ∷ b ∷ [] ≡ c ∷ d ∷ []
 two a b c d e f = cc
@@ -44,16 +37,16 @@ errno_is token = of_word errno_of errno_text token (named_is errno_text errnos)
 number_cond_is : (left sign right : Token) → IfSome (number_cond left sign right) (λ c. cond_tokens c ≡ left ∷ sign ∷ right ∷ [])
 number_cond_is left sign right = if_then (λ c. cond_tokens c ≡ left ∷ sign ∷ right ∷ []) (λ place. both (conds.Number place) (relation_of sign) (num_of right)) (number_register left)
     (if_more (λ p. Plain (number_register_text p) ≡ left) (λ p. IfSome (both (conds.Number p) (relation_of sign) (num_of right)) (λ c. cond_tokens c ≡ left ∷ sign ∷ right ∷ [])) (number_register left)
-      (λ p e. if_both (λ r. Plain (relation_text r) ≡ sign) (λ n. Plain (num_text n) ≡ right) (λ c. cond_tokens c ≡ left ∷ sign ∷ right ∷ []) (conds.Number p) (relation_of sign) (num_of right)
-        (λ r n f g. three (Plain (number_register_text p)) (Plain (relation_text r)) (Plain (num_text n)) left sign right e f g) (relation_is sign) (num_token_is right))
-      (register_token_is left))
+    (λ p e. if_both (λ r. Plain (relation_text r) ≡ sign) (λ n. Plain (num_text n) ≡ right) (λ c. cond_tokens c ≡ left ∷ sign ∷ right ∷ []) (conds.Number p) (relation_of sign) (num_of right)
+    (λ r n f g. three (Plain (number_register_text p)) (Plain (relation_text r)) (Plain (num_text n)) left sign right e f g) (relation_is sign) (num_token_is right))
+    (register_token_is left))
 
 bytes_cond_is : (left sign right : Token) → IfSome (bytes_cond left sign right) (λ c. cond_tokens c ≡ left ∷ sign ∷ right ∷ [])
 bytes_cond_is left sign right = if_test (λ c. cond_tokens c ≡ left ∷ sign ∷ right ∷ []) (is_word (codes "=") sign) (both conds.Same (bytes_register left) (bytes_of right)) (if is_word (codes "!=") sign then both conds.Differs (bytes_register left) (bytes_of right) else None)
     (λ e. if_both (λ p. Plain (bytes_register_text p) ≡ left) (λ b. bytes_token b ≡ right) (λ c. cond_tokens c ≡ left ∷ sign ∷ right ∷ []) conds.Same (bytes_register left) (bytes_of right) (λ p b f g. three (Plain (bytes_register_text p)) (Plain (codes "=")) (bytes_token b) left sign right f (is_that_word (codes "=") sign e) g) (bytes_register_token_is left) (bytes_token_is right))
     (λ e. if_test (λ c. cond_tokens c ≡ left ∷ sign ∷ right ∷ []) (is_word (codes "!=") sign) (both conds.Differs (bytes_register left) (bytes_of right)) None
-      (λ h. if_both (λ p. Plain (bytes_register_text p) ≡ left) (λ b. bytes_token b ≡ right) (λ c. cond_tokens c ≡ left ∷ sign ∷ right ∷ []) conds.Differs (bytes_register left) (bytes_of right) (λ p b f g. three (Plain (bytes_register_text p)) (Plain (codes "!=")) (bytes_token b) left sign right f (is_that_word (codes "!=") sign h) g) (bytes_register_token_is left) (bytes_token_is right))
-      (λ h. tt))
+    (λ h. if_both (λ p. Plain (bytes_register_text p) ≡ left) (λ b. bytes_token b ≡ right) (λ c. cond_tokens c ≡ left ∷ sign ∷ right ∷ []) conds.Differs (bytes_register left) (bytes_of right) (λ p b f g. three (Plain (bytes_register_text p)) (Plain (codes "!=")) (bytes_token b) left sign right f (is_that_word (codes "!=") sign h) g) (bytes_register_token_is left) (bytes_token_is right))
+    (λ h. tt))
 
 err_is : (first second : Token) → is_word (codes "err") first ≡ true → IfSome (err_of second) (λ c. cond_tokens c ≡ first ∷ second ∷ [])
 err_is first second e = if_test (λ c. cond_tokens c ≡ first ∷ second ∷ []) (is_word (codes "none") second) (Some (conds.Err None)) (option_map (λ errno. conds.Err (Some errno)) (option_and_then errno_of (word_in second)))
@@ -99,11 +92,11 @@ Plainly keyword tokens line = spelled line ≡ worded keyword tokens
 program_is : (a b : Token) → IfSome (program_of a b) (Plainly keywords.Program (a ∷ b ∷ []))
 program_is a b = if_then (Plainly keywords.Program (a ∷ b ∷ [])) (λ opened. option_and_then (λ count. only_if (params_fit opened count) (Opens opened count)) (option_and_then (number_up_to 16) (word_in b))) (name_of a)
     (if_more (λ name. Plain name ≡ a) (λ opened. IfSome (option_and_then (λ count. only_if (params_fit opened count) (Opens opened count)) (option_and_then (number_up_to 16) (word_in b))) (Plainly keywords.Program (a ∷ b ∷ []))) (name_of a)
-      (λ opened e. if_then (Plainly keywords.Program (a ∷ b ∷ [])) (λ count. only_if (params_fit opened count) (Opens opened count)) (option_and_then (number_up_to 16) (word_in b))
-        (if_more (λ count. Plain (decimal count) ≡ b) (λ count. IfSome (only_if (params_fit opened count) (Opens opened count)) (Plainly keywords.Program (a ∷ b ∷ []))) (option_and_then (number_up_to 16) (word_in b))
-          (λ count f. if_only (Plainly keywords.Program (a ∷ b ∷ [])) (params_fit opened count) (Opens opened count) (λ g. same_behind (Plain (codes "program")) (Plain opened ∷ Plain (decimal count) ∷ []) (a ∷ b ∷ []) (two (Plain opened) (Plain (decimal count)) a b e f)))
-          (of_word (number_up_to 16) decimal b (λ word. number_is 16 word (omega arith)))))
-      (name_token_is a))
+    (λ opened e. if_then (Plainly keywords.Program (a ∷ b ∷ [])) (λ count. only_if (params_fit opened count) (Opens opened count)) (option_and_then (number_up_to 16) (word_in b))
+    (if_more (λ count. Plain (decimal count) ≡ b) (λ count. IfSome (only_if (params_fit opened count) (Opens opened count)) (Plainly keywords.Program (a ∷ b ∷ []))) (option_and_then (number_up_to 16) (word_in b))
+    (λ count f. if_only (Plainly keywords.Program (a ∷ b ∷ [])) (params_fit opened count) (Opens opened count) (λ g. same_behind (Plain (codes "program")) (Plain opened ∷ Plain (decimal count) ∷ []) (a ∷ b ∷ []) (two (Plain opened) (Plain (decimal count)) a b e f)))
+    (of_word (number_up_to 16) decimal b (λ word. number_is 16 word (omega arith)))))
+    (name_token_is a))
 
 -- a statement of a register and what stands behind it
 paired : {X Y : Type 0} (word : List ℕ) (make : X → Y → Statement) (left : X → Token) (right : Y → Token) (o : Option X) (p : Option Y) (a b : Token) → ((x : X) (y : Y) → statement_tokens (make x y) ≡ Plain word ∷ left x ∷ right y ∷ []) → IfSome o (λ x. left x ≡ a) → IfSome p (λ y. right y ≡ b) → IfSome (both make o p) (λ statement. statement_tokens statement ≡ Plain word ∷ a ∷ b ∷ [])

@@ -1,5 +1,5 @@
 -- What else a script asks of its lines is asked of their tokens.
-use Rattle.std.proofs.Common.{◌≡◌, ℕ, ◌+◌, List, [], ◌∷◌, ◌++◌, length, map, filter, Bool, true, false, not, ◌&&◌, ◌||◌, ◌==◌, cond, nat_lt, if◌then◌else◌, Option, Some, None, option_and_then, unwrap_or, Ok, Err, refl, sym, ap, ◌∙◌, subst, codes}
+use Rattle.std.proofs.Common.{◌≡◌, ℕ, ◌+◌, List, [], ◌∷◌, length, Bool, true, false, not, ◌||◌, ◌==◌, nat_lt, if◌then◌else◌, Option, Some, None, option_and_then, unwrap_or, Ok, Err, refl, sym, ap, ◌∙◌, subst, codes}
 use Rattle.std.specs.List.{list_any}
 use Rattle.dill_calls.specs.declared.word.Word.{Word}
 use Rattle.dill_script.specs.declared.script.Program.{Program}
@@ -11,7 +11,7 @@ use Rattle.dill_script.specs.Reading.{Reading, judged, started_by, starts_none, 
 use Rattle.dill_script.specs.Refusals.{has_name, is_some_with}
 use Rattle.dill_script.specs.Spelling.{tokens_in, spoken}
 use Rattle.dill_script.specs.Statements.{line_of}
-use Rattle.dill_script.specs.Tokens.{Token, Mark, Blank, Hash, Quote, Backslash, Other, Between, InText, InWord, put, mark_of, tokens, tokens_from}
+use Rattle.dill_script.specs.Tokens.{Token, Mark, Blank, Hash, Quote, Backslash, Other, Between, InText, InWord, put, tokens, tokens_from}
 use Rattle.dill_script.proofs.Judging.{spoken_is}
 
 -- the line of these tokens starts a program that isn't there

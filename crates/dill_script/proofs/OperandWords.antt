@@ -1,7 +1,6 @@
 -- What tokens were read as, as operands of a call, is written as those tokens.
-use Rattle.std.proofs.Common.{◌≡◌, ℕ, List, [], ◌∷◌, ◌++◌, length, map, flat_map, Bool, true, false, ◌&&◌, ◌==◌, nat_le, if◌then◌else◌, Option, Some, None, IfSome, option_map, option_and_then, refl, sym, ap, ◌∙◌, subst, codes, bytes_eq}
+use Rattle.std.proofs.Common.{◌≡◌, ℕ, List, [], ◌∷◌, ◌++◌, length, map, flat_map, true, ◌&&◌, ◌==◌, nat_le, if◌then◌else◌, Option, Some, None, IfSome, option_map, option_and_then, refl, sym, ap, ◌∙◌, codes, bytes_eq}
 use Rattle.std.proofs.lemmas.Bool.{eqb-true}
-use Rattle.dill_base.specs.declared.status.Address.{Address}
 use Rattle.dill_calls.specs.CallTable.{Form, OneNumber, TwoNumbers, OneBytes, TwoBytes, CodeAndBytes, Choice}
 use Rattle.dill_script.specs.declared.form.Kind.{Kind}
 use Rattle.dill_script.specs.declared.form.Kind.TheVariants as kinds
@@ -11,22 +10,18 @@ use Rattle.dill_script.specs.declared.form.Operand.{Operand}
 use Rattle.dill_script.specs.declared.form.Operand.TheVariants as operands
 use Rattle.dill_script.specs.declared.line.Register.{Register}
 use Rattle.dill_script.specs.declared.line.Register.TheVariants as registers
-use Rattle.dill_script.specs.declared.operand.Num.{Num}
 use Rattle.dill_script.specs.declared.operand.Num.TheVariants as nums
-use Rattle.dill_script.specs.declared.operand.Bytes.{Bytes}
 use Rattle.dill_script.specs.declared.operand.Bytes.TheVariants as bytes
-use Rattle.dill_script.specs.declared.operand.Wait.{Wait}
 use Rattle.dill_script.specs.declared.operand.Wait.TheVariants as waits
-use Rattle.dill_script.specs.declared.operand.Dest.{Dest}
 use Rattle.dill_script.specs.declared.operand.Order.TheVariants as orders
 use Rattle.dill_script.specs.declared.operand.Mode.TheVariants as modes
 use Rattle.dill_script.specs.declared.operand.Role.TheVariants as roles
 use Rattle.dill_script.specs.Numbers.{named, only_if, each, joined, is_name, register_of, address_of}
-use Rattle.dill_script.specs.Operands.{word_in, number_place, bytes_place, register_in, number_register, bytes_register, num_of_word, num_of, bytes_of, wait_of_word, wait_of, order_text, mode_text, role_text, name_of, operand_of, item_of, items_of, send_of, recv_of, args_of, clauses_of, rest_of, operands_of, dest_of}
+use Rattle.dill_script.specs.Operands.{word_in, number_place, bytes_place, number_register, bytes_register, num_of_word, num_of, bytes_of, wait_of_word, wait_of, order_text, mode_text, role_text, name_of, operand_of, item_of, items_of, send_of, recv_of, args_of, clauses_of, rest_of, operands_of, dest_of}
 use Rattle.dill_script.specs.Printing.{number_register_text, bytes_register_text, num_text, bytes_token, wait_text, address_text, operand_tokens, dest_tokens}
 use Rattle.dill_script.specs.Tokens.{Token, Plain, Text, is_word}
 use Rattle.dill_script.proofs.Addresses.{address_is}
-use Rattle.dill_script.proofs.Somes.{if_map, if_or, if_then, if_more, if_test, if_only, if_joined, and_parts}
+use Rattle.dill_script.proofs.Somes.{if_map, if_or, if_then, if_more, if_test, if_only, if_joined}
 use Rattle.dill_script.proofs.Words.{named_is, bytes_same, lettered, number_register_is, bytes_register_is, num_is}
 
 -- what a word is read as, of a token
@@ -54,8 +49,8 @@ wait_word_is [] = tt
 wait_word_is (first ∷ rest) = if_test (λ w. wait_text w ≡ first ∷ rest) (bytes_eq (first ∷ rest) (codes "-1")) (Some waits.Never) (if first == 43 then option_map waits.After (num_of_word rest) else option_map waits.At (num_of_word (first ∷ rest)))
     (λ e. sym (bytes_same (first ∷ rest) (codes "-1") e))
     (λ e. if_test (λ w. wait_text w ≡ first ∷ rest) (first == 43) (option_map waits.After (num_of_word rest)) (option_map waits.At (num_of_word (first ∷ rest)))
-      (λ f. if_map (λ w. wait_text w ≡ first ∷ rest) waits.After (num_of_word rest) (if_more (λ n. num_text n ≡ rest) (λ n. 43 ∷ num_text n ≡ first ∷ rest) (num_of_word rest) (λ n g. lettered 43 first (num_text n) rest (eqb-true first 43 f) g) (num_is rest)))
-      (λ f. if_map (λ w. wait_text w ≡ first ∷ rest) waits.At (num_of_word (first ∷ rest)) (num_is (first ∷ rest))))
+    (λ f. if_map (λ w. wait_text w ≡ first ∷ rest) waits.After (num_of_word rest) (if_more (λ n. num_text n ≡ rest) (λ n. 43 ∷ num_text n ≡ first ∷ rest) (num_of_word rest) (λ n g. lettered 43 first (num_text n) rest (eqb-true first 43 f) g) (num_is rest)))
+    (λ f. if_map (λ w. wait_text w ≡ first ∷ rest) waits.At (num_of_word (first ∷ rest)) (num_is (first ∷ rest))))
 
 name_word_is : (word : List ℕ) → IfSome (only_if (is_name word) word) (λ name. name ≡ word)
 name_word_is word = if_only (λ name. name ≡ word) (is_name word) word (λ e. refl)

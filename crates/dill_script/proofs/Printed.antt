@@ -1,11 +1,11 @@
 -- The text of tokens is scanned as these tokens.
-use Rattle.std.proofs.Common.{◌≡◌, ◌≢◌, ℕ, zero, suc, ◌+◌, ◌-◌, ◌*◌, ◌/◌, ◌%◌, ◌<◌, ◌≤◌, List, [], ◌∷◌, ◌++◌, map, flat_map, slice_get, unwrap_or, Bool, true, false, not, ◌&&◌, ◌||◌, ◌==◌, cond, nat_le, nat_lt, if◌then◌else◌, Option, Some, None, IfSome, option_map, refl, sym, ap, ◌∙◌, subst, arith, codes, leb-true, append_assoc, append-nil}
+use Rattle.std.proofs.Common.{◌≡◌, ◌≢◌, ℕ, zero, suc, ◌+◌, ◌*◌, ◌/◌, ◌%◌, ◌<◌, List, [], ◌∷◌, ◌++◌, map, flat_map, Bool, true, false, ◌&&◌, ◌==◌, nat_le, if◌then◌else◌, Option, Some, refl, sym, ap, ◌∙◌, subst, arith, codes, append_assoc, append-nil}
 use Rattle.std.proofs.lemmas.Bool.{eqb-true, eq-eqb}
-use Rattle.std.specs.List.{list_all, join_with_byte}
-use Rattle.dill_script.specs.Lines.{is_line_byte, is_blank, has_tokens}
+use Rattle.std.specs.List.{join_with_byte}
+use Rattle.dill_script.specs.Lines.{is_blank}
 use Rattle.dill_script.specs.Printing.{hex_digit, byte_text, token_text}
-use Rattle.dill_script.specs.Tokens.{Token, Plain, Text, Mark, Blank, Hash, Quote, Backslash, Other, Place, Between, InWord, InText, InEscape, InHex, InHexOf, BehindText, mark_of, is_hex, hex_value, escaped, put, before, tokens, tokens_from}
-use Rattle.dill_script.proofs.Scanned.{IsWordByte, AreWordBytes, IsWord, AreBytes, IsToken, AreTokens, between_by, word_by, text_by, hex_by, low_by}
+use Rattle.dill_script.specs.Tokens.{Token, Plain, Text, Mark, Blank, Hash, Quote, Backslash, Other, Between, InWord, InText, BehindText, mark_of, is_hex, hex_value, put, before, tokens, tokens_from}
+use Rattle.dill_script.proofs.Scanned.{AreWordBytes, AreBytes, IsToken, AreTokens, between_by, word_by, text_by, hex_by, low_by}
 use Rattle.dill_script.proofs.Somes.{and_parts}
 
 -- bytes at the front of the first token

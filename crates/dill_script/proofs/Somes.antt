@@ -1,7 +1,7 @@
 -- A fact of the value of an option, if there is one, through the ways in which options are made.
-use Rattle.std.proofs.Common.{◌≡◌, ℕ, List, [], ◌∷◌, ◌++◌, Bool, true, false, cond, if◌then◌else◌, Option, Some, None, IfSome, option_map, option_and_then, refl, ap, ◌&&◌}
+use Rattle.std.proofs.Common.{◌≡◌, List, ◌∷◌, Bool, true, false, if◌then◌else◌, Option, Some, None, IfSome, option_map, option_and_then, refl, ◌&&◌}
 use Rattle.std.specs.Option.{option_or}
-use Rattle.dill_script.specs.Numbers.{only_if, joined, each}
+use Rattle.dill_script.specs.Numbers.{only_if, joined}
 use Rattle.dill_script.specs.Statements.{both}
 
 pub if_map : {X Y : Type 0} (P : Y → Type 0) (f : X → Y) (o : Option X) → IfSome o (λ x. P (f x)) → IfSome (option_map f o) P

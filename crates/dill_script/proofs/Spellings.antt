@@ -1,15 +1,12 @@
 -- What is read is spelled by its text, and read alike from each text that spells it.
-use Rattle.std.proofs.Common.{◌≡◌, ℕ, ◌≤◌, List, [], ◌∷◌, length, Bool, true, false, not, nat_lt, refl, sym, ap, ◌∙◌, subst, arith, Ok}
+use Rattle.std.proofs.Common.{◌≡◌, length, Bool, true, false, not, refl, sym, ap, ◌∙◌, subst}
 use Rattle.std.proofs.lemmas.Bool.{le-ltb}
 use Rattle.std.specs.List.{list_any}
-use Rattle.dill_script.specs.declared.script.Program.{Program}
 use Rattle.dill_script.specs.Blocks.{is_empty}
 use Rattle.dill_script.specs.Contexts.{opening}
 use Rattle.dill_script.specs.Lines.{lines_of, has_tokens}
-use Rattle.dill_script.specs.Printing.{script_lines}
-use Rattle.dill_script.specs.Reading.{script_with}
 use Rattle.dill_script.specs.Spelling.{spoken, Spells, ReadsSpelling, ReadsEachSpelling}
-use Rattle.dill_script.proofs.Judging.{AreClean, leads_of, judged_of}
+use Rattle.dill_script.proofs.Judging.{leads_of, judged_of}
 use Rattle.dill_script.proofs.Linking.{IsRead, is_read, reads, starts_by, without_spoken, spoken_without, any_spoken}
 use Rattle.dill_script.proofs.Spoken.{leads_lines}
 use Rattle.dill_script.proofs.Tokenwise.{Leads}

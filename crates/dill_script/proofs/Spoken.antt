@@ -1,25 +1,20 @@
 -- The tokens that lead to programs are the lines of these programs.
-use Rattle.std.proofs.Common.{◌≡◌, ℕ, ◌+◌, List, [], ◌∷◌, ◌++◌, map, filter, flat_map, Bool, true, false, not, ◌&&◌, ◌||◌, if◌then◌else◌, Option, Some, None, IfSome, option_map, option_and_then, is_none, unwrap_or, Ok, Err, refl, sym, ap, ◌∙◌, subst, codes, append_assoc, append-nil}
-use Rattle.std.specs.List.{list_any}
+use Rattle.std.proofs.Common.{◌≡◌, List, [], ◌∷◌, ◌++◌, flat_map, Bool, true, false, not, ◌&&◌, if◌then◌else◌, Option, Some, None, IfSome, option_and_then, is_none, refl, sym, ap, ◌∙◌, subst, codes, append_assoc, append-nil}
 use Rattle.dill_calls.specs.declared.word.Word.{Word}
-use Rattle.dill_script.specs.declared.line.Block.{Block}
 use Rattle.dill_script.specs.declared.line.Keyword.{Keyword}
 use Rattle.dill_script.specs.declared.script.Program.{Program}
 use Rattle.dill_script.specs.Blocks.{is_empty, may_stand}
 use Rattle.dill_script.specs.Contexts.{Context, opening, adding, open_behind, behind}
 use Rattle.dill_script.specs.Headings.{Heading, heading_of}
-use Rattle.dill_script.specs.Lines.{has_tokens, is_blank}
 use Rattle.dill_script.specs.Printing.{program_lines, script_lines}
-use Rattle.dill_script.specs.Reading.{Reading, started_by, starts_none, takes, here_or, first_without}
 use Rattle.dill_script.specs.Refusals.{is_version, is_some_with}
-use Rattle.dill_script.specs.Spelling.{tokens_in, spoken}
 use Rattle.dill_script.specs.Statements.{Line, worded_line, line_of}
-use Rattle.dill_script.specs.Tokens.{Token, Plain, Text, tokens, is_word}
+use Rattle.dill_script.specs.Tokens.{Token, Plain, is_word}
 use Rattle.dill_script.proofs.HeadWords.{line_is}
 use Rattle.dill_script.proofs.LineWords.{spelled}
 use Rattle.dill_script.proofs.OperandWords.{is_that_word}
-use Rattle.dill_script.proofs.Tokenwise.{IsFine, Leads, said_by, after_by, word_by}
-use Rattle.dill_script.proofs.Written.{written, open_lines, Nested, Matches, Adds, worded_matches, added, nothing_open}
+use Rattle.dill_script.proofs.Tokenwise.{IsFine, Leads, said_by, after_by}
+use Rattle.dill_script.proofs.Written.{written, Nested, Matches, Adds, worded_matches, added, nothing_open}
 
 not_false : (b : Bool) → not b ≡ false → b ≡ true
 not_false true e = refl
@@ -50,10 +45,10 @@ step_adds built context list e n f =
     let h : Heading = heading_of list in
     let s : said_by context list ≡ Some h = said_some context list e in
     let a : Adds context (record (behind context (Some h)) { begun = true }) list = head_added context h h.word (line_of h) list refl refl
-          (subst (λ x. is_some_with (λ heading. is_none heading.word) x ≡ false) s f.word)
-          (subst (λ x. is_some_with (λ heading. is_none (line_of heading)) x ≡ false) s f.spells)
-          (subst (λ x. is_some_with (λ keyword. not (may_stand context.open_blocks keyword)) (option_and_then (λ heading. heading.word) x) ≡ false) s f.stands)
-          (line_is list) n in
+    (subst (λ x. is_some_with (λ heading. is_none heading.word) x ≡ false) s f.word)
+    (subst (λ x. is_some_with (λ heading. is_none (line_of heading)) x ≡ false) s f.spells)
+    (subst (λ x. is_some_with (λ keyword. not (may_stand context.open_blocks keyword)) (option_and_then (λ heading. heading.word) x) ≡ false) s f.stands)
+    (line_is list) n in
     subst (λ x. Adds context (record (behind context x) { begun = true }) list) (sym s) a
 
 leads_written : (built : Word → Bool) (context : Context) (lists : List (List Token)) (script : List Program) → context.begun ≡ true → Nested context.open_blocks → Leads built context lists script → written context ++ lists ≡ flat_map program_lines script

@@ -1,19 +1,16 @@
 -- Judging lines looks at nothing but the tokens of those that have some.
-use Rattle.std.proofs.Common.{◌≡◌, ℕ, ◌+◌, List, [], ◌∷◌, ◌++◌, map, filter, Bool, true, false, not, ◌&&◌, ◌||◌, cond, if◌then◌else◌, Option, Some, None, option_and_then, is_some, is_none, unwrap_or, Result, Ok, Err, refl, sym, ap, ◌∙◌, subst}
-use Rattle.std.proofs.lemmas.Option.{none-some}
+use Rattle.std.proofs.Common.{◌≡◌, ℕ, List, [], ◌∷◌, Bool, true, false, not, ◌&&◌, ◌||◌, if◌then◌else◌, Option, Some, None, option_and_then, is_none, unwrap_or, refl, sym, ◌∙◌, subst}
 use Rattle.std.specs.List.{list_all}
 use Rattle.dill_calls.specs.declared.word.Word.{Word}
 use Rattle.dill_script.specs.declared.line.Keyword.{Keyword}
-use Rattle.dill_script.specs.declared.refusal.Reason.{Reason}
 use Rattle.dill_script.specs.declared.refusal.Reason.TheVariants.{NoVersion, BadByte, BadText, UnknownWord, NotBuilt, BadBlock, BadOperand, RepeatedName, TooLarge}
 use Rattle.dill_script.specs.declared.script.Program.{Program}
 use Rattle.dill_script.specs.Blocks.{is_empty, may_stand}
 use Rattle.dill_script.specs.Contexts.{Context, said, after, behind}
 use Rattle.dill_script.specs.Headings.{Heading, heading_of}
 use Rattle.dill_script.specs.Lines.{is_line_byte, has_tokens}
-use Rattle.dill_script.specs.Reading.{Reading, judged}
 use Rattle.dill_script.specs.Refusals.{faults, first_reason, lacks_version, is_version, has_unknown_word, word_said, is_unbuilt, breaks_blocks, misspells, repeats_name, names_again, passes_limit, is_some_with}
-use Rattle.dill_script.specs.Spelling.{tokens_in, spoken}
+use Rattle.dill_script.specs.Spelling.{tokens_in}
 use Rattle.dill_script.specs.Statements.{line_of}
 use Rattle.dill_script.specs.Tokens.{Token, tokens}
 

@@ -1,17 +1,14 @@
 -- What a word was read as is written as that word.
-use Rattle.std.proofs.Common.{◌≡◌, ℕ, ◌+◌, ◌-◌, ◌*◌, ◌^◌, ◌<◌, ◌≤◌, zero, suc, List, [], ◌∷◌, ◌++◌, length, get_or, map, fold, find, Bool, true, false, not, ◌&&◌, ◌==◌, cond, nat_le, if◌then◌else◌, Option, Some, None, IfSome, option_map, option_and_then, decimal, bytes_eq, refl, sym, ap, ◌∙◌, subst, arith, leb-true, codes}
-use Rattle.std.specs.List.{list_all, join_with_byte}
-use Rattle.std.specs.Option.{option_or}
+use Rattle.std.proofs.Common.{◌≡◌, ℕ, ◌+◌, ◌-◌, ◌*◌, ◌^◌, ◌<◌, ◌≤◌, List, [], ◌∷◌, length, get_or, fold, find, Bool, true, false, not, ◌&&◌, ◌==◌, cond, nat_le, if◌then◌else◌, Option, Some, None, IfSome, option_map, option_and_then, decimal, bytes_eq, refl, ap, arith, leb-true}
+use Rattle.std.specs.List.{list_all}
 use Rattle.std.proofs.lemmas.Bool.{eqb-true, eq-eqb, le-leb}
 use Rattle.std.proofs.lemmas.Fmt.{decimal-digits_value}
 use Rattle.std.proofs.lemmas.Str.Parse.{IsDigitsTest, FoldsDigits, IsNumeralModel, numerals_by_fold}
 use Rattle.std.proofs.lemmas.Slice.Eq.{bytes_eq-Decides}
 use Rattle.dill_script.specs.declared.line.Register.{Register}
 use Rattle.dill_script.specs.declared.line.Register.TheVariants as registers
-use Rattle.dill_script.specs.declared.operand.Num.{Num}
 use Rattle.dill_script.specs.declared.operand.Num.TheVariants as nums
-use Rattle.dill_script.specs.Lines.{longer}
-use Rattle.dill_script.specs.Numbers.{named, only_if, is_digit, is_decimal, value_of, number_up_to, number_of, register_of, parts}
+use Rattle.dill_script.specs.Numbers.{named, is_digit, is_decimal, value_of, number_up_to, number_of, register_of}
 use Rattle.dill_script.specs.Operands.{number_place, bytes_place, num_of_word}
 use Rattle.dill_script.specs.Printing.{number_register_text, bytes_register_text, num_text}
 use Rattle.dill_script.proofs.Somes.{if_map, if_or, if_then, if_more, if_test, if_only, and_parts}
@@ -97,10 +94,10 @@ register_is [] = tt
 register_is (letter ∷ rest) =
     let n : IfSome (number_up_to 15 rest) (λ p. decimal p ≡ rest) = number_is 15 rest (omega arith) in
     if_test (λ r. register_text r ≡ letter ∷ rest) (letter == 110) (option_map registers.Number (number_up_to 15 rest)) (if letter == 98 then option_map registers.Bytes (number_up_to 15 rest) else None)
-      (λ e. if_map (λ r. register_text r ≡ letter ∷ rest) registers.Number (number_up_to 15 rest) (if_more (λ p. decimal p ≡ rest) (λ p. number_register_text p ≡ letter ∷ rest) (number_up_to 15 rest) (λ p h. lettered 110 letter (decimal p) rest (eqb-true letter 110 e) h) n))
-      (λ e. if_test (λ r. register_text r ≡ letter ∷ rest) (letter == 98) (option_map registers.Bytes (number_up_to 15 rest)) None
-        (λ f. if_map (λ r. register_text r ≡ letter ∷ rest) registers.Bytes (number_up_to 15 rest) (if_more (λ p. decimal p ≡ rest) (λ p. bytes_register_text p ≡ letter ∷ rest) (number_up_to 15 rest) (λ p h. lettered 98 letter (decimal p) rest (eqb-true letter 98 f) h) n))
-        (λ f. tt))
+    (λ e. if_map (λ r. register_text r ≡ letter ∷ rest) registers.Number (number_up_to 15 rest) (if_more (λ p. decimal p ≡ rest) (λ p. number_register_text p ≡ letter ∷ rest) (number_up_to 15 rest) (λ p h. lettered 110 letter (decimal p) rest (eqb-true letter 110 e) h) n))
+    (λ e. if_test (λ r. register_text r ≡ letter ∷ rest) (letter == 98) (option_map registers.Bytes (number_up_to 15 rest)) None
+    (λ f. if_map (λ r. register_text r ≡ letter ∷ rest) registers.Bytes (number_up_to 15 rest) (if_more (λ p. decimal p ≡ rest) (λ p. bytes_register_text p ≡ letter ∷ rest) (number_up_to 15 rest) (λ p h. lettered 98 letter (decimal p) rest (eqb-true letter 98 f) h) n))
+    (λ f. tt))
 
 number_place_of : (word : List ℕ) (r : Register) → register_text r ≡ word → IfSome (number_place r) (λ p. number_register_text p ≡ word)
 number_place_of word (registers.Number place) e = e

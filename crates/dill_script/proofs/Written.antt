@@ -1,10 +1,8 @@
 -- The programs of a context are written as the lines that led to it.
-use Rattle.std.proofs.Common.{◌≡◌, ℕ, ◌+◌, ◌^◌, ◌<◌, List, [], ◌∷◌, ◌++◌, map, flat_map, Bool, true, false, not, ◌&&◌, ◌||◌, if◌then◌else◌, Option, Some, None, IfSome, option_map, option_and_then, is_none, unwrap_or, decimal, refl, sym, ap, ◌∙◌, subst, codes, append_assoc, append-nil}
+use Rattle.std.proofs.Common.{◌≡◌, ℕ, List, [], ◌∷◌, ◌++◌, map, flat_map, Bool, true, false, not, ◌&&◌, Option, Some, None, IfSome, option_map, option_and_then, decimal, refl, sym, ap, ◌∙◌, subst, codes, append_assoc, append-nil}
 use Rattle.std.proofs.lemmas.Grind.{flat_map-append}
 use Rattle.std.proofs.lemmas.List.{map-append}
-use Rattle.std.proofs.lemmas.Option.{none-some}
 use Rattle.std.specs.List.{list_any}
-use Rattle.dill_calls.specs.declared.word.Word.{Word}
 use Rattle.dill_script.specs.declared.line.Block.{Block}
 use Rattle.dill_script.specs.declared.line.Block.TheVariants as blocks
 use Rattle.dill_script.specs.declared.line.Keyword.{Keyword}
@@ -13,15 +11,13 @@ use Rattle.dill_script.specs.declared.line.Register.{Register}
 use Rattle.dill_script.specs.declared.script.Program.{Program}
 use Rattle.dill_script.specs.declared.statement.Statement.{Statement}
 use Rattle.dill_script.specs.declared.statement.Statement.TheVariants as statements
-use Rattle.dill_script.specs.Blocks.{is_empty, is_loop, is_finally, is_in_if, is_in_program, is_before_finally, may_stand, outside, blocks_behind}
-use Rattle.dill_script.specs.Contexts.{Context, bare, saying, ended, ending, adding, open_behind, behind}
-use Rattle.dill_script.specs.Headings.{Heading, heading_of}
+use Rattle.dill_script.specs.Blocks.{is_empty, is_loop, is_finally, is_in_if, is_in_program, may_stand, outside, blocks_behind}
+use Rattle.dill_script.specs.Contexts.{Context, bare, saying, ended, ending, adding}
 use Rattle.dill_script.specs.Numbers.{only_if, number_up_to}
 use Rattle.dill_script.specs.Operands.{word_in, name_of, number_register, bytes_register, num_of, register_in, bytes_of}
 use Rattle.dill_script.specs.Printing.{statement_tokens, program_lines}
-use Rattle.dill_script.specs.Statements.{Line, Opens, Ends, Says, both, set_at, with_two, with_none, program_of, params_fit, plain_line, worded_line, line_of, cond_of, loop_of, fail_of, call_of_line}
-use Rattle.dill_script.specs.Tokens.{Token, Plain, Text}
-use Rattle.dill_script.proofs.HeadWords.{line_is}
+use Rattle.dill_script.specs.Statements.{Line, Opens, Ends, Says, both, set_at, with_two, program_of, params_fit, plain_line, worded_line, cond_of, loop_of, fail_of, call_of_line}
+use Rattle.dill_script.specs.Tokens.{Token, Plain}
 use Rattle.dill_script.proofs.LineWords.{spelled, two_is, none_is}
 use Rattle.dill_script.proofs.Somes.{if_map, if_then, if_only}
 
@@ -60,8 +56,8 @@ any_some P (Some x) h = h x
 program_matches : (a b : Token) → IfSome (program_of a b) (Matches keywords.Program)
 program_matches a b = if_then (Matches keywords.Program) (λ opened. option_and_then (λ count. only_if (params_fit opened count) (Opens opened count)) (option_and_then (number_up_to 16) (word_in b))) (name_of a)
     (any_some (λ opened. IfSome (option_and_then (λ count. only_if (params_fit opened count) (Opens opened count)) (option_and_then (number_up_to 16) (word_in b))) (Matches keywords.Program)) (name_of a)
-      (λ opened. if_then (Matches keywords.Program) (λ count. only_if (params_fit opened count) (Opens opened count)) (option_and_then (number_up_to 16) (word_in b))
-        (any_some (λ count. IfSome (only_if (params_fit opened count) (Opens opened count)) (Matches keywords.Program)) (option_and_then (number_up_to 16) (word_in b)) (λ count. if_only (Matches keywords.Program) (params_fit opened count) (Opens opened count) (λ e. tt)))))
+    (λ opened. if_then (Matches keywords.Program) (λ count. only_if (params_fit opened count) (Opens opened count)) (option_and_then (number_up_to 16) (word_in b))
+    (any_some (λ count. IfSome (only_if (params_fit opened count) (Opens opened count)) (Matches keywords.Program)) (option_and_then (number_up_to 16) (word_in b)) (λ count. if_only (Matches keywords.Program) (params_fit opened count) (Opens opened count) (λ e. tt)))))
 
 -- a line that holds a statement
 says_matches : (k : Keyword) (o : Option Statement) → ((s : Statement) → Matches k (Says s)) → IfSome (option_map Says o) (Matches k)
@@ -161,11 +157,11 @@ ends_written context block outer e f =
     let whole : List (List Token) = flat_map program_lines context.whole in
     let last : List (List Token) = (Plain (codes "end") ∷ []) ∷ [] in
     ap (λ o. flat_map program_lines (context.whole ++ context.current ∷ []) ++ open_lines o (bare [] 0)) f
-      ∙ append-nil (flat_map program_lines (context.whole ++ context.current ∷ []))
-      ∙ flat_map-append program_lines context.whole (context.current ∷ [])
-      ∙ ap (λ x. whole ++ x) (append-nil (program_lines context.current))
-      ∙ sym (append_assoc whole (begun_lines context.current) last)
-      ∙ ap (λ o. (whole ++ open_lines o context.current) ++ last) (sym e)
+    ∙ append-nil (flat_map program_lines (context.whole ++ context.current ∷ []))
+    ∙ flat_map-append program_lines context.whole (context.current ∷ [])
+    ∙ ap (λ x. whole ++ x) (append-nil (program_lines context.current))
+    ∙ sym (append_assoc whole (begun_lines context.current) last)
+    ∙ ap (λ o. (whole ++ open_lines o context.current) ++ last) (sym e)
 
 -- what a line adds, and the blocks behind it
 pub record Adds (context new : Context) (list : List Token) : Type 0 where
