@@ -3,8 +3,10 @@
 #![tactic(auto)]
 
 mod laws;
+mod rows;
 
-pub use laws::{
-    answer_rows, fault_rows, if_rows, keep_rows, loop_rows, number_rows, scripts_are_lawful,
-    start_rows,
+pub use laws::scripts_are_lawful;
+pub use rows::{
+    answer_rows, channel_rows, fault_rows, handle_rows, if_rows, keep_rows, lack_rows, link_rows,
+    loop_rows, number_rows, start_rows,
 };

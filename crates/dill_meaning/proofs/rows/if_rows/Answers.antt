@@ -1,6 +1,6 @@
 use Rattle.std.proofs.Common.{refl}
 use Rattle.std.specs.Fmt.{digits}
-use Rattle.dill_meaning.proofs.laws.if_rows.Goals as goal
+use Rattle.dill_meaning.proofs.rows.if_rows.Goals as goal
 
 pub returns : goal.returns
 unfolding digits
