@@ -1,5 +1,5 @@
 -- The programs of scripts keep the law of programs.
-use Rattle.std.proofs.Common.{◌≡◌, ◌≤◌, ◌<◌, ◌^◌, ◌⊎◌, inl, inr, ℕ, suc, List, slice_get, Option, Some, None, true, refl, sym, ap, ◌∙◌, subst, arith, nat_le, leb-true}
+use Rattle.std.proofs.Common.{◌≡◌, ◌≤◌, ◌<◌, ◌^◌, ◌⊎◌, inl, inr, ℕ, suc, List, slice_get, Option, Some, None, true, refl, sym, ap, ◌∙◌, subst, arith, nat_le, leb-true, take, cond, ◌+◌}
 use Rattle.std.specs.List.{list_all}
 use Rattle.dill_base.specs.declared.errno.Errno.{Errno}
 use Rattle.dill_base.specs.declared.errno.Errno.TheVariants.{Ecanceled}
@@ -12,6 +12,7 @@ use Rattle.dill_calls.specs.declared.word.Word.TheVariants.{Yield}
 use Rattle.dill_calls.specs.Program.{Lowers, PassesWell, GoesOn, Moves, IsLawful}
 use Rattle.dill_script.specs.Contexts.{is_place, places}
 use Rattle.dill_script.specs.declared.script.Program.{Program}
+use Rattle.dill_script.specs.Spelling.{is_sized}
 use Rattle.dill_script.specs.declared.statement.Statement.{Statement}
 use Rattle.dill_script.specs.declared.statement.Statement.TheVariants as statements
 use Rattle.dill_meaning.specs.Effects.{fault_in}
@@ -19,6 +20,8 @@ use Rattle.dill_meaning.specs.Meaning.{scripts, kept, appended, moved, next, sho
 use Rattle.dill_meaning.specs.Values.{bytes_value}
 use Rattle.dill_meaning.specs.Views.{ScriptView, statements_in, statements_of, ahead, pending, last_of}
 use Rattle.dill_meaning.specs.Walks.{stop_of, given, join_fault}
+use Rattle.dill_meaning.specs.Laws.{MainBegins, LeftCounts}
+use Rattle.std.proofs.lemmas.List.Sums.{sum_by-take-drop}
 use Rattle.dill_meaning.proofs.Given.{GoesFrom, given_goes}
 use Rattle.dill_meaning.proofs.Lists.{count_ahead, all_at}
 use Rattle.dill_meaning.proofs.Walking.{Keeps, Stands, Walked, walk_walked, statements_kept, ahead_kept}
@@ -32,7 +35,7 @@ kept_keeps view (statements.Keep tried place value) = record { script = refl; pr
 kept_keeps view (statements.Join tried place value) = appended_keeps view place (bytes_value view value) (join_fault view place (bytes_value view value))
 kept_keeps view _ = record { script = refl; program = refl; passed = refl }
 
-fits_all : (s t : List Program) → s ≡ t → list_all (λ program. nat_le (places program.statements) 4096) t ≡ true → list_all (λ program. nat_le (places program.statements) 4096) s ≡ true
+fits_all : (s t : List Program) → s ≡ t → list_all is_sized t ≡ true → list_all is_sized s ≡ true
 fits_all s t e r = cc
 
 last_same : (xs ys : List Statement) (n m : ℕ) → xs ≡ ys → n ≡ m → word_at (last_of xs n) ≡ word_at (last_of ys m)
@@ -105,9 +108,9 @@ moves view answer r =
 few : (n : ℕ) → nat_le n 4096 ≡ true → suc n < 2 ^ 32
 few n e = let h : n ≤ 4096 = leb-true n 4096 e in omega arith
 
-small_at : (script : List Program) (at : ℕ) (found : Option Program) → list_all (λ program. nat_le (places program.statements) 4096) script ≡ true → slice_get script at ≡ found → suc (places (statements_in found)) < 2 ^ 32
+small_at : (script : List Program) (at : ℕ) (found : Option Program) → list_all is_sized script ≡ true → slice_get script at ≡ found → suc (places (statements_in found)) < 2 ^ 32
 small_at script at None a e = omega arith
-small_at script at (Some program) a e = few (places program.statements) (all_at (λ (one : Program). nat_le (places one.statements) 4096) script at program a e)
+small_at script at (Some program) a e = few (places program.statements) (all_at is_sized script at program a e)
 
 pub scripts_lawful : IsLawful scripts
 scripts_lawful = record {
@@ -115,3 +118,14 @@ scripts_lawful = record {
   moves = λ view answer r some within. moves view answer r;
   child = λ view program args r k. record { real = r; start = refl; some = omega arith; whole = refl };
 }
+
+-- `main` of a script that was read begins
+pub main_begins : MainBegins
+main_begins script r = record { real = r; start = refl; some = omega arith; whole = refl }
+
+-- what is left, and what is behind
+pub left_counts : LeftCounts
+left_counts view = suc_sum (places (ahead view)) (places (take view.passed (statements_of view))) (places (statements_of view)) (sum_by-take-drop (λ s. cond (is_place s) 1 0) (statements_of view) view.passed)
+  where
+    suc_sum : (a b c : ℕ) → b + a ≡ c → suc a + b ≡ suc c
+    suc_sum a b c e = omega arith

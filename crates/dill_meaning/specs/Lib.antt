@@ -1,5 +1,6 @@
 pub mod Calls
 pub mod Effects
+pub mod Laws
 pub mod Meaning
 pub mod RowsRuns
 pub mod RowsTraces

@@ -1,5 +1,5 @@
 -- The meaning of scripts' programs: each turn's call, what is left, and who may be started.
-use Rattle.std.specs.Prelude.{ℕ, suc, List, ◌++◌, Bool, true, false, ◌||◌, ◌==◌, nat_le, Option, Some, None, slice_get}
+use Rattle.std.specs.Prelude.{ℕ, suc, List, ◌++◌, Bool, true, false, ◌||◌, ◌==◌, Option, Some, None, slice_get}
 use Rattle.std.specs.List.{list_any, list_all}
 use Rattle.dill_base.specs.declared.errno.Errno.{Errno}
 use Rattle.dill_calls.specs.declared.answer.Answer.{Answer}
@@ -15,6 +15,7 @@ use Rattle.dill_script.specs.declared.statement.Statement.{Statement}
 use Rattle.dill_script.specs.declared.statement.Statement.TheVariants as statements
 use Rattle.dill_script.specs.Contexts.{places}
 use Rattle.dill_script.specs.Refusals.{is_some_with}
+use Rattle.dill_script.specs.Spelling.{is_sized}
 use Rattle.dill_script.specs.Table.{kinds_of, rest_kind}
 use Rattle.dill_meaning.specs.Values.{bytes_value}
 use Rattle.dill_meaning.specs.Views.{ScriptView, statements_of, ahead, pending, bytes_in, with_bytes, beginning}
@@ -71,7 +72,7 @@ child view program args = beginning view.script program args
 
 -- no program of its script has more than 4,096 places
 abbrev pub is_real : ScriptView → Bool
-is_real view = list_all (λ program. nat_le (places program.statements) 4096) view.script
+is_real view = list_all is_sized view.script
 
 -- the programs of scripts
 abbrev pub scripts : Program ScriptView

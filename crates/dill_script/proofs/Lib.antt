@@ -11,5 +11,6 @@ pub mod Somes
 pub mod Spellings
 pub mod Spoken
 pub mod Tokenwise
+pub mod Within
 pub mod Words
 pub mod Written

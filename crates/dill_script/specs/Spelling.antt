@@ -1,8 +1,10 @@
 -- Which texts spell a script, and what reading and printing promise each other.
-use Rattle.std.specs.Prelude.{◌≡◌, ℕ, ◌≤◌, List, [], length, map, filter, Bool, true, is_some, unwrap_or, Ok}
-use Rattle.std.specs.List.{list_all}
+use Rattle.std.specs.Prelude.{◌≡◌, ℕ, ◌≤◌, List, [], length, map, filter, Bool, true, is_some, unwrap_or, nat_le, codes, Ok}
+use Rattle.std.specs.List.{list_all, list_any}
 use Rattle.dill_calls.specs.declared.word.Word.{Word}
 use Rattle.dill_script.specs.declared.script.Program.{Program}
+use Rattle.dill_script.specs.Contexts.{places}
+use Rattle.dill_script.specs.Refusals.{has_name}
 use Rattle.dill_script.specs.Lines.{lines_of, is_line_byte, has_tokens}
 use Rattle.dill_script.specs.Printing.{script_lines, canonical}
 use Rattle.dill_script.specs.Reading.{script_with}
@@ -37,3 +39,16 @@ CanonicalSpells = (built : Word → Bool) (text : List ℕ) (script : List Progr
 -- so the canonical text of what is read is read as the same, unless it is too long
 abbrev pub ReadsBack : Type 0
 ReadsBack = (built : Word → Bool) (text : List ℕ) (script : List Program) → script_with built text ≡ Ok script → length (canonical script) ≤ 1048576 → script_with built (canonical script) ≡ Ok script
+
+-- a program has at most 4,096 places
+abbrev pub is_sized : Program → Bool
+is_sized program = nat_le (places program.statements) 4096
+
+-- what is read is within the limits on programs and places, and has a program `main`
+pub record IsWithin (script : List Program) : Type 0 where
+  pub programs : length script ≤ 256
+  pub places : list_all is_sized script ≡ true
+  pub main : list_any (has_name (codes "main")) script ≡ true
+
+abbrev pub ReadsWithin : Type 0
+ReadsWithin = (built : Word → Bool) (text : List ℕ) (script : List Program) → script_with built text ≡ Ok script → IsWithin script
