@@ -16,11 +16,13 @@ item_text (Number value) = decimal value
 item_text (Octets value) = value
 item_text _ = []
 
+-- an argument: a number that is shown, or a handle that is given
 abbrev pub arg_of : Value → Option Arg
 arg_of (Number value) = Some (Show value)
 arg_of (Gift value) = Some (Give value)
 arg_of _ = None
 
+-- a clause: an item that is sent at an end, or a size that is received there
 abbrev pub clause_of : Value → Option Clause
 clause_of (Sends end item) = Some (Send end item)
 clause_of (Recvs end size) = Some (Recv end size)

@@ -17,6 +17,7 @@ use Rattle.dill_meaning.specs.Views.{ScriptView, Round, number_in, bytes_in, wit
 abbrev pub sum_of : ℕ → ℕ → ℕ
 sum_of a b = min (a + b) 9223372036854775807
 
+-- how two numbers compare
 abbrev pub compares : Relation → ℕ → ℕ → Bool
 compares Equal a b = a == b
 compares Unequal a b = not (a == b)
@@ -31,6 +32,7 @@ is_same_errno None None = true
 is_same_errno (Some a) (Some b) = bytes_eq (errno_text a) (errno_text b)
 is_same_errno _ _ = false
 
+-- a condition holds of the registers and of `err`
 abbrev pub holds : ScriptView → Cond → Bool
 holds view (conds.Number place relation value) = compares relation (number_in view place) (num_value view value)
 holds view (conds.Same place value) = bytes_eq (bytes_in view place) (bytes_value view value)
@@ -55,6 +57,7 @@ abbrev pub outside : List Round → List Round
 outside [] = []
 outside (round ∷ outer) = outer
 
+-- the view outside the innermost loop
 abbrev pub exiting : ScriptView → ScriptView
 exiting view = record view { rounds = outside view.rounds }
 
@@ -68,6 +71,7 @@ abbrev pub has_round : List Round → Bool
 has_round [] = false
 has_round (round ∷ outer) = is_left round.left
 
+-- a round less to come; a loop without end has as many as before
 abbrev pub one_less : Option ℕ → Option ℕ
 one_less None = None
 one_less (Some left) = Some (left - 1)

@@ -21,11 +21,12 @@ use Rattle.dill_meaning.specs.Values.{bytes_value}
 use Rattle.dill_meaning.specs.Views.{ScriptView, statements_of, ahead, pending, bytes_in, with_bytes, beginning}
 use Rattle.dill_meaning.specs.Walks.{stop_of, join_fault}
 
--- `set` assigns and `join` appends when their call is made; a `join` that doesn't fit changes nothing
+-- `join` appends where that is no fault, and else changes nothing
 abbrev pub appended : ScriptView → ℕ → List ℕ → Option Errno → ScriptView
 appended view place more None = with_bytes view place (bytes_in view place ++ more)
 appended view place more (Some errno) = view
 
+-- `set` and `join` change their register when their call is made
 abbrev pub kept : ScriptView → Statement → ScriptView
 kept view (statements.Keep tried place value) = with_bytes view place (bytes_value view value)
 kept view (statements.Join tried place value) = appended view place (bytes_value view value) (join_fault view place (bytes_value view value))
@@ -52,6 +53,7 @@ word_at (Some (statements.Join tried place value)) = words.Join
 word_at (Some statements.EndLoop) = words.Yield
 word_at _ = words.Start
 
+-- the word of the call that a view made last
 abbrev pub said : ScriptView → Word
 said view = word_at (pending view)
 
@@ -67,6 +69,7 @@ most view = suc (places (statements_of view))
 abbrev pub knows : ScriptView → ℕ → ℕ → Bool
 knows view program args = is_some_with (λ found. found.params == args) (slice_get view.script program)
 
+-- a new coroutine of the same script
 abbrev pub child : ScriptView → ℕ → List ℕ → ScriptView
 child view program args = beginning view.script program args
 
@@ -78,10 +81,12 @@ is_real view = list_all is_sized view.script
 abbrev pub scripts : Program ScriptView
 scripts = record { real = is_real; next = next; short = short; said = said; left = left; most = most; knows = knows; child = child }
 
+-- an operand that is bytes
 abbrev pub is_bytes_kind : Kind → Bool
 is_bytes_kind kinds.Bytes = true
 is_bytes_kind _ = false
 
+-- something may stand behind the operands that a call always has
 abbrev pub is_open : Rest → Bool
 is_open rests.Nothing = false
 is_open _ = true

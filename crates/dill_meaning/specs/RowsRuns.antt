@@ -23,11 +23,12 @@ abbrev pub views : ScriptView → List Answer → List ScriptView
 views view [] = view ∷ []
 views view (answer ∷ rest) = view ∷ views (next view answer).0 rest
 
--- `main` of a text, or the program of that number with these arguments
+-- `main` of what was read
 abbrev pub main_in : Reading → ScriptView
 main_in (Ok script) = main_of script
 main_in (Err refusal) = main_of []
 
+-- the program of that number, with these arguments
 abbrev pub program_in : Reading → ℕ → List ℕ → ScriptView
 program_in (Ok script) program args = beginning script program args
 program_in (Err refusal) program args = main_of []

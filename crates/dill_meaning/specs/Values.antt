@@ -33,36 +33,42 @@ pub data Value : Type 0 where
   Sends : ℕ → List ℕ → Value
   Recvs : ℕ → ℕ → Value
 
+-- NUM: as it is written, or from its register
 abbrev pub num_value : ScriptView → Num → ℕ
 num_value view (nums.Literal value) = value
 num_value view (nums.Register place) = number_in view place
 
+-- BYTES: as they are written, or from their register
 abbrev pub bytes_value : ScriptView → Bytes → List ℕ
 bytes_value view (bytes.Literal value) = value
 bytes_value view (bytes.Register place) = bytes_in view place
 
-abbrev pub deadline_of : ScriptView → Wait → Deadline
-deadline_of view waits.Never = Never
-deadline_of view (waits.At moment) = At (num_value view moment)
-deadline_of view (waits.After span) = After (num_value view span)
+-- DL: never, a moment, or so long after the entry
+abbrev pub deadline_value : ScriptView → Wait → Deadline
+deadline_value view waits.Never = Never
+deadline_value view (waits.At moment) = At (num_value view moment)
+deadline_value view (waits.After span) = After (num_value view span)
 
--- `big`, `text` and `client` are the first of their two
+-- `big` is the first of the two
 abbrev pub is_big : Order → Bool
 is_big orders.Big = true
 is_big orders.Little = false
 
+-- `text` is the first of the two
 abbrev pub is_text : Mode → Bool
 is_text modes.Text = true
 is_text modes.Binary = false
 
+-- `client` is the first of the two
 abbrev pub is_client : Role → Bool
 is_client roles.Client = true
 is_client roles.Server = false
 
+-- an operand, evaluated; a program is told by its number
 abbrev pub value_of : ScriptView → Operand → Value
 value_of view (operands.Num value) = Number (num_value view value)
 value_of view (operands.Bytes value) = Octets (bytes_value view value)
-value_of view (operands.Wait value) = Until (deadline_of view value)
+value_of view (operands.Wait value) = Until (deadline_value view value)
 value_of view (operands.Address value) = Where value
 value_of view (operands.Program name) = Program (number_of_name view.script name)
 value_of view (operands.Order value) = First (is_big value)
@@ -72,5 +78,6 @@ value_of view (operands.Give place) = Gift (number_in view place)
 value_of view (operands.Send end item) = Sends (num_value view end) (bytes_value view item)
 value_of view (operands.Recv end size) = Recvs (num_value view end) (num_value view size)
 
+-- the operands of a call, evaluated
 abbrev pub values_of : ScriptView → List Operand → List Value
 values_of view list = map (value_of view) list

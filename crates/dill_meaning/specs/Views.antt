@@ -50,16 +50,19 @@ last_of list (suc count) = slice_get list count
 abbrev pub pending : ScriptView → Option Statement
 pending view = last_of (statements_of view) view.passed
 
+-- what a number register holds
 abbrev pub number_in : ScriptView → ℕ → ℕ
 number_in view place = get_or view.numbers place 0
 
+-- what a byte register holds
 abbrev pub bytes_in : ScriptView → ℕ → List ℕ
 bytes_in view place = get_or view.texts place []
 
--- with another value in a register
+-- with another number in a register
 abbrev pub with_number : ScriptView → ℕ → ℕ → ScriptView
 with_number view place value = record view { numbers = set view.numbers place value }
 
+-- with other bytes in a register
 abbrev pub with_bytes : ScriptView → ℕ → List ℕ → ScriptView
 with_bytes view place value = record view { texts = set view.texts place value }
 

@@ -6,10 +6,12 @@ use Rattle.dill_script.specs.declared.line.Block.TheVariants as blocks
 use Rattle.dill_script.specs.declared.line.Keyword.{Keyword}
 use Rattle.dill_script.specs.declared.line.Keyword.TheVariants as keywords
 
+-- the list has no element
 abbrev pub is_empty : {X : Type 0} → List X → Bool
 is_empty [] = true
 is_empty (x ∷ xs) = false
 
+-- the block is a loop
 abbrev pub is_loop : Block → Bool
 is_loop blocks.Loop = true
 is_loop _ = false

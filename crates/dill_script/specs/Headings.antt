@@ -31,6 +31,7 @@ keyword_text (keywords.Call word) = word_text word
 abbrev pub all_keywords : List Keyword
 all_keywords = keywords.Program ∷ keywords.Finally ∷ keywords.Else ∷ keywords.End ∷ keywords.Set ∷ keywords.Add ∷ keywords.Sub ∷ keywords.Len ∷ keywords.If ∷ keywords.Loop ∷ keywords.Break ∷ keywords.Return ∷ keywords.Fail ∷ keywords.Join ∷ map keywords.Call call_words
 
+-- the word that a token is
 abbrev pub keyword_of : Token → Option Keyword
 keyword_of token = option_and_then (named keyword_text all_keywords) (word_in token)
 

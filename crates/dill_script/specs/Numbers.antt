@@ -17,9 +17,11 @@ named text all word = find (λ x. bytes_eq (text x) word) all
 abbrev pub only_if : {X : Type 0} → Bool → X → Option X
 only_if test x = if test then Some x else None
 
+-- 0 to 9
 abbrev pub is_digit : ℕ → Bool
 is_digit byte = nat_le 48 byte && nat_le byte 57
 
+-- a to z
 abbrev pub is_lower : ℕ → Bool
 is_lower byte = nat_le 97 byte && nat_le byte 122
 
@@ -71,6 +73,7 @@ abbrev pub address_with : Option (List ℕ) → Option ℕ → Option Address
 address_with (Some ip) (Some port) = only_if (nat_le 1 port) (record { ip = ip; port = port })
 address_with _ _ = None
 
+-- an address from the parts of its parts
 abbrev pub address_in : List (List (List ℕ)) → Option Address
 address_in ((first ∷ second ∷ third ∷ fourth ∷ []) ∷ (port ∷ []) ∷ []) = address_with (each (number_up_to 255) (first ∷ second ∷ third ∷ fourth ∷ [])) (number_up_to 65535 port)
 address_in _ = None

@@ -32,21 +32,25 @@ abbrev pub word_in : Token → Option (List ℕ)
 word_in (Plain word) = Some word
 word_in (Text literal) = None
 
+-- the register that a token is
 abbrev pub register_in : Token → Option Register
 register_in token = option_and_then register_of (word_in token)
 
--- the place of a register, by its sort
+-- the place of a number register
 abbrev pub number_place : Register → Option ℕ
 number_place (registers.Number place) = Some place
 number_place (registers.Bytes place) = None
 
+-- the place of a byte register
 abbrev pub bytes_place : Register → Option ℕ
 bytes_place (registers.Number place) = None
 bytes_place (registers.Bytes place) = Some place
 
+-- a token that is a number register
 abbrev pub number_register : Token → Option ℕ
 number_register token = option_and_then number_place (register_in token)
 
+-- a token that is a byte register
 abbrev pub bytes_register : Token → Option ℕ
 bytes_register token = option_and_then bytes_place (register_in token)
 
@@ -54,6 +58,7 @@ bytes_register token = option_and_then bytes_place (register_in token)
 abbrev pub num_of_word : List ℕ → Option Num
 num_of_word word = option_or (option_map nums.Literal (number_of word)) (option_map nums.Register (option_and_then number_place (register_of word)))
 
+-- a token that is NUM
 abbrev pub num_of : Token → Option Num
 num_of token = option_and_then num_of_word (word_in token)
 
@@ -67,18 +72,21 @@ abbrev pub wait_of_word : List ℕ → Option Wait
 wait_of_word [] = None
 wait_of_word (first ∷ rest) = if bytes_eq (first ∷ rest) (codes "-1") then Some waits.Never else (if first == 43 then option_map waits.After (num_of_word rest) else option_map waits.At (num_of_word (first ∷ rest)))
 
+-- a token that is DL
 abbrev pub wait_of : Token → Option Wait
 wait_of token = option_and_then wait_of_word (word_in token)
 
--- the words of the choices between two
+-- `big` or `little`
 abbrev pub order_text : Order → List ℕ
 order_text orders.Big = codes "big"
 order_text orders.Little = codes "little"
 
+-- `text` or `binary`
 abbrev pub mode_text : Mode → List ℕ
 mode_text modes.Text = codes "text"
 mode_text modes.Binary = codes "binary"
 
+-- `client` or `server`
 abbrev pub role_text : Role → List ℕ
 role_text roles.Client = codes "client"
 role_text roles.Server = codes "server"
@@ -106,10 +114,11 @@ item_of token = option_or (option_map operands.Bytes (bytes_of token)) (option_m
 abbrev pub items_of : List Token → Option (List Operand)
 items_of tokens = if nat_le 1 (length tokens) && nat_le (length tokens) 16 then each item_of tokens else None
 
--- an item that is sent at an end, and a size that is received there
+-- `send`: an end and an item
 abbrev pub send_of : Token → Token → Option Operand
 send_of end item = option_and_then (λ place. option_map (operands.Send place) (bytes_of item)) (num_of end)
 
+-- `recv`: an end and a size
 abbrev pub recv_of : Token → Token → Option Operand
 recv_of end size = option_and_then (λ place. option_map (operands.Recv place) (num_of size)) (num_of end)
 

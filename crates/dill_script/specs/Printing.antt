@@ -23,21 +23,25 @@ use Rattle.dill_script.specs.Operands.{order_text, mode_text, role_text}
 use Rattle.dill_script.specs.Statements.{relation_text}
 use Rattle.dill_script.specs.Tokens.{Token, Plain, Text}
 
--- a register by its letter and place
+-- a number register by its letter and place
 abbrev pub number_register_text : ℕ → List ℕ
 number_register_text place = 110 ∷ decimal place
 
+-- a byte register by its letter and place
 abbrev pub bytes_register_text : ℕ → List ℕ
 bytes_register_text place = 98 ∷ decimal place
 
+-- NUM as it is written
 abbrev pub num_text : Num → List ℕ
 num_text (nums.Literal value) = decimal value
 num_text (nums.Register place) = number_register_text place
 
+-- BYTES as a token
 abbrev pub bytes_token : Bytes → Token
 bytes_token (bytes.Literal value) = Text value
 bytes_token (bytes.Register place) = Plain (bytes_register_text place)
 
+-- DL as it is written
 abbrev pub wait_text : Wait → List ℕ
 wait_text waits.Never = codes "-1"
 wait_text (waits.At moment) = num_text moment
@@ -47,6 +51,7 @@ wait_text (waits.After span) = 43 ∷ num_text span
 abbrev pub address_text : Address → List ℕ
 address_text address = join_with_byte 46 (map decimal address.ip) ++ 58 ∷ decimal address.port
 
+-- the tokens of an operand
 abbrev pub operand_tokens : Operand → List Token
 operand_tokens (operands.Num value) = Plain (num_text value) ∷ []
 operand_tokens (operands.Bytes value) = bytes_token value ∷ []
@@ -69,10 +74,12 @@ dest_tokens (Some (dests.Bytes first)) = Plain (bytes_register_text first) ∷ P
 dest_tokens (Some (dests.Two first second)) = Plain (bytes_register_text first) ∷ Plain (bytes_register_text second) ∷ Plain (codes "=") ∷ []
 dest_tokens (Some (dests.Mixed first second)) = Plain (number_register_text first) ∷ Plain (bytes_register_text second) ∷ Plain (codes "=") ∷ []
 
+-- `try`, where it is there
 abbrev pub try_tokens : Bool → List Token
 try_tokens true = Plain (codes "try") ∷ []
 try_tokens false = []
 
+-- the tokens of a condition
 abbrev pub cond_tokens : Cond → List Token
 cond_tokens (conds.Number place relation value) = Plain (number_register_text place) ∷ Plain (relation_text relation) ∷ Plain (num_text value) ∷ []
 cond_tokens (conds.Same place value) = Plain (bytes_register_text place) ∷ Plain (codes "=") ∷ bytes_token value ∷ []
@@ -108,6 +115,7 @@ hex_digit value = unwrap_or (slice_get (codes "0123456789abcdef") value) 48
 abbrev pub byte_text : ℕ → List ℕ
 byte_text byte = if byte == 34 then codes "\\\"" else (if byte == 92 then codes "\\\\" else (if byte == 10 then codes "\\n" else (if byte == 13 then codes "\\r" else (if byte == 9 then codes "\\t" else (if nat_le 32 byte && nat_le byte 126 then byte ∷ [] else codes "\\x" ++ hex_digit (byte / 16) ∷ hex_digit (byte % 16) ∷ [])))))
 
+-- a token as it is written: a word as it stands, a text in quotes
 abbrev pub token_text : Token → List ℕ
 token_text (Plain letters) = letters
 token_text (Text value) = 34 ∷ flat_map byte_text value ++ 34 ∷ []

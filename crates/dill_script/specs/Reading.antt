@@ -36,6 +36,7 @@ started [] = None
 started (operands.Program name ∷ args) = Some (name, length args)
 started (_ ∷ rest) = started rest
 
+-- the program that a line starts
 abbrev pub started_by : Line → Option (List ℕ × ℕ)
 started_by (Says (statements.Call tried dest form)) = started form.operands
 started_by _ = None

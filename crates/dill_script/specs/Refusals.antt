@@ -52,6 +52,7 @@ misspells context line = is_some_with (λ heading. is_none (line_of heading)) (s
 abbrev pub has_name : List ℕ → Program → Bool
 has_name name program = bytes_eq program.name name
 
+-- the line opens a program of a name that one of these has
 abbrev pub names_again : List Program → Line → Bool
 names_again whole (Opens name params) = list_any (has_name name) whole
 names_again whole _ = false

@@ -50,5 +50,6 @@ pub record IsWithin (script : List Program) : Type 0 where
   pub places : list_all is_sized script ≡ true
   pub main : list_any (has_name (codes "main")) script ≡ true
 
+-- what is read is within the limits
 abbrev pub ReadsWithin : Type 0
 ReadsWithin = (built : Word → Bool) (text : List ℕ) (script : List Program) → script_with built text ≡ Ok script → IsWithin script

@@ -36,6 +36,7 @@ relation_text AtMost = codes "<="
 relation_text Greater = codes ">"
 relation_text AtLeast = codes ">="
 
+-- the sign that a token is
 abbrev pub relation_of : Token → Option Relation
 relation_of token = option_and_then (named relation_text (Equal ∷ Unequal ∷ Less ∷ AtMost ∷ Greater ∷ AtLeast ∷ [])) (word_in token)
 
@@ -72,6 +73,7 @@ abbrev pub with_two : {X : Type 0} → (Token → Token → Option X) → List T
 with_two f (first ∷ second ∷ []) = f first second
 with_two f _ = None
 
+-- what a line without operands spells
 abbrev pub with_none : {X : Type 0} → X → List Token → Option X
 with_none x [] = Some x
 with_none x (token ∷ rest) = None
@@ -91,6 +93,7 @@ loop_of _ = None
 abbrev pub params_fit : List ℕ → ℕ → Bool
 params_fit name params = not (bytes_eq name (codes "main")) || (params == 0)
 
+-- the first line of a program
 abbrev pub program_of : Token → Token → Option Line
 program_of name params = option_and_then (λ opened. option_and_then (λ count. only_if (params_fit opened count) (Opens opened count)) (option_and_then (number_up_to 16) (word_in params))) (name_of name)
 

@@ -15,6 +15,7 @@ pub data Mark : Type 0 where
   Backslash : Mark
   Other : Mark
 
+-- a byte by what it may begin or end
 abbrev pub mark_of : ℕ → Mark
 mark_of byte = if is_blank byte then Blank else (if byte == 35 then Hash else (if byte == 34 then Quote else (if byte == 92 then Backslash else Other)))
 
@@ -22,6 +23,7 @@ mark_of byte = if is_blank byte then Blank else (if byte == 35 then Hash else (i
 abbrev pub is_hex : ℕ → Bool
 is_hex byte = (nat_le 48 byte && nat_le byte 57) || ((nat_le 97 byte && nat_le byte 102) || (nat_le 65 byte && nat_le byte 70))
 
+-- what such a digit means
 abbrev pub hex_value : ℕ → ℕ
 hex_value byte = if nat_le byte 57 then byte - 48 else (if nat_le byte 70 then byte - 55 else byte - 87)
 
