@@ -1,0 +1,15 @@
+use Rattle.std.proofs.Common.{refl}
+use Rattle.dill_meaning.proofs.Lawful.{scripts_lawful, main_begins, left_counts}
+use Rattle.dill_meaning.proofs.laws.scripts_are_lawful.Goals as goal
+
+pub returns-clause-lawful : goal.returns-clause-lawful
+returns-clause-lawful c = scripts_lawful
+
+pub returns-clause-main : goal.returns-clause-main
+returns-clause-main c = main_begins
+
+pub returns-clause-left : goal.returns-clause-left
+returns-clause-left c = left_counts
+
+pub returns-clause-calls : goal.returns-clause-calls
+returns-clause-calls c = refl

@@ -1,0 +1,11 @@
+ghost use Rattle.dill_calls.specs.Program.{IsLawful};
+ghost use Rattle.dill_meaning.specs.Laws.{MainBegins, LeftCounts, MakesEachCall};
+ghost use Rattle.dill_meaning.specs.Meaning.{scripts};
+
+/// The programs of scripts keep the law of programs.
+pub fn scripts_are_lawful()
+    ensures lawful { IsLawful scripts }
+    ensures main { MainBegins }
+    ensures left { LeftCounts }
+    ensures calls { MakesEachCall }
+{}

@@ -1,0 +1,16 @@
+pub mod Addresses
+pub mod Canonical
+pub mod HeadWords
+pub mod Judging
+pub mod LineWords
+pub mod Linking
+pub mod OperandWords
+pub mod Printed
+pub mod Scanned
+pub mod Somes
+pub mod Spellings
+pub mod Spoken
+pub mod Tokenwise
+pub mod Within
+pub mod Words
+pub mod Written

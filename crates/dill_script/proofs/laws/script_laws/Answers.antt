@@ -1,0 +1,19 @@
+use Rattle.dill_script.proofs.Canonical.{canonical_spells, reads_back}
+use Rattle.dill_script.proofs.Spellings.{reads_spelling, reads_each}
+use Rattle.dill_script.proofs.Within.{reads_within}
+use Rattle.dill_script.proofs.laws.script_laws.Goals as goal
+
+pub returns-clause-spelled : goal.returns-clause-spelled
+returns-clause-spelled c = reads_spelling
+
+pub returns-clause-each : goal.returns-clause-each
+returns-clause-each c = reads_each
+
+pub returns-clause-canonical : goal.returns-clause-canonical
+returns-clause-canonical c = canonical_spells
+
+pub returns-clause-again : goal.returns-clause-again
+returns-clause-again c = reads_back
+
+pub returns-clause-within : goal.returns-clause-within
+returns-clause-within c = reads_within

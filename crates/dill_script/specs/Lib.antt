@@ -1,0 +1,16 @@
+pub mod Blocks
+pub mod Contexts
+pub mod Headings
+pub mod Lines
+pub mod Numbers
+pub mod Operands
+pub mod Printing
+pub mod Reading
+pub mod Refusals
+pub mod RowsReading
+pub mod RowsRefused
+pub mod RowsScripts
+pub mod Spelling
+pub mod Statements
+pub mod Table
+pub mod Tokens

@@ -1,0 +1,11 @@
+ghost use Rattle.dill_script.specs.Spelling.{ReadsSpelling, ReadsEachSpelling, CanonicalSpells, ReadsBack, ReadsWithin};
+
+/// What reading and printing promise each other: a script is spelled by the text that it was read from and by its
+/// canonical text, and is read from each text that spells it, up to the limit on its bytes.
+pub fn script_laws()
+    ensures spelled { ReadsSpelling }
+    ensures each { ReadsEachSpelling }
+    ensures canonical { CanonicalSpells }
+    ensures again { ReadsBack }
+    ensures within { ReadsWithin }
+{}
