@@ -44,19 +44,23 @@ last_same xs ys n m e f = cc
 places_same : (xs ys : List Statement) → xs ≡ ys → suc (places xs) ≡ suc (places ys)
 places_same xs ys e = cc
 
+-- what is left is a part of all places
+within_most : (view : ScriptView) → suc (places (ahead view)) ≤ suc (places (statements_of view))
+within_most view = le_suc_both (places (ahead view)) (places (statements_of view)) (count_ahead is_place view.passed (statements_of view))
+  where
+    le_suc_both : (a b : ℕ) → a ≤ b → suc a ≤ suc b
+    le_suc_both a b h = omega arith
+
 -- a view of the same program from which the law holds
 pub goes_on : (old new : ScriptView) (answer : Answer) (word : Word) → new.script ≡ old.script → new.program ≡ old.program → is_real old ≡ true → said new ≡ word → (Lowers (said old) answer → left new < left old) → GoesOn scripts old answer word new
 goes_on old new answer word s p r w l = record {
   real = fits_all new.script old.script s r;
   some = omega arith;
-  within = le_suc_both (places (ahead new)) (places (statements_of new)) (count_ahead is_place new.passed (statements_of new));
+  within = within_most new;
   stays = places_same (statements_of new) (statements_of old) (statements_kept old new s p);
   said = w;
   lower = l;
 }
-  where
-    le_suc_both : (a b : ℕ) → a ≤ b → suc a ≤ suc b
-    le_suc_both a b h = omega arith
 
 lower_same : (a b c : ℕ) → a ≡ b → b < c → a < c
 lower_same a b c e h = omega arith
@@ -115,7 +119,8 @@ small_at script at (Some program) a e = few (places program.statements) (all_at 
 pub scripts_lawful : IsLawful scripts
 scripts_lawful = record {
   small = λ view r. small_at view.script view.program (slice_get view.script view.program) r refl;
-  moves = λ view answer r some within. moves view answer r;
+  within = λ view r some. within_most view;
+  moves = λ view answer r some. moves view answer r;
   child = λ view program args r k. record { real = r; start = refl; some = omega arith; whole = refl };
 }
 
