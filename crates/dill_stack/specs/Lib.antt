@@ -5,6 +5,7 @@ pub mod Refusals
 pub mod Sending
 pub mod WsReading
 pub mod Passing
+pub mod Staying
 pub mod Read
 pub mod Dropping
 pub mod Receiving
