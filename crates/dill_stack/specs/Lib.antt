@@ -23,3 +23,4 @@ pub mod HttpRows
 pub mod WsRows
 pub mod HandshakeRows
 pub mod CutRows
+pub mod PartingRows

@@ -14,4 +14,4 @@ pub use laws::{framing_laws, front_laws, joining_laws, message_laws, passing_law
 pub use layer::{Layer, Top};
 pub use parting::Parting;
 pub use want::{ReadOut, Want};
-pub use worked::{cut_rows, handshake_rows, http_rows, rows, ws_rows};
+pub use worked::{cut_rows, handshake_rows, http_rows, parting_rows, rows, ws_rows};
