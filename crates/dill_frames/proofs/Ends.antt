@@ -1,8 +1,5 @@
 -- The end of TERM over each framing.
 use Rattle.std.proofs.Common.{◌≡◌, List, ℕ}
-use Rattle.dill_frames.specs.declared.prefix.PrefixForm.{PrefixForm}
-use Rattle.dill_frames.specs.Prefix.{PrefixSpells}
-use Rattle.dill_frames.specs.Suffix.{SuffixSpells}
 use Rattle.dill_frames.specs.Terminal.{TermSpells, TermEnds}
 
 -- A layer below that spells one message at most has no message of the layer in the end's spelling.

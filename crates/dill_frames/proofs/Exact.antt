@@ -1,15 +1,14 @@
 -- Each answer exactly where its cause stands, for both framings.
-use Rattle.std.proofs.Common.{◌≡◌, ◌<◌, ◌≤◌, ◌+◌, ◌-◌, ◌++◌, [], List, ℕ, length, take, drop, arith, sym, ap, ◌∙◌, refl, subst, inl, inr, ◌⊎◌, Some, None, append_assoc, append-nil, length-append}
+use Rattle.std.proofs.Common.{◌≡◌, ◌<◌, ◌≤◌, ◌+◌, ◌-◌, ◌++◌, [], List, ℕ, length, take, drop, arith, sym, ap, ◌∙◌, refl, subst, append_assoc, append-nil, length-append}
 use Rattle.std.proofs.lemmas.List.{take-append-drop, take_at, drop_at}
 use Rattle.dill_base.specs.declared.errno.Errno.{Errno}
-use Rattle.dill_base.specs.declared.errno.Errno.TheVariants.{Emsgsize}
 use Rattle.dill_base.specs.declared.errno.Front.{Front}
 use Rattle.dill_base.specs.declared.errno.Front.TheVariants.{Whole, Need, Fault}
 use Rattle.dill_base.specs.Reading.{IsShown}
 use Rattle.dill_frames.specs.declared.prefix.PrefixForm.{PrefixForm}
 use Rattle.dill_frames.specs.Judging.{IsMessage, IsSpelled, IsExact, LiesIn}
 use Rattle.dill_frames.specs.Prefix.{AreBytes, prefix_front, length_bytes, PrefixSpells, PrefixShows}
-use Rattle.dill_frames.specs.Suffix.{suffix_front, place_of, SuffixSpells, SuffixShows}
+use Rattle.dill_frames.specs.Suffix.{suffix_front, SuffixSpells, SuffixShows}
 use Rattle.dill_frames.proofs.Fronts.{says_fault}
 use Rattle.dill_frames.proofs.Judging.{exact_front, early_front, least_front, whole_fault}
 use Rattle.dill_frames.proofs.Kept.{prefix_stays, prefix_lies, suffix_stays, suffix_lies}

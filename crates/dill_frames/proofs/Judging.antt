@@ -1,12 +1,12 @@
 -- When each answer is given, in one shape for both framings.
-use Rattle.std.proofs.Common.{◌≡◌, ◌<◌, ◌≤◌, ◌-◌, ◌++◌, List, ℕ, length, take, drop, arith, sym, ap, ◌∙◌, refl, subst, min, false, true, Result, Ok, Err}
-use Rattle.std.proofs.lemmas.List.{length-take, length-take-le, take-append-drop}
+use Rattle.std.proofs.Common.{◌≡◌, ◌<◌, ◌≤◌, ◌-◌, ◌++◌, List, ℕ, length, take, drop, arith, sym, ap, ◌∙◌, refl, subst, false, true, Result, Ok, Err}
+use Rattle.std.proofs.lemmas.List.{length-take, take-append-drop}
 use Rattle.dill_base.specs.declared.errno.Errno.{Errno}
 use Rattle.dill_base.specs.declared.errno.Front.{Front}
 use Rattle.dill_base.specs.declared.errno.Front.TheVariants.{Whole, Need, Fault}
 use Rattle.dill_base.specs.declared.errno.WriteFault.{WriteFault}
 use Rattle.dill_base.specs.declared.errno.WriteFault.TheVariants.{Refused, NoMemory}
-use Rattle.dill_base.specs.Reading.{IsFront, IsWhole, IsOpen, IsShown}
+use Rattle.dill_base.specs.Reading.{IsFront, IsShown}
 use Rattle.dill_base.specs.Writing.{Writes}
 use Rattle.dill_frames.specs.Judging.{IsMessage, IsJudged, IsSpelled, IsExact, IsWritten}
 

@@ -1,5 +1,5 @@
 -- Worked messages, computed by the definitions.
-use Rattle.std.specs.Prelude.{◌≡◌, [], ◌∷◌, ◌++◌, ℕ, List, true, false, map, take, replicate, Ok, Err}
+use Rattle.std.specs.Prelude.{◌≡◌, [], ◌∷◌, ℕ, List, true, false, map, take, replicate, Ok, Err}
 use Rattle.dill_base.specs.declared.errno.Errno.TheVariants.{Emsgsize, Einval}
 use Rattle.dill_base.specs.declared.errno.Front.TheVariants.{Whole, Need, Fault}
 use Rattle.dill_frames.specs.declared.prefix.PrefixForm.{PrefixForm}

@@ -1,5 +1,5 @@
 -- The last byte of a list.
-use Rattle.std.proofs.Common.{◌≡◌, ◌<◌, ◌-◌, ◌+◌, ◌++◌, ◌∷◌, [], List, ℕ, suc, zero, length, get_or, arith, refl, sym, ap, ◌∙◌, Bool}
+use Rattle.std.proofs.Common.{◌≡◌, ◌<◌, ◌-◌, ◌++◌, ◌∷◌, [], List, ℕ, suc, length, get_or, arith, refl, Bool}
 use Rattle.dill_http.specs.Bytes.{ends_with}
 
 pub ends_at : (test : ℕ → Bool) (xs : List ℕ) (d : ℕ) → 0 < length xs → ends_with test xs ≡ test (get_or xs (length xs - 1) d)

@@ -1,15 +1,15 @@
 -- Field lines, read.
-use Rattle.std.proofs.Common.{◌≡◌, ◌<◌, ◌≤◌, ◌-◌, ◌+◌, ◌++◌, ◌∷◌, [], List, ℕ, suc, zero, length, take, drop, get_or, arith, refl, sym, ap, ◌∙◌, subst, Bool, true, false, not, ◌&&◌, ◌||◌, eqb, nat_lt, nat_le, inl, inr, ◌⊎◌, Option, Some, None, append_assoc, length-append, if◌then◌else◌}
+use Rattle.std.proofs.Common.{◌≡◌, ◌-◌, ◌+◌, ◌++◌, ◌∷◌, [], List, ℕ, suc, length, take, drop, arith, refl, sym, ap, ◌∙◌, subst, Bool, true, false, not, ◌&&◌, eqb, nat_lt, inl, inr, ◌⊎◌, Option, Some, None, length-append, if◌then◌else◌}
 use Rattle.std.specs.List.{list_all, prefix_len, suffix_len}
-use Rattle.std.proofs.lemmas.Bool.{cases_eq, cases_Bool, eqb-true, ne_eqb, and_parts, and_from, or_cases, not_from_false, not-true}
+use Rattle.std.proofs.lemmas.Bool.{cases_Bool, eqb-true, and_parts, and_from, or_cases, not-true}
 use Rattle.std.proofs.lemmas.List.{take_at, drop_at, append-nil}
 use Rattle.std.proofs.lemmas.List.Folds.{list_all-append}
 use Rattle.std.proofs.Math.Seq.{drop-append-add}
 use Rattle.dill_http.specs.declared.span.Span.{Span}
 use Rattle.dill_http.specs.declared.span.Cut.{Cut}
 use Rattle.dill_http.specs.Bytes.{is_token_byte, is_text_byte, is_blank, is_token, is_text, is_bare, begins_with, ends_with}
-use Rattle.dill_http.specs.Heads.{Field, ReadsField, LineReads, is_right}
-use Rattle.dill_http.specs.Reading.{part, span, cut_at, field_cut, field_of, token_length, stands_at, bare_from, IsCut, CutReads, LiesIn}
+use Rattle.dill_http.specs.Heads.{Field, ReadsField}
+use Rattle.dill_http.specs.Reading.{part, span, cut_at, field_cut, field_of, token_length, bare_from, IsCut, CutReads, LiesIn}
 use Rattle.dill_http.proofs.Runs.{Run, run_of, length_of_run}
 use Rattle.dill_http.proofs.Tails.{Tail, tail_of, length_of_tail}
 use Rattle.dill_http.proofs.Requests.{byte_behind, none_behind, part_first}
@@ -146,6 +146,7 @@ named_here c b tail v h s k o p q =
     if_true : (x : Bool) (k : Cut) → x ≡ true → (if x then Some k else None) ≡ Some k
     if_true true k e = refl
     if_true false k e = absurd (cc)
+
     bare_both : (x y : Bool) → x ≡ false → y ≡ false → (not x && not y) ≡ true
     bare_both true y e f = absurd (cc)
     bare_both false true e f = absurd (cc)
@@ -203,9 +204,9 @@ field_found line name value k =
     let tail : List ℕ = k.before ++ (value ++ k.after) in
     let parts : Bare tail value = bare_as k.before value k.after blank.0 blank.1 (not-true (begins_with is_blank value) bare.0) (not-true (ends_with is_blank value) bare.1) in
     let all : is_text tail ≡ true =
-      list_all-append is_text_byte k.before (value ++ k.after)
-      ∙ and_from (list_all is_text_byte k.before) (list_all is_text_byte (value ++ k.after)) (blank_text k.before blank.0)
-        (list_all-append is_text_byte value k.after ∙ and_from (list_all is_text_byte value) (list_all is_text_byte k.after) text.0 (blank_text k.after blank.1)) in
+    list_all-append is_text_byte k.before (value ++ k.after)
+    ∙ and_from (list_all is_text_byte k.before) (list_all is_text_byte (value ++ k.after)) (blank_text k.before blank.0)
+    (list_all-append is_text_byte value k.after ∙ and_from (list_all is_text_byte value) (list_all is_text_byte k.after) text.0 (blank_text k.after blank.1)) in
     let here : Named (name ++ (58 ∷ tail)) name value = named_here name 58 tail value token.1 no_token_colon parts token.0 refl all in
     subst (λ (x : List ℕ). Named x name value) (sym k.whole) here
 

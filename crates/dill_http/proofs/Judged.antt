@@ -1,8 +1,8 @@
 -- The laws of lines.
-use Rattle.std.proofs.Common.{◌≡◌, ◌<◌, ◌≤◌, ◌-◌, ◌+◌, ◌++◌, ◌∷◌, [], List, ℕ, suc, zero, length, take, drop, arith, refl, sym, ap, ◌∙◌, subst, Bool, true, false, not, ◌&&◌, ◌||◌, eqb, inl, inr, ◌⊎◌, Option, Some, None, append_assoc, length-append, if◌then◌else◌}
+use Rattle.std.proofs.Common.{◌≡◌, ◌<◌, ◌≤◌, ◌-◌, ◌+◌, ◌++◌, ◌∷◌, [], List, ℕ, length, take, drop, arith, refl, sym, ap, ◌∙◌, subst, Bool, true, false, not, ◌&&◌, ◌||◌, eqb, inl, inr, Some, None, append_assoc, length-append, if◌then◌else◌}
 use Rattle.std.specs.List.{list_all, prefix_len}
-use Rattle.std.proofs.lemmas.Bool.{cases_lt, cases_eq, eqb-true, eqb-false, ne_eqb, eq-eqb}
-use Rattle.std.proofs.lemmas.List.{take_at, drop_at, take-append-le, take-append-drop}
+use Rattle.std.proofs.lemmas.Bool.{cases_lt, eqb-true, eq-eqb}
+use Rattle.std.proofs.lemmas.List.{append-nil, take_at, take-append-le, take-append-drop}
 use Rattle.std.proofs.Math.Seq.{take-append-add}
 use Rattle.dill_base.specs.Reading.{IsFront, IsWhole, IsOpen, IsShown}
 use Rattle.dill_base.specs.declared.errno.Errno.{Errno}
@@ -83,10 +83,12 @@ cr_byte t b rest e h l s = by_test (eqb b 10) refl (sym (shown_cr t b) ∙ s)
     same true true i = cc
     same true false i = cc
     same false x i = cc
+
     none : (n x : Bool) → (if n && (not x && false) then Some Emsgsize else None) ≡ Some e → ⊥
     none true true i = cc
     none true false i = cc
     none false x i = cc
+
     by_test : (y : Bool) → eqb b 10 ≡ y → (if eqb (length t + 1) line_limit && (not (eqb b 13) && not (eqb b 10)) then Some Emsgsize else (if not (eqb b 10) then Some Eproto else None)) ≡ Some e → front_of_line (t ++ (13 ∷ b ∷ rest)) ≡ Fault e
     by_test true q k = absurd (none (eqb (length t + 1) line_limit) (eqb b 13) (rw q at k))
     by_test false q k = front_astray t b rest h l q ∙ same (eqb (length t + 1) line_limit) (eqb b 13) (rw q at k)
@@ -129,6 +131,7 @@ open_of u e = record {
   where
     clash : (f : Front) (a b c : ℕ) → f ≡ Need → f ≡ Whole a b c → ⊥
     clash f a b c d e = cc
+
     no_fault : (f : Front) (g : Errno) → f ≡ Need → f ≡ Fault g → ⊥
     no_fault f g d e = cc
 
@@ -159,7 +162,7 @@ shown_astray : (t v : List ℕ) (b : ℕ) → list_all is_inner t ≡ true → l
     → IsShown LineShows (t ++ (13 ∷ b ∷ v)) (if eqb (length t + 1) line_limit && not (eqb b 13) then Emsgsize else Eproto)
 shown_astray t v b h l q =
     subst (λ (x : List ℕ). IsShown LineShows x (if eqb (length t + 1) line_limit && not (eqb b 13) then Emsgsize else Eproto)) (append_assoc t (13 ∷ []) (b ∷ v))
-      (shown_behind (t ++ (13 ∷ [])) v b (if eqb (length t + 1) line_limit && not (eqb b 13) then Emsgsize else Eproto) (cut_cr t h l) (shown_cr t b ∙ either (eqb (length t + 1) line_limit) (eqb b 13) (eqb b 10) q))
+    (shown_behind (t ++ (13 ∷ [])) v b (if eqb (length t + 1) line_limit && not (eqb b 13) then Emsgsize else Eproto) (cut_cr t h l) (shown_cr t b ∙ either (eqb (length t + 1) line_limit) (eqb b 13) (eqb b 10) q))
   where
     either : (n x y : Bool) → y ≡ false → (if n && (not x && not y) then Some Emsgsize else (if not y then Some Eproto else None)) ≡ Some (if n && not x then Emsgsize else Eproto)
     either n x true e = absurd (cc)
@@ -293,14 +296,10 @@ pub free : (m n w rest : List ℕ) → LineSpells m w → LineSpells n (w ++ res
 free m n w rest s t =
     let a : prefix_len is_inner (w ++ rest) ≡ length m = message_length m w rest s in
     let b : prefix_len is_inner ((w ++ rest) ++ []) ≡ length n = message_length n (w ++ rest) [] t in
-    let c : prefix_len is_inner ((w ++ rest) ++ []) ≡ prefix_len is_inner (w ++ rest) = ap (prefix_len is_inner) (append_assoc w rest [] ∙ ap (λ x. w ++ x) (append_nil rest)) in
+    let c : prefix_len is_inner ((w ++ rest) ++ []) ≡ prefix_len is_inner (w ++ rest) = ap (prefix_len is_inner) (append_assoc w rest [] ∙ ap (λ x. w ++ x) (append-nil rest)) in
     let k : length w + length rest ≡ length n + 2 = sym (length-append w rest) ∙ ap length t.whole ∙ length-append n crlf in
     let l : length w ≡ length m + 2 = ap length s.whole ∙ length-append m crlf in
     no_length rest (omega arith)
-  where
-    append_nil : (xs : List ℕ) → xs ++ [] ≡ xs
-    append_nil [] = refl
-    append_nil (x ∷ xs) = ap (λ y. x ∷ y) (append_nil xs)
 
 pub one : (m n w : List ℕ) → LineSpells m w → LineSpells n w → m ≡ n
 one m n w s t =
@@ -308,3 +307,15 @@ one m n w s t =
     let b : prefix_len is_inner (w ++ []) ≡ length n = message_length n w [] t in
     let e : m ++ crlf ≡ n ++ crlf = sym s.whole ∙ t.whole in
     sym (take_at m crlf (length m) refl) ∙ ap (take (length m)) e ∙ take_at n crlf (length m) (omega arith)
+
+-- the bytes before the last that shows a refusal aren't refused
+pub least : (e f : Errno) (w rest : List ℕ) → LineShows e w → LineShows f (w ++ rest) → rest ≡ []
+least e f w rest s t = elim (cases_lt 0 (length rest)) [
+  | inl l ↦
+      let n : length w + length rest ≡ length t.before + 1 = sym (length-append w rest) ∙ ap length t.whole ∙ length-append t.before (t.byte ∷ []) in
+      let k : length t.before ≡ length w + (length rest - 1) = omega arith in
+      let cut : t.before ≡ w ++ take (length rest - 1) rest =
+      sym (take_at t.before (t.byte ∷ []) (length t.before) refl) ∙ ap (take (length t.before)) (sym t.whole) ∙ ap (λ i. take i (w ++ rest)) k ∙ take-append-add w rest (length rest - 1) in
+      absurd (not_open (front_of_line t.before) e (ap front_of_line cut ∙ refused e w (take (length rest - 1) rest) s) (cut_waits t.before t.led))
+  | inr l ↦ no_length rest (omega arith)
+]

@@ -1,16 +1,15 @@
 -- Request lines, read.
-use Rattle.std.proofs.Common.{◌≡◌, ◌<◌, ◌≤◌, ◌-◌, ◌+◌, ◌++◌, ◌∷◌, [], List, ℕ, suc, zero, length, take, drop, get_or, arith, refl, sym, ap, ◌∙◌, subst, Bool, true, false, not, ◌&&◌, ◌||◌, eqb, nat_lt, inl, inr, ◌⊎◌, Option, Some, None, append_assoc, length-append, if◌then◌else◌}
-use Rattle.std.specs.List.{list_all, prefix_len}
+use Rattle.std.proofs.Common.{◌≡◌, ◌≤◌, ◌-◌, ◌+◌, ◌++◌, ◌∷◌, [], List, ℕ, suc, length, take, drop, get_or, arith, refl, sym, ap, ◌∙◌, subst, Bool, true, false, ◌&&◌, eqb, nat_lt, inl, inr, ◌⊎◌, Option, Some, None, length-append, if◌then◌else◌}
+use Rattle.std.specs.List.{list_all}
 use Rattle.std.specs.Str.{bytes_eq}
-use Rattle.std.proofs.lemmas.Bool.{cases_eq, cases_Bool, eqb-true, ne_eqb, and_parts, and_from, or_cases}
-use Rattle.std.proofs.lemmas.List.{take_at, drop_at}
+use Rattle.std.proofs.lemmas.Bool.{cases_Bool, eqb-true, and_parts, and_from, or_cases}
+use Rattle.std.proofs.lemmas.List.{append-nil, take_at, drop_at}
 use Rattle.std.proofs.lemmas.Slice.Eq.{bytes_eq-Decides}
 use Rattle.std.proofs.Math.Seq.{drop-append-add}
-use Rattle.dill_http.specs.declared.span.Span.{Span}
 use Rattle.dill_http.specs.declared.span.Cut.{Cut}
 use Rattle.dill_http.specs.Bytes.{is_token_byte, is_resource_byte, is_token, is_resource, begins_with}
-use Rattle.dill_http.specs.Heads.{Request, IsVersion, ReadsRequest, LineReads, own_version, old_version, is_right}
-use Rattle.dill_http.specs.Reading.{part, span, cut_at, request_cut, request_of, token_length, resource_length, stands_at, is_version_end, IsCut, CutReads, LiesIn}
+use Rattle.dill_http.specs.Heads.{Request, IsVersion, ReadsRequest, own_version, old_version}
+use Rattle.dill_http.specs.Reading.{part, span, cut_at, request_cut, request_of, token_length, resource_length, is_version_end, IsCut, CutReads}
 use Rattle.dill_http.proofs.Runs.{Run, run_of, length_of_run}
 
 pub byte_behind : (xs : List ℕ) (b : ℕ) (ys : List ℕ) → get_or (xs ++ (b ∷ ys)) (length xs) 0 ≡ b
@@ -45,14 +44,11 @@ request_at c b r rest h s k t =
 request_alone : (c : List ℕ) → list_all is_token_byte c ≡ true → request_cut c ≡ None
 unfolding request_cut
 request_alone c h =
-    let n : token_length c ≡ length c = ap token_length (sym (append_nil c)) ∙ length_of_run is_token_byte c [] h refl in
+    let n : token_length c ≡ length c = ap token_length (sym (append-nil c)) ∙ length_of_run is_token_byte c [] h refl in
     ap (λ j. request_of c j (resource_length (drop (j + 1) c))) n
     ∙ ap (λ z. if nat_lt 0 (length c) && (eqb z 32 && (nat_lt 0 (resource_length (drop (length c + 1) c)) && is_version_end (drop (length c + 1 + resource_length (drop (length c + 1) c)) c))) then Some (cut_at (span 0 (length c)) (span (length c + 1) (length c + 1 + resource_length (drop (length c + 1) c)))) else None) (none_behind c)
     ∙ never (cut_at (span 0 (length c)) (span (length c + 1) (length c + 1 + resource_length (drop (length c + 1) c)))) (nat_lt 0 (length c)) (nat_lt 0 (resource_length (drop (length c + 1) c)) && is_version_end (drop (length c + 1 + resource_length (drop (length c + 1) c)) c))
   where
-    append_nil : (xs : List ℕ) → xs ++ [] ≡ xs
-    append_nil [] = refl
-    append_nil (x ∷ xs) = ap (λ y. x ∷ y) (append_nil xs)
     never : (k : Cut) (a x : Bool) → (if a && (false && x) then Some k else None) ≡ None
     never k true x = refl
     never k false x = refl
@@ -127,11 +123,7 @@ asked_at c b r rest h s k t = elim (cases_Bool (nat_lt 0 (length c) && (eqb b 32
 ]
 
 asked_behind : (c rest : List ℕ) → list_all is_token_byte c ≡ true → begins_with is_token_byte rest ≡ false → Asked (c ++ rest) ⊎ (request_cut (c ++ rest) ≡ None)
-asked_behind c [] h s = inr (ap request_cut (append_nil c) ∙ request_alone c h)
-  where
-    append_nil : (xs : List ℕ) → xs ++ [] ≡ xs
-    append_nil [] = refl
-    append_nil (x ∷ xs) = ap (λ y. x ∷ y) (append_nil xs)
+asked_behind c [] h s = inr (ap request_cut (append-nil c) ∙ request_alone c h)
 asked_behind c (b ∷ tail) h s =
     let r : Run is_resource_byte tail = run_of is_resource_byte tail in
     subst (λ (x : List ℕ). Asked (c ++ (b ∷ x)) ⊎ (request_cut (c ++ (b ∷ x)) ≡ None)) (sym r.whole) (asked_at c b r.text r.rest h s r.all r.stop)
@@ -145,7 +137,8 @@ pub parts_of : (line c r v : List ℕ) → line ≡ c ++ (32 ∷ r ++ (32 ∷ v)
 parts_of line c r v e = (
   ap (λ x. part x (span 0 (length c))) e ∙ part_first c (32 ∷ r ++ (32 ∷ v)),
   ap (λ x. part x (span (length c + 1) (length c + 1 + length r))) e ∙ part_behind c 32 r (32 ∷ v),
-  omega (arith, ap length e, length-append c (32 ∷ r ++ (32 ∷ v)), length-append r (32 ∷ v)))
+  omega (arith, ap length e, length-append c (32 ∷ r ++ (32 ∷ v)), length-append r (32 ∷ v)),
+)
 
 cut_reads : (line c r : List ℕ) → ReadsRequest line c r → CutReads Request line (cut_at (span 0 (length c)) (span (length c + 1) (length c + 1 + length r)))
 cut_reads line c r k =

@@ -1,8 +1,7 @@
 -- The longest run of bytes of a class at the front of a list.
-use Rattle.std.proofs.Common.{◌≡◌, ◌<◌, ◌≤◌, ◌-◌, ◌+◌, ◌++◌, ◌∷◌, [], List, ℕ, suc, zero, length, take, drop, arith, refl, sym, ap, ◌∙◌, Bool, true, false, ◌&&◌, cond}
+use Rattle.std.proofs.Common.{◌≡◌, ◌<◌, ◌++◌, ◌∷◌, [], List, ℕ, suc, zero, length, take, get_or, arith, refl, ap, Bool, true, false}
 use Rattle.std.specs.List.{list_all, prefix_len}
 use Rattle.std.proofs.lemmas.Bool.{and_parts, and_from}
-use Rattle.std.proofs.lemmas.List.Folds.{list_all-append}
 use Rattle.dill_http.specs.Bytes.{begins_with, ends_with}
 
 pub record Run (p : ℕ → Bool) (u : List ℕ) : Type 0 where
@@ -48,6 +47,12 @@ all_take p (suc n) [] h = refl
 all_take p (suc n) (x ∷ u) h =
     let k = and_parts (p x) (list_all p u) h in
     and_from (p x) (list_all p (take n u)) k.0 (all_take p n u k.1)
+
+-- the byte at a place of a run
+pub passes_at : (p : ℕ → Bool) (t : List ℕ) (k : ℕ) → list_all p t ≡ true → k < length t → p (get_or t k 0) ≡ true
+passes_at p [] k h l = absurd (omega arith)
+passes_at p (x ∷ t) zero h l = (and_parts (p x) (list_all p t) h).0
+passes_at p (x ∷ t) (suc k) h l = passes_at p t k (and_parts (p x) (list_all p t) h).1 (omega arith)
 
 -- a class that the last byte isn't of, since all are of another
 pub no_end : (p q : ℕ → Bool) (u : List ℕ) → ((b : ℕ) → p b ≡ true → q b ≡ false) → list_all p u ≡ true → ends_with q u ≡ false

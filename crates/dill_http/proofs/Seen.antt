@@ -1,14 +1,13 @@
 -- What bytes can be, seen as the front of a line.
-use Rattle.std.proofs.Common.{◌≡◌, ◌<◌, ◌≤◌, ◌-◌, ◌+◌, ◌++◌, ◌∷◌, [], List, ℕ, suc, zero, length, take, drop, get_or, arith, refl, sym, ap, ◌∙◌, subst, Bool, true, false, not, ◌&&◌, ◌||◌, eqb, ltb, lt-ltb, le-ltb, inl, inr, ◌⊎◌, append_assoc, if◌then◌else◌}
+use Rattle.std.proofs.Common.{◌≡◌, ◌<◌, ◌≤◌, ◌+◌, ◌++◌, ◌∷◌, [], List, ℕ, length, take, drop, get_or, arith, refl, sym, ap, ◌∙◌, subst, Bool, true, false, not, ◌&&◌, ◌||◌, eqb, inl, inr, ◌⊎◌, append_assoc, if◌then◌else◌}
 use Rattle.std.specs.List.{list_all, prefix_len}
-use Rattle.std.proofs.lemmas.Bool.{cases_lt, cases_eq, eqb-true, eqb-false, ne_eqb}
-use Rattle.std.proofs.lemmas.List.{take_more, drop_more, take-append-drop, length-take-le}
+use Rattle.std.proofs.lemmas.Bool.{cases_lt, cases_eq, eqb-true, ne_eqb}
+use Rattle.std.proofs.lemmas.List.{append-nil, drop_more, take-append-drop, length-take-le}
 use Rattle.dill_base.specs.declared.errno.Errno.TheVariants.{Emsgsize, Eproto}
-use Rattle.dill_base.specs.declared.errno.Front.{Front}
 use Rattle.dill_base.specs.declared.errno.Front.TheVariants.{Whole, Need, Fault}
 use Rattle.dill_http.specs.Bytes.{is_inner, begins_with}
 use Rattle.dill_http.specs.Lines.{line_limit, front_of_line}
-use Rattle.dill_http.proofs.Runs.{Run, run_of, longer_run, all_take}
+use Rattle.dill_http.proofs.Runs.{Run, run_of, longer_run, all_take, passes_at}
 use Rattle.dill_http.proofs.Fronts.{front_over, front_short}
 
 -- text alone within the limit, or as much text and then a byte too much, LF, CR alone, CRLF, or CR and another byte
@@ -19,20 +18,6 @@ pub data Seen : List ℕ → Type 0 where
   return : (t : List ℕ) → list_all is_inner t ≡ true → length t ≤ line_limit → Seen (t ++ (13 ∷ []))
   ended : (t v : List ℕ) → list_all is_inner t ≡ true → length t ≤ line_limit → Seen (t ++ (13 ∷ 10 ∷ v))
   astray : (t : List ℕ) (b : ℕ) (v : List ℕ) → list_all is_inner t ≡ true → length t ≤ line_limit → eqb b 10 ≡ false → Seen (t ++ (13 ∷ b ∷ v))
-
--- the byte at a place of a run
-passes_at : (p : ℕ → Bool) (t : List ℕ) (k : ℕ) → list_all p t ≡ true → k < length t → p (get_or t k 0) ≡ true
-passes_at p [] k h l = absurd (omega arith)
-passes_at p (x ∷ t) zero h l = first (p x) (list_all p t) h
-  where
-    first : (a b : Bool) → (a && b) ≡ true → a ≡ true
-    first true b e = refl
-    first false b e = absurd (cc)
-passes_at p (x ∷ t) (suc k) h l = passes_at p t k (second (p x) (list_all p t) h) (omega arith)
-  where
-    second : (a b : Bool) → (a && b) ≡ true → b ≡ true
-    second true b e = e
-    second false b e = absurd (cc)
 
 seen_long : (t rest : List ℕ) → list_all is_inner t ≡ true → line_limit < length t → Seen (t ++ rest)
 seen_long t rest h l =
@@ -57,11 +42,7 @@ stopped b h = by_test (eqb b 13) (eqb b 10) refl refl h
     by_test false false e f k = absurd (cc)
 
 seen_short : (t rest : List ℕ) → list_all is_inner t ≡ true → begins_with is_inner rest ≡ false → length t ≤ line_limit → Seen (t ++ rest)
-seen_short t [] h s l = subst Seen (sym (append_nil t)) (inside t h l)
-  where
-    append_nil : (xs : List ℕ) → xs ++ [] ≡ xs
-    append_nil [] = refl
-    append_nil (x ∷ xs) = ap (λ y. x ∷ y) (append_nil xs)
+seen_short t [] h s l = subst Seen (sym (append-nil t)) (inside t h l)
 seen_short t (b ∷ v) h s l = elim (stopped b s) [
   | inl e ↦ subst (λ (x : ℕ). Seen (t ++ (x ∷ v))) (sym e) (seen_cr t v h l)
   | inr e ↦ subst (λ (x : ℕ). Seen (t ++ (x ∷ v))) (sym e) (feed t v h l)
@@ -77,11 +58,7 @@ seen_of u =
 
 -- what the definition says of each
 pub front_inside : (t : List ℕ) → list_all is_inner t ≡ true → length t ≤ line_limit → front_of_line t ≡ Need
-front_inside t h l = ap front_of_line (sym (append_nil t)) ∙ front_short t [] h refl l
-  where
-    append_nil : (xs : List ℕ) → xs ++ [] ≡ xs
-    append_nil [] = refl
-    append_nil (x ∷ xs) = ap (λ y. x ∷ y) (append_nil xs)
+front_inside t h l = ap front_of_line (sym (append-nil t)) ∙ front_short t [] h refl l
 
 pub front_beyond : (t : List ℕ) (b : ℕ) (v : List ℕ) → list_all is_inner t ≡ true → length t ≡ line_limit → is_inner b ≡ true → front_of_line (t ++ (b ∷ v)) ≡ Fault Emsgsize
 front_beyond t b v h l s =

@@ -1,7 +1,7 @@
 -- The laws of what lines say.
-use Rattle.std.proofs.Common.{◌≡◌, ◌<◌, ◌≤◌, ◌-◌, ◌+◌, ◌/◌, ◌%◌, ◌++◌, ◌∷◌, [], ◌↔◌, List, ℕ, suc, zero, length, take, drop, get_or, arith, refl, sym, ap, ◌∙◌, subst, Bool, true, false, not, ◌&&◌, ◌||◌, eqb, leb, nat_lt, ltb, inl, inr, ◌⊎◌, Option, Some, None, Result, Ok, Err, IsTrue, append_assoc, length-append, if◌then◌else◌}
-use Rattle.std.specs.List.{list_all, prefix_len}
-use Rattle.std.proofs.lemmas.Bool.{cases_Bool, cases_eq, eqb-true, eq-eqb, ne_eqb, and_parts, and_from, leb-true, ltb-true, ltb-false, lt-ltb, le-ltb, not_from_false, or_from}
+use Rattle.std.proofs.Common.{◌≡◌, ◌<◌, ◌+◌, ◌/◌, ◌%◌, ◌++◌, ◌∷◌, [], ◌↔◌, List, ℕ, length, take, get_or, arith, refl, sym, ap, ◌∙◌, subst, Bool, true, false, ◌&&◌, ◌||◌, eqb, nat_lt, ltb, inl, inr, Option, Some, None, Result, Ok, Err, IsTrue, append_assoc, if◌then◌else◌}
+use Rattle.std.specs.List.{list_all}
+use Rattle.std.proofs.lemmas.Bool.{eq-eqb, ne_eqb, and_parts, and_from, ltb-true, ltb-false, lt-ltb, le-ltb, not_from_false, or_from}
 use Rattle.std.proofs.lemmas.List.{take_at, append-nil}
 use Rattle.std.proofs.lemmas.List.Folds.{list_all-append}
 use Rattle.dill_base.specs.declared.errno.Errno.{Errno}
@@ -13,7 +13,7 @@ use Rattle.dill_http.specs.Bytes.{is_inner, is_token_byte, is_resource_byte, is_
 use Rattle.dill_http.specs.Lines.{line_limit, crlf, front_of_line, LineSpells}
 use Rattle.dill_http.specs.Heads.{Said, Request, Status, Field, is_right, is_code, line_of, LineWrites, LineReads, ReadsRequest, ReadsStatus, ReadsField, IsVersion, own_version, code_digits}
 use Rattle.dill_http.specs.Reading.{part, span, cut_at, request_cut, status_cut, field_cut, token_length}
-use Rattle.dill_http.specs.Writing.{line_due, fault_of, unless}
+use Rattle.dill_http.specs.Writing.{line_due, unless}
 use Rattle.dill_http.specs.Laws.{FindsCut, FindsStatus}
 use Rattle.dill_http.proofs.Runs.{length_of_run}
 use Rattle.dill_http.proofs.Requests as requests
@@ -70,9 +70,10 @@ no_form said =
 
 pub too_long : (said : Said) → (line_due said ≡ Err Emsgsize) ↔ (IsTrue (is_right said) × (line_limit < length (line_of said)))
 too_long said =
-    let k = emsgsize_as (is_right said) (ltb line_limit (length (line_of said))) (line_of said ++ crlf) in
-    (λ e. let j = k.0 (sym (due_is said) ∙ e) in (j.0, ltb-true line_limit (length (line_of said)) j.1),
-     λ e. due_is said ∙ k.1 (e.0, lt-ltb line_limit (length (line_of said)) e.1))
+    let k = emsgsize_as (is_right said) (ltb line_limit (length (line_of said))) (line_of said ++ crlf) in (
+      λ e. let j = k.0 (sym (due_is said) ∙ e) in (j.0, ltb-true line_limit (length (line_of said)) j.1),
+      λ e. due_is said ∙ k.1 (e.0, lt-ltb line_limit (length (line_of said)) e.1),
+    )
 
 -- a class without CR and LF
 inner_class : (p : ℕ → Bool) → p 13 ≡ false → p 10 ≡ false → (b : ℕ) → p b ≡ true → is_inner b ≡ true

@@ -1,10 +1,9 @@
 -- What a byte shows behind a line's text, and behind its CR.
-use Rattle.std.proofs.Common.{◌≡◌, ◌<◌, ◌≤◌, ◌-◌, ◌+◌, ◌++◌, ◌∷◌, [], List, ℕ, suc, zero, length, arith, refl, sym, ap, ◌∙◌, Bool, true, false, not, ◌&&◌, ◌||◌, eqb, Option, Some, None, length-append, if◌then◌else◌}
+use Rattle.std.proofs.Common.{◌≡◌, ◌+◌, ◌++◌, ◌∷◌, [], List, ℕ, length, refl, Bool, true, false, not, ◌&&◌, ◌||◌, eqb, Some, None, length-append, if◌then◌else◌}
 use Rattle.std.specs.List.{list_all}
-use Rattle.dill_base.specs.declared.errno.Errno.{Errno}
 use Rattle.dill_base.specs.declared.errno.Errno.TheVariants.{Emsgsize, Eproto}
 use Rattle.dill_http.specs.Bytes.{is_inner}
-use Rattle.dill_http.specs.Lines.{ends_in_cr, is_over, is_stray, shown_at, line_limit}
+use Rattle.dill_http.specs.Lines.{ends_in_cr, shown_at, line_limit}
 use Rattle.dill_http.proofs.Ends.{ends_snoc}
 use Rattle.dill_http.proofs.Runs.{no_end}
 

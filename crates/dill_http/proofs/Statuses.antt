@@ -1,15 +1,15 @@
 -- Status lines, read.
-use Rattle.std.proofs.Common.{◌≡◌, ◌<◌, ◌≤◌, ◌-◌, ◌+◌, ◌*◌, ◌/◌, ◌%◌, ◌++◌, ◌∷◌, [], List, ℕ, suc, zero, length, take, drop, get_or, min, arith, refl, sym, ap, ◌∙◌, subst, Bool, true, false, not, ◌&&◌, ◌||◌, eqb, leb, nat_lt, nat_le, inl, inr, ◌⊎◌, Option, Some, None, append_assoc, length-append, if◌then◌else◌}
+use Rattle.std.proofs.Common.{◌≡◌, ◌≤◌, ◌-◌, ◌+◌, ◌*◌, ◌/◌, ◌%◌, ◌++◌, ◌∷◌, [], List, ℕ, suc, length, take, drop, min, arith, refl, sym, ap, ◌∙◌, subst, Bool, true, false, ◌&&◌, eqb, leb, inl, inr, ◌⊎◌, Option, Some, None, length-append, if◌then◌else◌}
 use Rattle.std.specs.List.{list_all}
 use Rattle.std.specs.Str.{bytes_eq}
 use Rattle.std.specs.Char.{is_ascii_digit}
-use Rattle.std.proofs.lemmas.Bool.{cases_eq, cases_Bool, eqb-true, eq-eqb, ne_eqb, and_parts, and_from, or_cases, leb-true, le-leb, cases_lt}
-use Rattle.std.proofs.lemmas.List.{take_at, drop_at, take_all, drop_all, drop-drop, drop_more, take-append-drop}
+use Rattle.std.proofs.lemmas.Bool.{cases_Bool, eqb-true, and_parts, and_from, or_cases, leb-true, le-leb}
+use Rattle.std.proofs.lemmas.List.{drop_at, take_all, drop-drop, take-append-drop}
 use Rattle.std.proofs.lemmas.Slice.Eq.{bytes_eq-Decides}
 use Rattle.dill_http.specs.declared.span.Span.{Span}
-use Rattle.dill_http.specs.Bytes.{is_text_byte, is_text}
-use Rattle.dill_http.specs.Heads.{Status, IsVersion, HasReason, ReadsStatus, LineReads, own_version, old_version, is_right, is_code, code_digits}
-use Rattle.dill_http.specs.Reading.{part, span, status_cut, code_of, are_code_digits, is_reason_end, is_version, stands_at, IsStatusCut, StatusReads, LiesIn}
+use Rattle.dill_http.specs.Bytes.{is_text}
+use Rattle.dill_http.specs.Heads.{IsVersion, HasReason, ReadsStatus, own_version, old_version, is_code, code_digits}
+use Rattle.dill_http.specs.Reading.{part, span, status_cut, code_of, are_code_digits, is_reason_end, is_version, IsStatusCut, StatusReads, LiesIn}
 
 -- What the definition says of a version, a byte, three digits and the rest.
 pub status_at : (v : List ℕ) (s a b c : ℕ) (end : List ℕ) → IsVersion v
@@ -48,9 +48,9 @@ digits_are code h =
     let third : is_ascii_digit (48 + code % 10) ≡ true = digit_of (48 + code % 10) (omega arith) (omega arith) in
     let same : is_code (code_of (code_digits code)) ≡ true = ap is_code (code_again code h) ∙ h in
     and_from (list_all is_ascii_digit (code_digits code)) (is_code (code_of (code_digits code)))
-      (and_from (is_ascii_digit (48 + code / 100)) (list_all is_ascii_digit ((48 + code / 10 % 10) ∷ (48 + code % 10) ∷ [])) first
-        (and_from (is_ascii_digit (48 + code / 10 % 10)) (list_all is_ascii_digit ((48 + code % 10) ∷ [])) second (and_from (is_ascii_digit (48 + code % 10)) true third refl)))
-      same
+    (and_from (is_ascii_digit (48 + code / 100)) (list_all is_ascii_digit ((48 + code / 10 % 10) ∷ (48 + code % 10) ∷ [])) first
+    (and_from (is_ascii_digit (48 + code / 10 % 10)) (list_all is_ascii_digit ((48 + code % 10) ∷ [])) second (and_from (is_ascii_digit (48 + code % 10)) true third refl)))
+    same
 
 -- such digits are those of their code
 digits_again : (a b c : ℕ) → list_all is_ascii_digit (a ∷ b ∷ c ∷ []) ≡ true → code_digits (code_of (a ∷ b ∷ c ∷ [])) ≡ a ∷ b ∷ c ∷ []
@@ -69,7 +69,7 @@ digits_again a b c h =
     let zr : c ≤ 57 = z.1 in
     let p = digit_parts (a - 48) (b - 48) (c - 48) (omega arith) (omega arith) (omega arith) in
     same (48 + code_of (a ∷ b ∷ c ∷ []) / 100) a (48 + code_of (a ∷ b ∷ c ∷ []) / 10 % 10) b (48 + code_of (a ∷ b ∷ c ∷ []) % 10) c
-      (ap (λ n. 48 + n) p.0 ∙ (omega arith)) (ap (λ n. 48 + n) p.1 ∙ (omega arith)) (ap (λ n. 48 + n) p.2 ∙ (omega arith))
+    (ap (λ n. 48 + n) p.0 ∙ (omega arith)) (ap (λ n. 48 + n) p.1 ∙ (omega arith)) (ap (λ n. 48 + n) p.2 ∙ (omega arith))
   where
     same : (x a y b z c : ℕ) → x ≡ a → y ≡ b → z ≡ c → x ∷ y ∷ z ∷ [] ≡ a ∷ b ∷ c ∷ []
     same x a y b z c e f g = cc
@@ -145,9 +145,9 @@ status_found line code reason k =
     let ends : Ends whole reason k.end = ends_of k.version a b c reason k.end k.known k.told in
     let test : (are_code_digits (code_digits code) && is_reason_end k.end) ≡ true = and_from (are_code_digits (code_digits code)) (is_reason_end k.end) (digits_are code forms.0) (reason_ends k.end reason k.told forms.1) in
     let cut : status_cut whole ≡ Some (code, span (min 13 (length whole)) (length whole)) =
-      status_at k.version 32 a b c k.end k.known
-      ∙ if_true (are_code_digits (code_digits code) && is_reason_end k.end) (code_of (code_digits code), span (min 13 (length whole)) (length whole)) test
-      ∙ ap (λ n. Some (n, span (min 13 (length whole)) (length whole))) (code_again code forms.0) in
+    status_at k.version 32 a b c k.end k.known
+    ∙ if_true (are_code_digits (code_digits code) && is_reason_end k.end) (code_of (code_digits code), span (min 13 (length whole)) (length whole)) test
+    ∙ ap (λ n. Some (n, span (min 13 (length whole)) (length whole))) (code_again code forms.0) in
     let here : ReadsStatus whole code reason = subst (λ (x : List ℕ). ReadsStatus x code reason) e k in
     let stated : Stated whole code reason = record { place = span (min 13 (length whole)) (length whole); cut = cut; reads = here; second = reason_part whole reason k.end ends; lies = reason_lies whole reason k.end ends } in
     subst (λ (x : List ℕ). Stated x code reason) (sym e) stated

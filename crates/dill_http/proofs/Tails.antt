@@ -1,11 +1,12 @@
 -- The longest run of bytes of a class at the end of a list.
-use Rattle.std.proofs.Common.{◌≡◌, ◌<◌, ◌≤◌, ◌-◌, ◌+◌, ◌++◌, ◌∷◌, [], List, ℕ, suc, zero, length, take, drop, get_or, arith, refl, sym, ap, ◌∙◌, Bool, true, false, ◌&&◌, length-append, reverse}
+use Rattle.std.proofs.Common.{◌≡◌, ◌<◌, ◌≤◌, ◌-◌, ◌+◌, ◌++◌, ◌∷◌, [], List, ℕ, length, get_or, arith, refl, sym, ap, ◌∙◌, Bool, true, false, length-append}
 use Rattle.std.specs.List.{list_all, suffix_len}
-use Rattle.std.proofs.lemmas.Bool.{and_parts, and_from}
+use Rattle.std.proofs.lemmas.Bool.{and_from}
 use Rattle.std.proofs.lemmas.List.{get_or-append_right, get_or_append_left}
 use Rattle.std.proofs.lemmas.List.Sums.{suffix_len_is}
-use Rattle.dill_http.specs.Bytes.{begins_with, ends_with}
+use Rattle.dill_http.specs.Bytes.{ends_with}
 use Rattle.dill_http.proofs.Ends.{ends_at}
+use Rattle.dill_http.proofs.Runs.{passes_at}
 
 pub record Tail (p : ℕ → Bool) (u : List ℕ) : Type 0 where
   pub text : List ℕ
@@ -24,11 +25,6 @@ tail_of p [] = record { text = []; rest = []; whole = refl; all = refl; last = r
 tail_of p (x ∷ u) =
     let t : Tail p u = tail_of p u in
     tail_more p x u (p x) refl t.text t.rest t.whole t.all t.last
-
-pub passes_at : (p : ℕ → Bool) (t : List ℕ) (k : ℕ) → list_all p t ≡ true → k < length t → p (get_or t k 0) ≡ true
-passes_at p [] k h l = absurd (omega arith)
-passes_at p (x ∷ t) zero h l = (and_parts (p x) (list_all p t) h).0
-passes_at p (x ∷ t) (suc k) h l = passes_at p t k (and_parts (p x) (list_all p t) h).1 (omega arith)
 
 pub length_of_tail : (p : ℕ → Bool) (v y : List ℕ) → list_all p y ≡ true → ends_with p v ≡ false → suffix_len p (v ++ y) ≡ length y
 length_of_tail p v y h s =

@@ -27,13 +27,15 @@ is_text_byte b = b == 9 || (nat_le 32 b && not (b == 127))
 abbrev pub is_some_of : (ℕ → Bool) → List ℕ → Bool
 is_some_of test bytes = nat_lt 0 (length bytes) && list_all test bytes
 
+-- one or more bytes of a token
 abbrev pub is_token : List ℕ → Bool
 is_token bytes = is_some_of is_token_byte bytes
 
+-- one or more bytes of a resource
 abbrev pub is_resource : List ℕ → Bool
 is_resource bytes = is_some_of is_resource_byte bytes
 
--- any bytes of the class, maybe none
+-- bytes of a text, maybe none
 abbrev pub is_text : List ℕ → Bool
 is_text bytes = list_all is_text_byte bytes
 

@@ -1,5 +1,5 @@
 -- What the lines of a head say: RFC 9112, sections 2.3, 3, 4 and 5, with the tokens of RFC 9110, section 5.6.2.
-use Rattle.std.specs.Prelude.{◌≡◌, ◌⊎◌, ◌<◌, ◌≤◌, ◌+◌, ◌/◌, ◌%◌, ◌++◌, ◌∷◌, [], ◌&&◌, IsTrue, Bool, ℕ, List, length, codes, nat_le}
+use Rattle.std.specs.Prelude.{◌≡◌, ◌⊎◌, ◌≤◌, ◌+◌, ◌/◌, ◌%◌, ◌++◌, ◌∷◌, [], ◌&&◌, IsTrue, Bool, ℕ, List, length, codes, nat_le}
 use Rattle.std.specs.List.{list_all}
 use Rattle.dill_http.specs.Bytes.{is_blank, is_token, is_resource, is_text, is_bare}
 use Rattle.dill_http.specs.Lines.{line_limit, crlf}

@@ -1,5 +1,5 @@
 -- The laws of lines and of what they say.
-use Rattle.std.specs.Prelude.{◌≡◌, ◌<◌, ◌≤◌, ◌+◌, ◌++◌, ◌↔◌, [], ℕ, List, length, take, Bool, true, false, IsTrue, Option, Some, None, Ok, Err}
+use Rattle.std.specs.Prelude.{◌≡◌, ◌<◌, ◌≤◌, ◌+◌, ◌++◌, ◌↔◌, [], ℕ, List, length, take, false, IsTrue, Option, Some, Ok, Err}
 use Rattle.dill_base.specs.declared.errno.Errno.{Errno}
 use Rattle.dill_base.specs.declared.errno.Errno.TheVariants.{Einval, Emsgsize}
 use Rattle.dill_base.specs.declared.errno.Front.{Front}
@@ -24,10 +24,13 @@ pub record LineLies (u : List ℕ) (from to used : ℕ) : Type 0 where
   pub ending : used ≡ to + 2
   pub there : used ≤ length u
 
+-- the laws of lines and of their front
 pub record LineLaws : Type 0 where
   -- what is spelled is read again, and what shows a refusal is refused, whatever follows it
   pub again : (m w rest : List ℕ) → LineSpells m w → length m ≤ line_limit → front_of_line (w ++ rest) ≡ Whole 0 (length m) (length w)
   pub refused : (e : Errno) (w rest : List ℕ) → LineShows e w → front_of_line (w ++ rest) ≡ Fault e
+  -- no bytes that show a refusal begin others that show one: the least are refused
+  pub least : (e f : Errno) (w rest : List ℕ) → LineShows e w → LineShows f (w ++ rest) → rest ≡ []
   -- what was judged stays so when more comes
   pub stays : (u v : List ℕ) (f : Front) → front_of_line u ≡ f → IsJudged f → front_of_line (u ++ v) ≡ f
   -- what waits is short, and it waits exactly where more bytes would make it a line
@@ -54,6 +57,7 @@ pub record FindsStatus (line : List ℕ) (found : Option (ℕ × Span)) (code : 
   pub found_it : found ≡ Some (code, place)
   pub holds : part line place ≡ reason
 
+-- the laws of what lines say
 pub record HeadLaws : Type 0 where
   -- what is written is the one line that is sent, and that line is written
   pub written : (said : Said) (w : List ℕ) → line_due said ≡ Ok w → LineWrites said w

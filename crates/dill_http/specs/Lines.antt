@@ -11,6 +11,7 @@ use Rattle.dill_http.specs.Bytes.{is_inner, ends_with}
 abbrev pub line_limit : ℕ
 line_limit = 8192
 
+-- the end of a line
 abbrev pub crlf : List ℕ
 crlf = 13 ∷ 10 ∷ []
 

@@ -1,12 +1,12 @@
 -- Where the parts of a line lie.
-use Rattle.std.specs.Prelude.{◌≡◌, ◌≤◌, ◌+◌, ◌-◌, ◌*◌, ◌∷◌, [], ◌==◌, ◌&&◌, ◌||◌, if◌then◌else◌, Bool, true, ℕ, List, length, take, drop, get_or, min, nat_lt, Option, Some, None}
+use Rattle.std.specs.Prelude.{◌≤◌, ◌+◌, ◌-◌, ◌*◌, ◌∷◌, [], ◌==◌, ◌&&◌, ◌||◌, if◌then◌else◌, Bool, true, ℕ, List, length, take, drop, get_or, min, nat_lt, Option, Some, None}
 use Rattle.std.specs.List.{prefix_len, suffix_len, list_all}
 use Rattle.std.specs.Str.{bytes_eq}
 use Rattle.std.specs.Char.{is_ascii_digit}
 use Rattle.dill_http.specs.declared.span.Span.{Span}
 use Rattle.dill_http.specs.declared.span.Cut.{Cut}
 use Rattle.dill_http.specs.Bytes.{is_token_byte, is_resource_byte, is_blank, is_text}
-use Rattle.dill_http.specs.Heads.{Said, Request, Status, Field, LineReads, own_version, old_version, is_code}
+use Rattle.dill_http.specs.Heads.{Said, Status, LineReads, own_version, old_version, is_code}
 
 -- the bytes of a span
 abbrev pub part : List ℕ → Span → List ℕ
@@ -38,9 +38,11 @@ abbrev pub IsStatusCut : List ℕ → Option (ℕ × Span) → Type 0
 IsStatusCut line (Some status) = StatusReads line status.0 status.1
 IsStatusCut line None = (code : ℕ) (reason : List ℕ) → LineReads line (Status code reason) → ⊥
 
+-- from this byte to before that one
 abbrev pub span : ℕ → ℕ → Span
 span from to = record { from = from; to = to }
 
+-- the two spans
 abbrev pub cut_at : Span → Span → Cut
 cut_at first second = record { first = first; second = second }
 
@@ -52,10 +54,11 @@ stands_at line place byte = get_or line place 0 == byte
 abbrev pub is_version : List ℕ → Bool
 is_version bytes = bytes_eq bytes own_version || bytes_eq bytes old_version
 
--- how many bytes of a token stand at the front, and how many of a resource behind a byte more
+-- how many bytes of a token stand at the front
 abbrev pub token_length : List ℕ → ℕ
 token_length line = prefix_len is_token_byte line
 
+-- how many bytes of a resource stand at the front
 abbrev pub resource_length : List ℕ → ℕ
 resource_length line = prefix_len is_resource_byte line
 
@@ -69,6 +72,7 @@ request_of line n m =
     if nat_lt 0 n && (stands_at line n 32 && (nat_lt 0 m && is_version_end (drop (n + 1 + m) line)))
     then Some (cut_at (span 0 n) (span (n + 1) (n + 1 + m))) else None
 
+-- the parts of a request line: the token at the front, and the resource behind one byte more
 unfoldable pub request_cut : List ℕ → Option Cut
 request_cut line = request_of line (token_length line) (resource_length (drop (token_length line + 1) line))
 
@@ -104,5 +108,6 @@ field_of line n =
     if nat_lt 0 n && (stands_at line n 58 && is_text (drop (n + 1) line))
     then Some (cut_at (span 0 n) (bare_from line (n + 1))) else None
 
+-- the parts of a field line: the token at the front, and the value behind one byte more
 unfoldable pub field_cut : List ℕ → Option Cut
 field_cut line = field_of line (token_length line)

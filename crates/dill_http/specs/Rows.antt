@@ -1,12 +1,13 @@
 -- Lines worked by hand, which the definitions compute.
-use Rattle.std.specs.Prelude.{◌≡◌, ◌∷◌, [], ◌++◌, codes, ℕ, List, Option, Some, None, Ok, Err}
-use Rattle.dill_base.specs.declared.errno.Errno.TheVariants.{Einval, Eproto, Emsgsize}
+use Rattle.std.specs.Prelude.{◌≡◌, ◌∷◌, [], ◌++◌, codes, Some, None, Ok, Err}
+use Rattle.dill_base.specs.declared.errno.Errno.TheVariants.{Einval, Eproto}
 use Rattle.dill_base.specs.declared.errno.Front.TheVariants.{Whole, Need, Fault}
 use Rattle.dill_http.specs.Lines.{crlf, front_of_line}
 use Rattle.dill_http.specs.Heads.{Request, Status, Field}
-use Rattle.dill_http.specs.Reading.{span, cut_at, request_cut, status_cut, field_cut, part}
+use Rattle.dill_http.specs.Reading.{span, cut_at, request_cut, status_cut, field_cut}
 use Rattle.dill_http.specs.Writing.{line_due}
 
+-- each line and what it is
 pub record LineRows : Type 0 where
   -- the name and the value, without the blanks round it
   pub field : field_cut (codes "Host:  x ") ≡ Some (cut_at (span 0 4) (span 7 8))

@@ -16,5 +16,6 @@ abbrev pub unless : Option Errno → List ℕ → Result (List ℕ) Errno
 unless None w = Ok w
 unless (Some e) w = Err e
 
+-- the line with its CRLF, or its refusal
 unfoldable pub line_due : Said → Result (List ℕ) Errno
 line_due said = unless (fault_of said) (line_of said ++ crlf)

@@ -9,6 +9,8 @@ mod line;
 mod request;
 mod span;
 mod status;
+#[cfg(test)]
+mod tests;
 mod worked;
 
 pub use field::{field_fault, read_field, write_field};

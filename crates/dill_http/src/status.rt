@@ -44,7 +44,11 @@ fn read_code(digits: &[u8]) -> Option<u32>
         return None;
     }
     let code = code_in(digits);
-    if code < 100 || 999 < code { None } else { Some(code) }
+    if code < 100 || 999 < code {
+        None
+    } else {
+        Some(code)
+    }
 }
 
 #[tactic(auto, unfolding(crate::specs::Reading::status_cut))]

@@ -1,7 +1,7 @@
 -- The bytes of a short frame, field by field.
-use Rattle.std.proofs.Common.{◌≡◌, ◌+◌, ◌≤◌, ◌<◌, ℕ, zero, suc, List, [], ◌∷◌, ◌++◌, true, length, take, get_or, Some, refl, sym, ap, ◌∙◌, arith, lt-ltb}
+use Rattle.std.proofs.Common.{◌≡◌, ◌+◌, ◌≤◌, ◌<◌, ℕ, suc, List, [], ◌∷◌, ◌++◌, true, length, take, get_or, Some, refl, ap, arith, lt-ltb}
 use Rattle.std.proofs.lemmas.List.{take_at}
-use Rattle.dill_ws.specs.Frames.{frame_bytes, first_byte, second_byte, masked_from}
+use Rattle.dill_ws.specs.Frames.{frame_bytes, masked_from}
 
 pub four_bytes : (key : List ℕ) → length key ≡ 4 → get_or key 0 0 ∷ get_or key 1 0 ∷ get_or key 2 0 ∷ get_or key 3 0 ∷ [] ≡ key
 four_bytes [] h = absurd (omega arith)

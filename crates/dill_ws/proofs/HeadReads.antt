@@ -1,16 +1,16 @@
 -- What stands at the front of the bytes is what the heads say.
 use Rattle.std.proofs.Common.{◌≡◌, ◌<◌, ◌≤◌, ◌+◌, ◌-◌, ◌++◌, ◌∷◌, [], ◌⊎◌, inl, inr, ℕ, suc, zero, List, Bool, true, false, ltb, length, take, drop, get_or, arith, sym, ap, ◌∙◌, refl, subst, if◌then◌else◌, append_assoc, length-append, take-append-drop, lt-ltb, le-ltb}
-use Rattle.std.proofs.lemmas.Bool.{cases_lt, ltb-true}
-use Rattle.std.proofs.lemmas.List.{length-drop, length-take-le, take_at, drop_at, append-nil, take-append-le, take_all, take_more, drop_more}
-use Rattle.std.proofs.Math.Seq.{take-append-add, take-add}
+use Rattle.std.proofs.lemmas.Bool.{cases_lt}
+use Rattle.std.proofs.lemmas.List.{length-take-le, take_at, append-nil, take-append-le, take_all, take_more}
+use Rattle.std.proofs.Math.Seq.{take-append-add}
 use Rattle.dill_base.specs.declared.errno.Errno.{Errno}
 use Rattle.dill_base.specs.declared.errno.Errno.TheVariants.{Eproto, Emsgsize}
 use Rattle.dill_base.specs.declared.errno.Front.{Front}
 use Rattle.dill_base.specs.declared.errno.Front.TheVariants.{Whole, Need, Fault}
 use Rattle.dill_base.specs.Reading.{IsFront, IsShown}
-use Rattle.dill_http.specs.Lines.{line_limit, crlf, front_of_line, LineSpells, LineShows, IsCutLine}
+use Rattle.dill_http.specs.Lines.{line_limit, crlf, front_of_line, LineSpells, LineShows}
 use Rattle.dill_http.specs.Laws.{LineLaws}
-use Rattle.dill_ws.specs.HeadLines.{are_full, lines_text, next_line, lines_at, behind, head_limit, at_limit, limited, head_stop, head_size, judged_by, head_front_by, IsHeadText, IsCutHead, IsTooLong, HasBadLine, IsBadHead, HeadShows}
+use Rattle.dill_ws.specs.HeadLines.{are_full, lines_text, lines_at, behind, head_limit, at_limit, limited, head_stop, head_size, judged_by, head_front_by, HasLineFront, IsHeadText, IsCutHead, IsTooLong, HasBadLine, HeadShows}
 use Rattle.dill_ws.proofs.Texts.{Splits, split_text, IsMade, is_made, no_line_open, no_line_bad, no_line_empty, empty_line, half_end, Ends, ends_at}
 
 pub limited_short : (n : ℕ) (f last : Front) → n < head_limit → limited n f last ≡ f
@@ -48,7 +48,7 @@ unfolding head_stop
 stop_late u h e = ap (λ x. limited (length u) x (stop_at (take head_limit u))) e ∙ limited_long (length u) (stop_at (take head_limit u)) h
 
 -- what some bytes at the front of a list are, and what is cut off them
-front_part : (n : ℕ) (w rest : List ℕ) → length w ≤ n → take n (w ++ rest) ≡ w ++ take (n - length w) rest
+pub front_part : (n : ℕ) (w rest : List ℕ) → length w ≤ n → take n (w ++ rest) ≡ w ++ take (n - length w) rest
 front_part n w rest h = ap (λ m. take m (w ++ rest)) (let e : n ≡ length w + (n - length w) = omega arith in e) ∙ take-append-add w rest (n - length w)
 
 -- the stop at the empty line behind some lines
@@ -84,19 +84,21 @@ head_found laws lines w rest t =
     let s : Splits (lines_text lines ++ (crlf ++ rest)) lines (crlf ++ rest) = stop_of_lines laws lines rest t.full in
     let are : lines_at u ≡ lines = ap lines_at grouped ∙ s.lines_are in
     record {
-      stop = elim (cases_lt (length w) head_limit) [ | inl h ↦ before_limit h | inr h ↦ at_the_limit (omega (arith, t.short)) ];
+      stop = elim (cases_lt (length w) head_limit) [ inl h ↦ before_limit h | inr h ↦ at_the_limit (omega (arith, t.short)) ];
       lines_are = are;
       size_is = ap (λ (l : List (List ℕ)). length (lines_text l) + 2) are ∙ sym (text_length lines) ∙ ap length (sym t.whole);
     }
   where
     not_need : Whole 0 0 2 ≡ Need → ⊥
     not_need e = cc e
+
     before_limit : length w < head_limit → head_stop (w ++ rest) ≡ Whole 0 0 2
     before_limit h =
         let more = take (head_limit - 1 - length w) rest in
         let cut : early (w ++ rest) ≡ w ++ more = front_part (head_limit - 1) w rest (omega arith) in
         let grouped : w ++ more ≡ lines_text lines ++ (crlf ++ more) = ap (λ x. x ++ more) t.whole ∙ append_assoc (lines_text lines) crlf more in
         stop_settled (w ++ rest) (Whole 0 0 2) (ap stop_at (cut ∙ grouped) ∙ stops_there laws lines more t.full) not_need
+
     at_the_limit : length w ≡ head_limit → head_stop (w ++ rest) ≡ Whole 0 0 2
     at_the_limit h =
         let half = lines_text lines ++ (13 ∷ []) in
@@ -129,7 +131,7 @@ pub front_of_fault : (test : List (List ℕ) → Bool) (u : List ℕ) (e : Errno
 unfolding head_front_by
 front_of_fault test u e h = ap (judged_by (test (lines_at u)) (head_size u)) h
 
-not_open : (e : Errno) → Fault e ≡ Need → ⊥
+pub not_open : (e : Errno) → Fault e ≡ Need → ⊥
 not_open e h = cc h
 
 bad_line_again : LineLaws → (e : Errno) (w rest : List ℕ) → HasBadLine e w → head_stop (w ++ rest) ≡ Fault e
@@ -147,9 +149,11 @@ last_byte xs before byte front e = by_length (cases_lt (length before) (length f
   where
     sizes : length front + length xs ≡ length before + 1
     sizes = sym (length-append front xs) ∙ ap length e ∙ length-append before (byte ∷ [])
+
     nothing : (ys : List ℕ) → length ys ≡ 0 → ys ≡ []
     nothing [] h = refl
     nothing (y ∷ ys) h = absurd (omega arith)
+
     by_length : (length before < length front) ⊎ (length front ≤ length before) → (xs ≡ []) ⊎ ((ys : List ℕ) × (before ≡ front ++ ys))
     by_length (inl l) = inl (nothing xs (omega (arith, sizes)))
     by_length (inr l) =
@@ -166,9 +170,9 @@ no_end laws w before byte whole open_before all endless (Whole a b c) e =
     let lines = lines_at w in
     let ended : w ≡ (lines_text lines ++ crlf) ++ n.more = m.whole ∙ ap (λ x. lines_text lines ++ x) n.whole ∙ sym (append_assoc (lines_text lines) crlf n.more) in
     absurd (elim (last_byte n.more before byte (lines_text lines ++ crlf) (sym ended ∙ whole)) [
-        | inl none ↦ endless lines (record { full = m.full; whole = ended ∙ ap (λ x. (lines_text lines ++ crlf) ++ x) none ∙ append-nil (lines_text lines ++ crlf); short = omega arith })
-        | inr k ↦ clash (sym open_before ∙ ap stop_at (k.1 ∙ append_assoc (lines_text lines) crlf k.0) ∙ stops_there laws lines k.0 m.full)
-      ])
+      | inl none ↦ endless lines (record { full = m.full; whole = ended ∙ ap (λ x. (lines_text lines ++ crlf) ++ x) none ∙ append-nil (lines_text lines ++ crlf); short = omega arith })
+      | inr k ↦ clash (sym open_before ∙ ap stop_at (k.1 ∙ append_assoc (lines_text lines) crlf k.0) ∙ stops_there laws lines k.0 m.full)
+    ])
   where
     clash : Need ≡ Whole 0 0 2 → ⊥
     clash h = cc h
@@ -194,6 +198,11 @@ shown_again laws test e w rest s =
         | inr b ↦ failing_again laws test b.lines w rest b.text b.fails ∙ sym (ap Fault b.errno)
       ]
     ]
+
+length_most : (n : ℕ) (u : List ℕ) → length (take n u) ≤ n
+length_most zero u = omega arith
+length_most (suc n) [] = omega arith
+length_most (suc n) (x ∷ u) = let l : length (take n u) ≤ n = length_most n u in omega arith
 
 -- a head at the front of the bytes
 pub record HasHead (u : List ℕ) : Type 0 where
@@ -225,11 +234,6 @@ head_within laws n u a b c h e =
         short = let l : length (take (head_size u) u) ≡ length w = ap length front in omega arith;
       };
     }
-  where
-    length_most : (n : ℕ) (u : List ℕ) → length (take n u) ≤ n
-    length_most zero u = omega arith
-    length_most (suc n) [] = omega arith
-    length_most (suc n) (x ∷ u) = let l : length (take n u) ≤ n = length_most n u in omega arith
 
 limited_whole : (n : ℕ) (f last : Front) (a b c : ℕ) → limited n f last ≡ Whole a b c → (f ≡ Whole a b c) ⊎ (last ≡ Whole a b c)
 limited_whole n (Whole x y z) last a b c e = inl e
@@ -250,7 +254,7 @@ head_there laws u a b c e =
       | inr p ↦ head_within laws head_limit u a b c (omega arith) p
     ]
 
-limited_fault : (n : ℕ) (f last : Front) (e : Errno) → limited n f last ≡ Fault e → (f ≡ Fault e) ⊎ ((head_limit ≤ n) × (f ≡ Need) × (at_limit last ≡ Fault e))
+pub limited_fault : (n : ℕ) (f last : Front) (e : Errno) → limited n f last ≡ Fault e → (f ≡ Fault e) ⊎ ((head_limit ≤ n) × (f ≡ Need) × (at_limit last ≡ Fault e))
 limited_fault n (Whole x y z) last e h = absurd (cc h)
 limited_fault n (Fault f) last e h = inl h
 limited_fault n Need last e h =
@@ -296,11 +300,6 @@ bad_line_shown laws test u e k =
         shown = inr (inl (record { lines = lines; last = last; full = m.full; shown = s; whole = refl; within = omega (arith, k.there) }));
       });
     }
-  where
-    length_most : (n : ℕ) (u : List ℕ) → length (take n u) ≤ n
-    length_most zero u = omega arith
-    length_most (suc n) [] = omega arith
-    length_most (suc n) (x ∷ u) = let l : length (take n u) ≤ n = length_most n u in omega arith
 
 too_long_shown : LineLaws → (test : List (List ℕ) → Bool) (u : List ℕ) (e : Errno) → head_limit ≤ length u → stop_at (early u) ≡ Need → at_limit (stop_at (take head_limit u)) ≡ Fault e → IsShown (HeadShows test) u e
 too_long_shown laws test u e l need h =
@@ -345,7 +344,7 @@ bad_head_shown test u k fails =
       };
     }
 
-judged_fault : (p : Bool) (n : ℕ) (f : Front) (e : Errno) → judged_by p n f ≡ Fault e → (f ≡ Fault e) ⊎ ((a : ℕ) × (b : ℕ) × (c : ℕ) × (f ≡ Whole a b c) × (p ≡ false) × (e ≡ Eproto))
+pub judged_fault : (p : Bool) (n : ℕ) (f : Front) (e : Errno) → judged_by p n f ≡ Fault e → (f ≡ Fault e) ⊎ ((a : ℕ) × (b : ℕ) × (c : ℕ) × (f ≡ Whole a b c) × (p ≡ false) × (e ≡ Eproto))
 judged_fault true n (Whole a b c) e h = absurd (cc h)
 judged_fault false n (Whole a b c) e h = inr (a, b, c, refl, refl, cc)
 judged_fault p n Need e h = absurd (cc h)
@@ -413,3 +412,17 @@ limited_need n Need last h =
 pub open_is_short : (test : List (List ℕ) → Bool) (u : List ℕ) → head_front_by test u ≡ Need → length u < head_limit
 unfolding head_front_by head_stop
 open_is_short test u h = limited_need (length u) (stop_at (early u)) (stop_at (take head_limit u)) (judged_need (test (lines_at u)) (head_size u) (head_stop u) h)
+
+pub line_of_short : (u : List ℕ) (f : Front) → length u < head_limit → f ≡ stop_at u → IsFront LineSpells LineShows line_limit (behind u) f → HasLineFront u
+line_of_short u f h e line =
+    let all : early u ≡ u = take_all (head_limit - 1) u (omega arith) in
+    subst (λ (x : List ℕ). IsFront LineSpells LineShows line_limit (behind x) (stop_at x)) (sym all) (subst (λ (g : Front). IsFront LineSpells LineShows line_limit (behind u) g) e line)
+
+pub line_of_long : (u : List ℕ) (f : Front) → f ≡ stop_at (early u) → IsFront LineSpells LineShows line_limit (behind (early u)) f → HasLineFront u
+line_of_long u f e line = subst (λ (g : Front). IsFront LineSpells LineShows line_limit (behind (early u)) g) e line
+
+pub size_by_rest : LineLaws → (u : List ℕ) → length u ≡ length (lines_text (lines_at u)) + length (behind u)
+size_by_rest laws u = ap length (is_made laws u).whole ∙ length-append (lines_text (lines_at u)) (behind u)
+
+pub lines_again : LineLaws → (lines : List (List ℕ)) (w rest : List ℕ) → IsHeadText lines w → lines_at (w ++ rest) ≡ lines
+lines_again laws lines w rest t = (head_found laws lines w rest t).lines_are

@@ -1,5 +1,5 @@
 -- A head is read as it is written, and what is read is a head.
-use Rattle.std.proofs.Common.{◌≡◌, ◌<◌, ◌≤◌, ◌+◌, ◌-◌, ◌%◌, ◌^◌, ◌++◌, ◌∷◌, [], ℕ, suc, zero, List, Bool, true, false, ltb, leb, length, take, drop, get_or, Option, Some, None, arith, sym, ap, ◌∙◌, refl, subst, inl, inr, ◌⊎◌, if◌then◌else◌, lt-ltb, le-ltb, append_assoc, length-append}
+use Rattle.std.proofs.Common.{◌≡◌, ◌<◌, ◌≤◌, ◌+◌, ◌-◌, ◌%◌, ◌^◌, ◌++◌, ◌∷◌, [], ℕ, suc, List, Bool, true, false, ltb, leb, length, take, drop, Option, Some, None, arith, sym, ap, ◌∙◌, refl, subst, inl, inr, ◌⊎◌, if◌then◌else◌, le-ltb, append_assoc, length-append}
 use Rattle.std.specs.Prelude.{slice_index}
 use Rattle.std.proofs.lemmas.Bool.{ltb-true, ltb-false}
 use Rattle.std.proofs.lemmas.List.{take_at, drop_at, length-take-le, length-drop}
@@ -9,13 +9,12 @@ use Rattle.dill_base.specs.declared.errno.Errno.TheVariants.{Eproto}
 use Rattle.dill_ws.specs.declared.side.Side.{Side}
 use Rattle.dill_ws.specs.declared.side.Side.TheVariants.{Client, Server}
 use Rattle.dill_ws.specs.declared.head.Head.{Head}
-use Rattle.dill_ws.specs.declared.head.HeadFront.{HeadFront}
 use Rattle.dill_ws.specs.declared.head.HeadFront.TheVariants.{Whole, Need, Fault}
 use Rattle.dill_ws.specs.Frames.{peer_of, first_byte, second_byte, length_bits, length_tail, key_bytes, head_bytes, HasKeyOf, may_follow}
 use Rattle.dill_ws.specs.Fronts.{HeadSpells, bits_of, length_size, key_size, key_at, told, may_start, is_least, head_at, head_front}
 use Rattle.dill_ws.specs.FrameLaws.{AreBytes}
-use Rattle.dill_ws.proofs.Lengths.{IsForm, form_of, least_of_form, IsReadForm, read_form, front_bytes, bits_follow, size_bound}
-use Rattle.dill_ws.proofs.Openings.{TellsFirst, first_tells, first_is, TellsSecond, second_tells, second_is, key_length, small_opcode, Starts, starts_by, may_start_by, written_starts}
+use Rattle.dill_ws.proofs.Lengths.{IsForm, form_of, least_of_form, IsReadForm, read_form, bits_follow, size_bound}
+use Rattle.dill_ws.proofs.Openings.{TellsFirst, first_tells, first_is, TellsSecond, second_tells, second_is, key_length, small_opcode, Starts, starts_by, written_starts}
 
 -- where the bytes of the length end
 abbrev pub length_end : List ℕ → ℕ

@@ -1,5 +1,5 @@
 -- The length of a payload, written in its least form and read again.
-use Rattle.std.proofs.Common.{◌≡◌, ◌<◌, ◌≤◌, ◌+◌, ◌^◌, ◌++◌, ◌∷◌, [], ◌⊎◌, List, ℕ, suc, zero, Bool, true, false, ◌&&◌, ltb, eqb, leb, length, take, drop, get_or, arith, sym, ap, ◌∙◌, refl, subst, inl, inr, not, lit<, if◌then◌else◌, lt-ltb, le-ltb}
+use Rattle.std.proofs.Common.{◌≡◌, ◌<◌, ◌≤◌, ◌^◌, ◌++◌, ◌∷◌, [], List, ℕ, suc, zero, Bool, true, false, ◌&&◌, ltb, eqb, leb, length, take, arith, sym, ap, ◌∙◌, refl, subst, inl, inr, not, lit<, if◌then◌else◌, lt-ltb, le-ltb}
 use Rattle.std.specs.Int.{w16, w64, to_be_bytes, from_be_bytes}
 use Rattle.std.proofs.lemmas.Bool.{cases_lt, eqb-true, ltb-true, lt-leb, and_parts, and_from, eq-eqb}
 use Rattle.std.proofs.lemmas.Nat.{be_bytes_2, be_bytes_8}

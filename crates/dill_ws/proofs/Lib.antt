@@ -1,9 +1,13 @@
+pub mod Agreeing
+pub mod Asking
 pub mod Closes
 pub mod Controls
+pub mod HeadLaws
 pub mod HeadReads
 pub mod Heads
 pub mod Items
 pub mod Lengths
+pub mod Offered
 pub mod Openings
 pub mod Shown
 pub mod Splits

@@ -1,5 +1,5 @@
 -- Bytes 1 and 2 of a frame, written and read again.
-use Rattle.std.proofs.Common.{◌≡◌, ◌<◌, ◌≤◌, ◌+◌, ◌/◌, ◌%◌, ◌∷◌, ℕ, List, Bool, true, false, ◌&&◌, not, eqb, leb, length, Option, Some, None, arith, sym, ap, ◌∙◌, refl, subst, if◌then◌else◌}
+use Rattle.std.proofs.Common.{◌≡◌, ◌<◌, ◌≤◌, ◌+◌, ◌/◌, ◌%◌, ℕ, List, Bool, true, false, ◌&&◌, not, eqb, leb, length, Option, Some, None, arith, ◌∙◌, refl, if◌then◌else◌}
 use Rattle.std.proofs.lemmas.Bool.{eqb-true, leb-true, leb-false, le-leb, lt-leb, and_parts, and_from, eq-eqb}
 use Rattle.dill_ws.specs.declared.side.Side.{Side}
 use Rattle.dill_ws.specs.declared.side.Side.TheVariants.{Client, Server}

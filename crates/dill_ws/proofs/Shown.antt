@@ -1,7 +1,6 @@
 -- The front of the bytes is what the heads say.
-use Rattle.std.proofs.Common.{◌≡◌, ◌<◌, ◌≤◌, ◌+◌, ◌-◌, ◌%◌, ◌++◌, ◌∷◌, [], ◌⊎◌, ℕ, suc, zero, List, Bool, true, false, leb, length, take, drop, get_or, Option, Some, None, arith, sym, ap, ◌∙◌, refl, subst, inl, inr, length-append, take-append-drop}
-use Rattle.std.specs.Prelude.{slice_index}
-use Rattle.std.proofs.lemmas.List.{take_at, take-append-le, length-take-le, length-drop, append-nil, take_all}
+use Rattle.std.proofs.Common.{◌≡◌, ◌<◌, ◌≤◌, ◌+◌, ◌%◌, ◌++◌, ◌∷◌, [], ℕ, suc, zero, List, Bool, true, false, leb, length, take, drop, Option, Some, None, arith, sym, ap, ◌∙◌, refl, subst, inl, inr, length-append, take-append-drop}
+use Rattle.std.proofs.lemmas.List.{length-take-le, append-nil, take_all}
 use Rattle.dill_base.specs.declared.errno.Errno.{Errno}
 use Rattle.dill_base.specs.declared.errno.Errno.TheVariants.{Eproto}
 use Rattle.dill_ws.specs.declared.side.Side.{Side}
@@ -9,11 +8,11 @@ use Rattle.dill_ws.specs.declared.side.Side.TheVariants.{Client, Server}
 use Rattle.dill_ws.specs.declared.head.Head.{Head}
 use Rattle.dill_ws.specs.declared.head.HeadFront.{HeadFront}
 use Rattle.dill_ws.specs.declared.head.HeadFront.TheVariants.{Whole, Need, Fault}
-use Rattle.dill_ws.specs.Frames.{peer_of, length_bits, length_tail, key_bytes, HasKeyOf}
-use Rattle.dill_ws.specs.Fronts.{HeadSpells, HeadShows, IsJudged, NoneBegins, IsHead, IsOpenHead, IsRefusedHead, IsHeadFront, bits_of, length_size, key_size, told, is_least, head_front}
+use Rattle.dill_ws.specs.Frames.{peer_of, length_tail, key_bytes, HasKeyOf}
+use Rattle.dill_ws.specs.Fronts.{HeadSpells, HeadShows, IsJudged, NoneBegins, IsOpenHead, IsRefusedHead, IsHeadFront, bits_of, length_size, told, is_least, head_front}
 use Rattle.dill_ws.specs.FrameLaws.{AreBytes}
 use Rattle.dill_ws.proofs.Lengths.{IsReadForm, read_form, front_bytes, some_length, told_more}
-use Rattle.dill_ws.proofs.Heads.{length_end, is_start, has_least, Reads, front_reads, Refuses, front_refuses, refused_early, refused_late, head_again, from_parts, read_spells, head_of}
+use Rattle.dill_ws.proofs.Heads.{is_start, Reads, front_reads, Refuses, front_refuses, refused_early, refused_late, head_again, from_parts, read_spells, head_of}
 
 some_key : (r : Side) → (key : Option (List ℕ)) × HasKeyOf (peer_of r) key
 some_key Client = (None, tt)

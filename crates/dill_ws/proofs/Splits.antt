@@ -1,5 +1,5 @@
 -- The lines at the front of the bytes, one after the other.
-use Rattle.std.proofs.Common.{◌≡◌, ◌<◌, ◌≤◌, ◌+◌, ◌-◌, ◌++◌, ◌∷◌, [], ℕ, suc, zero, List, Bool, true, false, eqb, length, take, drop, Option, Some, None, arith, sym, ap, ◌∙◌, refl, subst, if◌then◌else◌}
+use Rattle.std.proofs.Common.{◌≡◌, ◌<◌, ◌≤◌, ◌-◌, ◌∷◌, [], ℕ, suc, zero, List, Bool, true, false, eqb, length, take, drop, Option, Some, None, arith, sym, ap, ◌∙◌, refl, if◌then◌else◌}
 use Rattle.std.specs.Prelude.{IfSome, IfNone}
 use Rattle.std.proofs.lemmas.List.{length-drop}
 use Rattle.dill_base.specs.declared.errno.Front.{Front}
@@ -59,8 +59,8 @@ enough laws zero (suc m) u h k = sym (no_next (split_lines m) u (none_of_short l
 enough laws (suc n) zero u h k = no_next (split_lines n) u (none_of_short laws u (next_line u) k refl)
 enough laws (suc n) (suc m) u h k =
     by_next (split_lines n) (split_lines m) u (next_line u) refl (λ l r e.
-        let s : length r < length u = next_is_short laws u l r e in
-        enough laws n m r (omega arith) (omega arith))
+    let s : length r < length u = next_is_short laws u l r e in
+    enough laws n m r (omega arith) (omega arith))
 
 pub record IsStopped (u : List ℕ) : Type 0 where
   pub lines_are : lines_at u ≡ []

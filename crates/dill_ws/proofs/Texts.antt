@@ -1,9 +1,9 @@
 -- The lines of a text and what stands behind them.
-use Rattle.std.proofs.Common.{◌≡◌, ◌<◌, ◌≤◌, ◌+◌, ◌-◌, ◌++◌, ◌∷◌, [], ◌&&◌, ℕ, suc, zero, List, Bool, true, false, eqb, ltb, length, take, drop, Option, Some, None, arith, sym, ap, ◌∙◌, refl, subst, if◌then◌else◌, append_assoc, length-append, take-append-drop, lt-ltb, le-ltb}
-use Rattle.std.specs.Prelude.{IsTrue, nat_le, nat_lt}
-use Rattle.std.specs.List.{list_all, flat_map}
-use Rattle.std.proofs.lemmas.Bool.{and_parts, and_from, eqb-true, eqb-false, eq-eqb, ne_eqb, ltb-true, leb-true, le-leb}
-use Rattle.std.proofs.lemmas.List.{length-drop, length-take-le, take_at, drop_at, append-nil, take-append-le, take_all}
+use Rattle.std.proofs.Common.{◌≡◌, ◌<◌, ◌≤◌, ◌+◌, ◌++◌, ◌∷◌, [], ◌&&◌, ℕ, suc, zero, List, true, false, eqb, length, take, drop, Option, Some, None, arith, sym, ap, ◌∙◌, refl, if◌then◌else◌, append_assoc, take-append-drop, lt-ltb}
+use Rattle.std.specs.Prelude.{nat_le, nat_lt}
+use Rattle.std.specs.List.{list_all}
+use Rattle.std.proofs.lemmas.Bool.{and_parts, and_from, ne_eqb, ltb-true, leb-true, le-leb}
+use Rattle.std.proofs.lemmas.List.{length-take-le, take_at, drop_at}
 use Rattle.dill_base.specs.declared.errno.Errno.{Errno}
 use Rattle.dill_base.specs.declared.errno.Front.{Front}
 use Rattle.dill_base.specs.declared.errno.Front.TheVariants.{Whole, Need, Fault}
@@ -86,12 +86,14 @@ first_full laws u line rest e =
     let s : LineSpells (take k.to u) (take k.used u) = laws.spelled u k.from k.to k.used k.front in
     let count : length (take k.to u) ≡ k.to = length-take-le k.to u (omega (arith, lies.ending, lies.there)) in
     let size : length line ≡ k.to = ap length (sym k.line_is) ∙ count in
-    let some : 0 < k.to = positive k.to k.full in
-    (record {
-      some = omega arith;
-      inner = ap (list_all is_inner) (sym k.line_is) ∙ s.inner;
-      short = omega (arith, lies.short);
-    }, sym (take-append-drop k.used u) ∙ ap (λ x. x ++ drop k.used u) s.whole ∙ ap (λ x. (x ++ crlf) ++ drop k.used u) k.line_is ∙ ap (λ x. (line ++ crlf) ++ x) k.rest_is)
+    let some : 0 < k.to = positive k.to k.full in (
+      record {
+        some = omega arith;
+        inner = ap (list_all is_inner) (sym k.line_is) ∙ s.inner;
+        short = omega (arith, lies.short);
+      },
+      sym (take-append-drop k.used u) ∙ ap (λ x. x ++ drop k.used u) s.whole ∙ ap (λ x. (x ++ crlf) ++ drop k.used u) k.line_is ∙ ap (λ x. (line ++ crlf) ++ x) k.rest_is,
+    )
   where
     positive : (n : ℕ) → eqb n 0 ≡ false → 0 < n
     positive zero h = absurd (cc h)
@@ -146,7 +148,6 @@ pub record Ends (u : List ℕ) (a b c : ℕ) : Type 0 where
   pub from : a ≡ 0
   pub to : b ≡ 0
   pub used : c ≡ 2
-
 
 zero_by : (n : ℕ) (p : List ℕ × List ℕ) → (if eqb n 0 then None else Some p) ≡ None → n ≡ 0
 zero_by zero p h = refl

@@ -1,6 +1,5 @@
 -- Frames with their payloads, and what comes later.
-use Rattle.std.proofs.Common.{◌≡◌, ◌<◌, ◌≤◌, ◌+◌, ◌-◌, ◌%◌, ◌^◌, ◌++◌, ◌∷◌, [], ◌⊎◌, ℕ, suc, zero, List, Bool, true, false, leb, length, take, drop, Option, Some, None, arith, sym, ap, ◌∙◌, refl, subst, inl, inr, length-append, append_assoc}
-use Rattle.std.specs.Prelude.{slice_index, bit_xor}
+use Rattle.std.proofs.Common.{◌≡◌, ◌≤◌, ◌+◌, ◌-◌, ◌%◌, ◌++◌, ◌∷◌, [], ℕ, suc, List, Bool, true, leb, length, take, drop, Option, Some, None, arith, sym, ap, ◌∙◌, refl, subst, inl, inr, length-append, append_assoc}
 use lib.Bits.{xor_assoc, xor_self, xor_zero_r}
 use Rattle.std.proofs.lemmas.List.{take_at, drop_at, take-append-le, drop-append-le, length-take-le, length-drop, append-nil}
 use Rattle.std.proofs.Math.Seq.{take-add}
@@ -11,11 +10,11 @@ use Rattle.dill_ws.specs.declared.side.Side.TheVariants.{Client, Server}
 use Rattle.dill_ws.specs.declared.head.Head.{Head}
 use Rattle.dill_ws.specs.declared.head.HeadFront.{HeadFront}
 use Rattle.dill_ws.specs.declared.head.HeadFront.TheVariants.{Whole, Need, Fault}
-use Rattle.dill_ws.specs.Frames.{peer_of, head_bytes, frame_bytes, masked, masked_from, HasKeyOf, may_follow, Frame}
+use Rattle.dill_ws.specs.Frames.{peer_of, head_bytes, masked, masked_from, may_follow, Frame}
 use Rattle.dill_ws.specs.Fronts.{HeadSpells, bits_of, length_size, key_size, key_at, told, is_least, head_at, head_front}
 use Rattle.dill_ws.specs.FrameLaws.{AreBytes, IsSettled, payload_at, ReadsFrame}
 use Rattle.dill_ws.proofs.Lengths.{told_more}
-use Rattle.dill_ws.proofs.Heads.{length_end, is_start, has_least, Reads, front_reads, reads_front, Refuses, front_refuses, refused_early, refused_late, head_again, read_spells, head_of, head_same}
+use Rattle.dill_ws.proofs.Heads.{Reads, front_reads, reads_front, Refuses, front_refuses, refused_early, refused_late, head_again, read_spells, head_of, head_same}
 
 twice_from : (at : ℕ) (key payload : List ℕ) → masked_from at key (masked_from at key payload) ≡ payload
 twice_from at key [] = refl

@@ -1,12 +1,13 @@
 -- The lines of a head up to the empty one (RFC 9112, sections 2.1 and 2.2), with limits on each and on all.
-use Rattle.std.specs.Prelude.{◌≡◌, ◌⊎◌, ◌+◌, ◌-◌, ◌<◌, ◌≤◌, ◌++◌, ◌∷◌, [], ◌&&◌, if◌then◌else◌, IsTrue, ℕ, zero, suc, Bool, true, false, List, length, take, drop, nat_lt, nat_le, ltb, eqb, Option, Some, None}
+use Rattle.std.specs.Prelude.{◌≡◌, ◌⊎◌, ◌+◌, ◌-◌, ◌<◌, ◌≤◌, ◌++◌, ◌∷◌, [], ◌&&◌, if◌then◌else◌, ℕ, zero, suc, Bool, true, false, List, length, take, drop, nat_lt, nat_le, ltb, eqb, Option, Some, None}
 use Rattle.std.specs.List.{list_all, flat_map}
 use Rattle.dill_base.specs.declared.errno.Errno.{Errno}
 use Rattle.dill_base.specs.declared.errno.Errno.TheVariants.{Eproto, Emsgsize}
 use Rattle.dill_base.specs.declared.errno.Front.{Front}
 use Rattle.dill_base.specs.declared.errno.Front.TheVariants.{Whole, Need, Fault}
+use Rattle.dill_base.specs.Reading.{IsFront}
 use Rattle.dill_http.specs.Bytes.{is_inner}
-use Rattle.dill_http.specs.Lines.{line_limit, crlf, front_of_line, LineShows, IsCutLine}
+use Rattle.dill_http.specs.Lines.{line_limit, crlf, front_of_line, LineSpells, LineShows, IsCutLine}
 
 -- The most bytes of a head.
 abbrev pub head_limit : ℕ
@@ -108,6 +109,12 @@ limited count (Fault e) last = Fault e
 -- What stops the lines: the empty one, too little, or a refusal.
 unfoldable pub head_stop : List ℕ → Front
 head_stop u = limited (length u) (front_of_line (behind (take (head_limit - 1) u))) (front_of_line (behind (take head_limit u)))
+
+-- What stands behind the lines, before the last byte that a head may have, is what the spellings of lines say.
+abbrev pub HasLineFront : List ℕ → Type 0
+HasLineFront u =
+    let last = behind (take (head_limit - 1) u) in
+    IsFront LineSpells LineShows line_limit last (front_of_line last)
 
 -- How many bytes the head has that the bytes begin with.
 abbrev pub head_size : List ℕ → ℕ

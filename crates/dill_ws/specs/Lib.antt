@@ -2,6 +2,7 @@ pub mod Closing
 pub mod FrameLaws
 pub mod Frames
 pub mod Fronts
+pub mod HandshakeLaws
 pub mod Handshakes
 pub mod HeadLines
 pub mod Offers

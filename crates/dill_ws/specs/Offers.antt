@@ -1,5 +1,5 @@
 -- What the lines of an opening handshake say (RFC 6455, sections 4.2.1 and 4.2.2), with field names and tokens without case.
-use Rattle.std.specs.Prelude.{◌≡◌, ◌++◌, ◌∷◌, [], ◌&&◌, ◌-◌, not, if◌then◌else◌, IsTrue, ℕ, Bool, true, false, List, length, map, take, drop, codes, bytes_eq, is_some, nat_eq, nat_lt, Option, Some, None, Result, Ok, Err}
+use Rattle.std.specs.Prelude.{◌∷◌, [], ◌&&◌, ◌-◌, not, if◌then◌else◌, ℕ, Bool, false, List, length, map, take, drop, codes, bytes_eq, is_some, nat_eq, nat_lt, Option, Some, None, Result, Ok, Err}
 use Rattle.std.specs.List.{list_all, list_any, filter_map, prefix_len, suffix_len, slice_split, starts_with, ends_with}
 use Rattle.std.specs.Char.{to_ascii_lowercase}
 use Rattle.base64.specs.declared.decode.DecodeError.{DecodeError}
@@ -93,11 +93,9 @@ versions fields = named (codes "Sec-WebSocket-Version") fields
 abbrev pub accepts : List (List ℕ) → List (List ℕ)
 accepts fields = named (codes "Sec-WebSocket-Accept") fields
 
--- What a client's fields say.
+-- What a client's fields say, but for the key.
 abbrev pub is_offer : List (List ℕ) → Bool
-is_offer fields =
-    are_fields fields && has_field (codes "Host") fields && is_upgrade fields
-    && passes is_key (only (keys fields)) && passes (bytes_eq (codes "13")) (only (versions fields))
+is_offer fields = are_fields fields && has_field (codes "Host") fields && is_upgrade fields && passes (bytes_eq (codes "13")) (only (versions fields))
 
 -- What a server's fields say: no extension and no protocol, since none was asked for.
 abbrev pub is_agreement : List ℕ → List (List ℕ) → Bool
@@ -108,7 +106,7 @@ is_agreement accept fields =
 -- What the lines of a client's head say, and of a server's.
 unfoldable pub client_asks : List (List ℕ) → Bool
 client_asks [] = false
-client_asks (first ∷ fields) = is_get first && is_offer fields
+client_asks (first ∷ fields) = is_get first && is_offer fields && passes is_key (only (keys fields))
 
 unfoldable pub server_agrees : List ℕ → List (List ℕ) → Bool
 server_agrees accept [] = false

@@ -1,5 +1,5 @@
 -- Frames worked by hand, those of RFC 6455, section 5.7, among them; the definitions compute them.
-use Rattle.std.specs.Prelude.{◌≡◌, ◌++◌, ◌∷◌, [], codes, replicate, ℕ, Bool, true, false, List, Option, Some, None}
+use Rattle.std.specs.Prelude.{◌≡◌, ◌∷◌, [], codes, ℕ, Bool, true, false, List, Option, Some, None}
 use Rattle.dill_base.specs.declared.errno.Errno.TheVariants.{Eproto}
 use Rattle.dill_ws.specs.declared.side.Side.TheVariants.{Client, Server}
 use Rattle.dill_ws.specs.declared.head.Head.{Head}

@@ -4,7 +4,7 @@ ghost use Rattle.dill_ws.specs.Frames.{frame_bytes, masked_from};
 use crate::mask;
 
 /// A control frame, in its first `length` bytes.
-#[derive(Clone, Copy, Debug)]
+#[derive(Clone, Copy, Debug, PartialEq, Eq)]
 pub struct Control {
     pub bytes: [u8; 131],
     pub length: usize,

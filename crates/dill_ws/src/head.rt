@@ -1,7 +1,7 @@
 use dill_base::Errno;
 
 /// The head of a frame (RFC 6455, section 5.2): its payload has `length` bytes and begins at the place `start`.
-#[derive(Clone, Copy, Debug)]
+#[derive(Clone, Copy, Debug, PartialEq, Eq)]
 pub struct Head {
     pub fin: bool,
     pub opcode: u8,
@@ -11,7 +11,7 @@ pub struct Head {
 }
 
 /// What stands at the front of some bytes: a whole head, too little to judge yet, or a refusal.
-#[derive(Clone, Copy, Debug)]
+#[derive(Clone, Copy, Debug, PartialEq, Eq)]
 pub enum HeadFront {
     Whole(Head),
     Need,

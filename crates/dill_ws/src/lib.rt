@@ -12,10 +12,13 @@ mod head;
 mod laws;
 mod line;
 mod masking;
+mod offer;
 mod reading;
 mod request;
 mod response;
 mod side;
+#[cfg(test)]
+mod tests;
 mod worked;
 
 pub use accept::accept_of;
@@ -24,9 +27,10 @@ pub use control::{Control, control_write};
 pub use frame::frame_write;
 pub use front::frame_front;
 pub use head::{Head, HeadFront};
-pub use laws::frame_laws;
+pub use laws::{frame_laws, handshake_laws};
 pub use masking::mask;
-pub use request::Asked;
-pub use response::server_head;
+pub use offer::{client_head, head_fault};
+pub use request::{Asked, read_client_head};
+pub use response::{read_server_head, server_head};
 pub use side::Side;
 pub use worked::{accept_row, rows};

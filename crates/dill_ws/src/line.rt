@@ -2,7 +2,7 @@ ghost use Rattle.std.specs.Prelude.{◌≡◌, ◌<◌, ◌∷◌, [], length, I
 ghost use Rattle.dill_ws.specs.HeadLines.{next_line, lines_at, behind};
 
 use dill_base::Front;
-use dill_http::{line_front, http_laws};
+use dill_http::{http_laws, line_front};
 
 /// A line of a head, without its CRLF, and what stands behind it.
 #[derive(Clone, Copy, Debug)]

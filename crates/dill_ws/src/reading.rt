@@ -1,11 +1,11 @@
-ghost use Rattle.std.specs.Prelude.{◌≡◌, ◌≤◌, ◌-◌, length, take};
+ghost use Rattle.std.specs.Prelude.{◌≡◌, ◌≤◌, length};
 ghost use Rattle.dill_base.specs.Reading.{IsFront};
 ghost use Rattle.dill_http.specs.Lines.{line_limit, front_of_line, LineSpells, LineShows};
-ghost use Rattle.dill_ws.specs.HeadLines.{behind, lines_at, head_limit, head_size, head_stop, judged_by, at_limit};
+ghost use Rattle.dill_ws.specs.HeadLines.{behind, HasLineFront, head_size, head_stop, at_limit};
 
 use crate::line::behind;
 use dill_base::{Errno, Front};
-use dill_http::line_front;
+use dill_http::{http_laws, line_front};
 
 /// The most bytes of a head.
 pub const HEAD_LIMIT: usize = 16_384;
@@ -14,14 +14,15 @@ pub const HEAD_LIMIT: usize = 16_384;
 #[tactic(auto, unfolding(crate::specs::HeadLines::head_stop))]
 pub fn stop_of_head(bytes: &[u8]) -> Front
     ensures stop { result ≡ head_stop bytes.now }
-    ensures line { IsFront LineSpells LineShows line_limit (behind (take (head_limit - 1) bytes.now)) (front_of_line (behind (take (head_limit - 1) bytes.now))) }
+    ensures line { HasLineFront bytes.now }
 {
     if bytes.len() < HEAD_LIMIT {
         return stop_of(bytes);
     }
     match stop_of(&bytes[..HEAD_LIMIT - 1]) {
+        Front::Whole { from, to, used } => Front::Whole { from, to, used },
         Front::Need => last_stop(&bytes[..HEAD_LIMIT]),
-        stop => stop,
+        Front::Fault(errno) => Front::Fault(errno),
     }
 }
 
@@ -39,14 +40,15 @@ fn last_stop(text: &[u8]) -> Front
 {
     match stop_of(text) {
         Front::Whole { from, to, used } => Front::Whole { from, to, used },
-        _ => Front::Fault(Errno::Emsgsize),
+        Front::Need | Front::Fault(_) => Front::Fault(Errno::Emsgsize),
     }
 }
 
 /// How many bytes the head has, which stops at its empty line.
 pub fn size_of_head(bytes: &[u8]) -> usize
-    requires { front_of_line (behind bytes.now) ≡ Front.Whole 0 0 2 }
+    requires { head_size bytes.now ≤ length bytes.now }
     ensures { result ≡ head_size bytes.now }
 {
-    bytes.len() - behind(bytes).len() + 2
+    http_laws();
+    bytes.len() - (behind(bytes).len() - 2)
 }

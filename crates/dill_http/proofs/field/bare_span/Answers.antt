@@ -1,8 +1,7 @@
-use Rattle.std.proofs.Common.{◌≡◌, ◌≤◌, ◌+◌, ◌-◌, ℕ, List, length, take, drop, arith, refl, sym, ap, ◌∙◌, length-drop}
+use Rattle.std.proofs.Common.{◌≡◌, ◌≤◌, ◌+◌, ◌-◌, ℕ, List, length, take, drop, arith, refl, ap, ◌∙◌, length-drop}
 use Rattle.std.specs.List.{prefix_len, suffix_len}
 use Rattle.std.proofs.lemmas.List.{take_all}
 use Rattle.std.proofs.lemmas.List.Sums.{suffix_len-le-length}
-use Rattle.dill_http.specs.declared.span.Span.{Span}
 use Rattle.dill_http.specs.Bytes.{is_blank}
 use Rattle.dill_http.specs.Reading.{bare_from, span}
 use Rattle.dill_http.proofs.field.bare_span.Goals as goal

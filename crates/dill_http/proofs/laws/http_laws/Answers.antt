@@ -6,6 +6,7 @@ pub returns-clause-lines : goal.returns-clause-lines
 returns-clause-lines c = record {
   again = judged.again;
   refused = judged.refused;
+  least = judged.least;
   stays = judged.stays;
   waits = judged.waits;
   open_ends = judged.open_ends;

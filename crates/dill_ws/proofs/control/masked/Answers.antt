@@ -1,4 +1,4 @@
-use Rattle.std.proofs.Common.{arith, rules}
+use Rattle.std.proofs.Common.{arith}
 use Rattle.dill_ws.proofs.Controls.{masked_control}
 use Rattle.dill_ws.proofs.control.masked.Goals as goal
 

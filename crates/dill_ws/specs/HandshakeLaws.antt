@@ -1,0 +1,36 @@
+-- The laws of handshake heads (RFC 6455, section 4).
+use Rattle.std.specs.Prelude.{◌≡◌, ◌<◌, ◌++◌, [], ℕ, List, length}
+use Rattle.dill_base.specs.declared.errno.Errno.{Errno}
+use Rattle.dill_base.specs.declared.errno.Front.{Front}
+use Rattle.dill_base.specs.declared.errno.Front.TheVariants as front
+use Rattle.dill_ws.specs.declared.request.Asked.{Asked}
+use Rattle.dill_ws.specs.declared.request.Asked.TheVariants.{Whole, Need, Fault}
+use Rattle.dill_ws.specs.HeadLines.{head_limit, HeadShows}
+use Rattle.dill_ws.specs.Offers.{client_asks, server_agrees}
+use Rattle.dill_ws.specs.Handshakes.{ClientHead, ServerHead, client_front, server_front}
+
+-- Not an open front.
+abbrev pub IsAnswered : Asked → Type 0
+IsAnswered (Whole key used) = Unit {0}
+IsAnswered Need = ⊥
+IsAnswered (Fault e) = Unit {0}
+
+abbrev pub IsJudged : Front → Type 0
+IsJudged (front.Whole from to used) = Unit {0}
+IsJudged front.Need = ⊥
+IsJudged (front.Fault e) = Unit {0}
+
+pub record HandshakeLaws : Type 0 where
+  -- each head is read, whatever follows it, and so is each refusal
+  pub client_again : (key w rest : List ℕ) → ClientHead key w → client_front (w ++ rest) ≡ Whole key (length w)
+  pub client_refused : (e : Errno) (w rest : List ℕ) → HeadShows client_asks e w → client_front (w ++ rest) ≡ Fault e
+  pub server_again : (accept w rest : List ℕ) → ServerHead accept w → server_front accept (w ++ rest) ≡ front.Whole 0 (length w) (length w)
+  pub server_refused : (accept : List ℕ) (e : Errno) (w rest : List ℕ) → HeadShows (server_agrees accept) e w → server_front accept (w ++ rest) ≡ front.Fault e
+  -- what was judged stays so when more comes, and what is open is short
+  pub client_stays : (u v : List ℕ) (f : Asked) → client_front u ≡ f → IsAnswered f → client_front (u ++ v) ≡ f
+  pub server_stays : (accept u v : List ℕ) (f : Front) → server_front accept u ≡ f → IsJudged f → server_front accept (u ++ v) ≡ f
+  pub client_waits : (u : List ℕ) → client_front u ≡ Need → length u < head_limit
+  pub server_waits : (accept u : List ℕ) → server_front accept u ≡ front.Need → length u < head_limit
+  -- no head begins another
+  pub client_free : (key other w rest : List ℕ) → ClientHead key w → ClientHead other (w ++ rest) → rest ≡ []
+  pub server_free : (accept other w rest : List ℕ) → ServerHead accept w → ServerHead other (w ++ rest) → rest ≡ []

@@ -1,0 +1,309 @@
+use crate::top::{dillrelay, run_over};
+use dill_base::{MemShelf, MemSink, Octets, Status};
+use dill_kernel::IdleKernel;
+use rand::rngs::StdRng;
+use rand_core::SeedableRng;
+use std::alloc::Global;
+use std::process::Abort;
+use std::test::Fail;
+
+const TWO_PRINTS: &[u8] = b"dill 1\nprogram main 0\nprint \"hello\"\nprint \"bye\"\nend\n";
+
+const BUDGET: u64 = 1_000_000_000;
+
+/// A script under the name `x`, and the calls of the outside that fail: of the shelf, of out, and of err by their numbers
+/// (0: none), and the wait.
+#[derive(Clone, Copy)]
+struct Case<'a> {
+    script: &'a [u8],
+    traced: bool,
+    turns: u64,
+    shelf_fails: u64,
+    out_fails: u64,
+    err_fails: u64,
+    wait_fails: Option<u64>,
+}
+
+/// What a run came to.
+#[derive(Clone, Copy)]
+struct End<'a> {
+    status: Status,
+    shown: &'a str,
+    said: &'a str,
+}
+
+fn plain(script: &[u8]) -> Case<'_> {
+    Case {
+        script,
+        traced: false,
+        turns: BUDGET,
+        shelf_fails: 0,
+        out_fails: 0,
+        err_fails: 0,
+        wait_fails: None,
+    }
+}
+
+fn octets(alloc: Global, bytes: &[u8]) -> Result<Octets, Fail> {
+    Octets::from_slice(alloc, bytes).map_err(|_| Fail::from("memory"))
+}
+
+fn shelf(alloc: Global, script: &[u8], fails: u64) -> Result<MemShelf, Fail> {
+    let mut files = Vec::new(alloc);
+    files.push((octets(alloc, b"x")?, octets(alloc, script)?))?;
+    Ok(MemShelf::new(files, vec![in alloc; fails]?))
+}
+
+fn sink(alloc: Global, fails: u64) -> Result<MemSink, Fail> {
+    MemSink::new(alloc, 100_000, vec![in alloc; fails]?).map_err(|_| Fail::from("memory"))
+}
+
+/// Runs the file of a name, and compares what it came to.
+fn ends(
+    rt: &(impl Abort + AllocGlobal),
+    name: &str,
+    case: Case<'_>,
+    end: End<'_>,
+) -> Result<(), Fail> {
+    let alloc = rt.alloc();
+    let mut shelf = shelf(alloc, case.script, case.shelf_fails)?;
+    let mut out = sink(alloc, case.out_fails)?;
+    let mut err = sink(alloc, case.err_fails)?;
+    let mut kernel = IdleKernel::new(case.wait_fails);
+    let mut keys = StdRng::seed_from_u64(1);
+    let turns = case.turns.min(BUDGET);
+    let status = run_over(
+        alloc,
+        name,
+        case.traced,
+        turns,
+        &mut shelf,
+        &mut out,
+        &mut err,
+        &mut kernel,
+        &mut keys,
+    );
+    assert_eq!(rt; out.bytes(), end.shown.as_bytes());
+    assert_eq!(rt; err.bytes(), end.said.as_bytes());
+    assert_eq!(rt; status, end.status);
+    Ok(())
+}
+
+#[test]
+fn two_prints(rt: HostRuntime) -> Result<(), Fail> {
+    let shown =
+        "hello\nbye\nsummary status=0 errno=none turns=3 rounds=1 closing=0 made=0 gone=0 lacks=0\n";
+    let well = End {
+        status: Status::Well,
+        shown,
+        said: "",
+    };
+    ends(&rt, "x", plain(TWO_PRINTS), well)?;
+    let traced = Case {
+        traced: true,
+        ..plain(TWO_PRINTS)
+    };
+    let lines = "1 start =0\nhello\n1 print =0\nbye\n1 print =0\n1 end ok\n\
+        summary status=0 errno=none turns=3 rounds=1 closing=0 made=0 gone=0 lacks=0\n";
+    ends(
+        &rt,
+        "x",
+        traced,
+        End {
+            shown: lines,
+            ..well
+        },
+    )
+}
+
+#[test]
+fn refused_first_lines(rt: HostRuntime) -> Result<(), Fail> {
+    let cases: [(&[u8], &str); 7] = [
+        (b"", "dillrelay: script line 1: no version\n"),
+        (b"dill 2\n", "dillrelay: script line 1: no version\n"),
+        (b"dill 1\n", "dillrelay: script line 1: no main\n"),
+        (b"dill 1", "dillrelay: script line 1: no main\n"),
+        (
+            b"dill 1\nprogram main 1\nend\n",
+            "dillrelay: script line 2: not built\n",
+        ),
+        (
+            b"dill 1\nprogram main 0\nprint \"a\"\nnow\nend\n",
+            "dillrelay: script line 4: not built\n",
+        ),
+        (
+            b"dill 1\nprogram main 0\nprint \"a\"\n",
+            "dillrelay: script line 3: not built\n",
+        ),
+    ];
+    for (script, said) in cases {
+        let end = End {
+            status: Status::Script,
+            shown: "",
+            said,
+        };
+        ends(&rt, "x", plain(script), end)?;
+    }
+    Ok(())
+}
+
+#[test]
+fn too_large_scripts_are_refused(rt: HostRuntime) -> Result<(), Fail> {
+    let alloc = rt.alloc();
+    let large = vec![in alloc; b'a'; 1_048_577]?;
+    let end = End {
+        status: Status::Script,
+        shown: "",
+        said: "dillrelay: script line 1: too large\n",
+    };
+    ends(&rt, "x", plain(large.as_slice()), end)?;
+    let mut many = Vec::from_slice(alloc, b"dill 1\nprogram main 0\n")?;
+    for _line in 0..4097 {
+        many.extend_from_slice(b"print \"a\"\n")?;
+    }
+    many.extend_from_slice(b"end\n")?;
+    let line = End {
+        said: "dillrelay: script line 4099: too large\n",
+        ..end
+    };
+    ends(&rt, "x", plain(many.as_slice()), line)
+}
+
+#[test]
+fn failed_output_and_shelf(rt: HostRuntime) -> Result<(), Fail> {
+    let row = plain(TWO_PRINTS);
+    let unwritten = End {
+        status: Status::Sink,
+        shown: "hello\n",
+        said: "dillrelay: output not written\n",
+    };
+    ends(
+        &rt,
+        "x",
+        Case {
+            out_fails: 2,
+            ..row
+        },
+        unwritten,
+    )?;
+    let silent = End {
+        shown: "",
+        ..unwritten
+    };
+    ends(
+        &rt,
+        "x",
+        Case {
+            out_fails: 1,
+            ..row
+        },
+        silent,
+    )?;
+    let unsaid = End {
+        said: "",
+        ..unwritten
+    };
+    ends(
+        &rt,
+        "x",
+        Case {
+            out_fails: 2,
+            err_fails: 1,
+            ..row
+        },
+        unsaid,
+    )?;
+    let unread = End {
+        status: Status::Shelf,
+        shown: "",
+        said: "dillrelay: script not read\n",
+    };
+    ends(
+        &rt,
+        "x",
+        Case {
+            shelf_fails: 1,
+            ..row
+        },
+        unread,
+    )?;
+    ends(
+        &rt,
+        "x",
+        Case {
+            shelf_fails: 2,
+            ..row
+        },
+        unread,
+    )?;
+    ends(&rt, "y", row, unread)
+}
+
+#[test]
+fn a_failed_wait_and_a_spent_budget_close_the_program(rt: HostRuntime) -> Result<(), Fail> {
+    let row = plain(TWO_PRINTS);
+    let unwoken = End {
+        status: Status::Wait,
+        shown: "hello\nbye\nsummary status=9 errno=none turns=0 rounds=1 closing=3 made=0 gone=0 lacks=0\n",
+        said: "dillrelay: wait failed\n",
+    };
+    ends(
+        &rt,
+        "x",
+        Case {
+            wait_fails: Some(1),
+            ..row
+        },
+        unwoken,
+    )?;
+    let spent = End {
+        status: Status::Spent,
+        shown: "hello\nbye\nsummary status=7 errno=none turns=1 rounds=1 closing=2 made=0 gone=0 lacks=0\n",
+        said: "",
+    };
+    ends(&rt, "x", Case { turns: 2, ..row }, spent)
+}
+
+/// Gives the words to the program, over a shelf that holds a script under `x`.
+fn says(
+    rt: &(impl Abort + AllocGlobal),
+    words: &[&str],
+    status: Status,
+    said: &str,
+) -> Result<(), Fail> {
+    let alloc = rt.alloc();
+    let mut all = Vec::new(alloc);
+    for word in words {
+        all.push(String::from_str(alloc, word)?)?;
+    }
+    let mut shelf = shelf(alloc, TWO_PRINTS, 0)?;
+    let mut out = sink(alloc, 0)?;
+    let mut err = sink(alloc, 0)?;
+    let mut kernel = IdleKernel::new(None);
+    let mut keys = StdRng::seed_from_u64(1);
+    let end = dillrelay(
+        alloc,
+        all.as_slice(),
+        &mut shelf,
+        &mut out,
+        &mut err,
+        &mut kernel,
+        &mut keys,
+    );
+    assert_eq!(rt; end, status, "{words:?}");
+    assert_eq!(rt; err.bytes(), said.as_bytes(), "{words:?}");
+    assert_eq!(rt; out.bytes().is_empty(), status != Status::Well);
+    Ok(())
+}
+
+#[test]
+fn one_word_names_the_script(rt: HostRuntime) -> Result<(), Fail> {
+    let usage =
+        "usage: dillrelay [--mode run|trace|check|load] [--net real|loop] [--turns N] [--cut N] SCRIPT\n";
+    says(&rt, &["x"], Status::Well, "")?;
+    says(&rt, &["y"], Status::Shelf, "dillrelay: script not read\n")?;
+    says(&rt, &[], Status::Words, usage)?;
+    says(&rt, &["-x"], Status::Words, usage)?;
+    says(&rt, &["-"], Status::Words, usage)?;
+    says(&rt, &["x", "x"], Status::Words, usage)
+}
