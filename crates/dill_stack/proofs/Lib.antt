@@ -1,3 +1,4 @@
+pub mod Fronts
 pub mod Joinings
 pub mod Limits
 pub mod MessageReads

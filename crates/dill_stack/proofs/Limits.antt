@@ -42,7 +42,7 @@ chain side u false true false false k h p q e = cc
 chain side u false true false true true h p q e = cc
 chain side u false true false true false h p q e = record { two = p; all = q; same = cc }
 
-head_shown : (side : Side) (joining : Bool) (u : List ℕ) (h : Head) → head_front side joining u ≡ head.Whole h → HeadShown side u h
+pub head_shown : (side : Side) (joining : Bool) (u : List ℕ) (h : Head) → head_front side joining u ≡ head.Whole h → HeadShown side u h
 unfolding head_front
 head_shown side joining u h e =
     let bits : ℕ = bits_of (slice_index u 1) in

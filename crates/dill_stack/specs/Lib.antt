@@ -5,6 +5,7 @@ pub mod Refusals
 pub mod Sending
 pub mod WsReading
 pub mod Passing
+pub mod Staying
 pub mod Read
 pub mod Dropping
 pub mod Receiving
@@ -22,3 +23,4 @@ pub mod HttpRows
 pub mod WsRows
 pub mod HandshakeRows
 pub mod CutRows
+pub mod PartingRows

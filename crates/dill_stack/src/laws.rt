@@ -1,6 +1,7 @@
 ghost use Rattle.dill_stack.specs.Joining.{GivesJoined};
 ghost use Rattle.dill_stack.specs.Messages.{MessageLaws};
 ghost use Rattle.dill_stack.specs.Passing.{PassesFrames};
+ghost use Rattle.dill_stack.specs.Staying.{FrontStays};
 ghost use Rattle.dill_stack.specs.Spelling.{FramingLaws};
 
 use dill_frames::{prefix_laws, suffix_laws};
@@ -32,6 +33,13 @@ pub fn message_laws()
 /// What a WebSocket layer gives as one message stands at the front as the frames of one message.
 pub fn joining_laws()
     ensures { GivesJoined }
+{
+    frame_laws();
+}
+
+/// What stands at the front for a WebSocket layer stays when more bytes come.
+pub fn front_laws()
+    ensures { FrontStays }
 {
     frame_laws();
 }

@@ -10,8 +10,8 @@ mod want;
 mod worked;
 
 pub use fault::StackFault;
-pub use laws::{framing_laws, joining_laws, message_laws, passing_laws};
+pub use laws::{framing_laws, front_laws, joining_laws, message_laws, passing_laws};
 pub use layer::{Layer, Top};
 pub use parting::Parting;
 pub use want::{ReadOut, Want};
-pub use worked::{cut_rows, handshake_rows, http_rows, rows, ws_rows};
+pub use worked::{cut_rows, handshake_rows, http_rows, parting_rows, rows, ws_rows};

@@ -1,3 +1,4 @@
+ghost use Rattle.dill_stack.specs.PartingRows.{PartingRows};
 ghost use Rattle.dill_stack.specs.Rows.{StackRows};
 ghost use Rattle.dill_stack.specs.HttpRows.{HttpReads, HttpAnswers, HttpPlaces, HttpEnds, HttpDrops};
 ghost use Rattle.dill_stack.specs.WsRows.{WsRows};
@@ -35,4 +36,9 @@ pub fn cut_rows()
     ensures items { CutRows }
     ensures heads { HandshakeCutRows }
     ensures answers { AnswerCutRows }
+{}
+
+/// Detaches worked by hand are what the definitions compute.
+pub fn parting_rows()
+    ensures { PartingRows }
 {}
