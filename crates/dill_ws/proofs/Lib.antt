@@ -1,7 +1,9 @@
 pub mod Agreeing
 pub mod Asking
+pub mod ClientSent
 pub mod Closes
 pub mod Controls
+pub mod Digests
 pub mod HeadLaws
 pub mod HeadReads
 pub mod Heads
@@ -9,6 +11,8 @@ pub mod Items
 pub mod Lengths
 pub mod Offered
 pub mod Openings
+pub mod Sent
+pub mod ServerSent
 pub mod Shown
 pub mod Splits
 pub mod Texts

@@ -12,7 +12,7 @@ in_lines : (g r v ho h u co kn k ve n : List ℕ) → g ++ (r ++ (v ++ (n ++ (ho
     ≡ flat_map (λ line. line ++ n) ((g ++ r ++ v) ∷ (ho ++ h) ∷ u ∷ co ∷ (kn ++ k) ∷ ve ∷ []) ++ n
 in_lines g r v ho h u co kn k ve n = simp (append_assoc, append-nil)
 
-whole_head : (resource host key : List ℕ) → (((((codes "GET " ++ resource) ++ codes " HTTP/1.1\r\nHost: ") ++ host) ++ codes "\r\nUpgrade: websocket\r\nConnection: Upgrade\r\nSec-WebSocket-Key: ") ++ key) ++ codes "\r\nSec-WebSocket-Version: 13\r\n\r\n" ≡ head_of_lines (client_lines resource host key)
+pub whole_head : (resource host key : List ℕ) → (((((codes "GET " ++ resource) ++ codes " HTTP/1.1\r\nHost: ") ++ host) ++ codes "\r\nUpgrade: websocket\r\nConnection: Upgrade\r\nSec-WebSocket-Key: ") ++ key) ++ codes "\r\nSec-WebSocket-Version: 13\r\n\r\n" ≡ head_of_lines (client_lines resource host key)
 whole_head resource host key =
     seven (codes "GET ") resource (codes " HTTP/1.1\r\nHost: ") host (codes "\r\nUpgrade: websocket\r\nConnection: Upgrade\r\nSec-WebSocket-Key: ") key (codes "\r\nSec-WebSocket-Version: 13\r\n\r\n")
     ∙ in_lines (codes "GET ") resource (codes " HTTP/1.1") (codes "Host: ") host (codes "Upgrade: websocket") (codes "Connection: Upgrade") (codes "Sec-WebSocket-Key: ") key (codes "Sec-WebSocket-Version: 13") crlf

@@ -1,5 +1,7 @@
 -- The laws of handshake heads (RFC 6455, section 4).
-use Rattle.std.specs.Prelude.{◌≡◌, ◌<◌, ◌++◌, [], ℕ, List, length}
+use Rattle.std.specs.Prelude.{◌≡◌, ◌<◌, ◌++◌, [], ℕ, List, length, Ok}
+use Rattle.base64.specs.GeneralPurpose.{encode_of}
+use Rattle.base64.specs.Engines.{standard}
 use Rattle.dill_base.specs.declared.errno.Errno.{Errno}
 use Rattle.dill_base.specs.declared.errno.Front.{Front}
 use Rattle.dill_base.specs.declared.errno.Front.TheVariants as front
@@ -7,7 +9,8 @@ use Rattle.dill_ws.specs.declared.request.Asked.{Asked}
 use Rattle.dill_ws.specs.declared.request.Asked.TheVariants.{Whole, Need, Fault}
 use Rattle.dill_ws.specs.HeadLines.{head_limit, HeadShows}
 use Rattle.dill_ws.specs.Offers.{client_asks, server_agrees}
-use Rattle.dill_ws.specs.Handshakes.{ClientHead, ServerHead, client_front, server_front}
+use Rattle.dill_ws.specs.Handshakes.{accept_text, ClientHead, ServerHead, client_front, server_front, server_head_of, client_due}
+use Rattle.dill_ws.specs.FrameLaws.{AreBytes}
 
 -- Not an open front.
 abbrev pub IsAnswered : Asked → Type 0
@@ -21,6 +24,9 @@ IsJudged front.Need = ⊥
 IsJudged (front.Fault e) = Unit {0}
 
 pub record HandshakeLaws : Type 0 where
+  -- what is sent is a head: a client's with the base64 of its key, a server's with the accept value of the client's key
+  pub client_sent : (resource host key w : List ℕ) → length key ≡ 16 → AreBytes key → client_due resource host key ≡ Ok w → ClientHead (encode_of standard key) w
+  pub server_sent : (key : List ℕ) → ServerHead (accept_text key) (server_head_of (accept_text key))
   -- each head is read, whatever follows it, and so is each refusal
   pub client_again : (key w rest : List ℕ) → ClientHead key w → client_front (w ++ rest) ≡ Whole key (length w)
   pub client_refused : (e : Errno) (w rest : List ℕ) → HeadShows client_asks e w → client_front (w ++ rest) ≡ Fault e
