@@ -76,9 +76,9 @@ module _ {V : Type 0} where
   abbrev pub give_number : World V → ℕ → Call → ℕ → World V
   give_number w who call number = reply (move (look_on w call) number who) who (word_of call) (Number (next_number w))
 
-  -- a handshake or a detach that succeeds answers a new number
+  -- A handshake or a detach that succeeds answers a new number. Where the stack's read fails it, what that read passed and queued stays so.
   abbrev pub give_attached : World V → ℕ → Call → Answer → World V
-  give_attached w who call (Fault e) = give_stack_up w who call e (draws_of call)
+  give_attached w who call (Fault e) = give_stack_up (if is_read (Fault e) then look_on w call else w) who call e (draws_of call)
   give_attached w who call answer = if_some (named_by call) w (give_number w who call)
 
   -- `tcp_close` frees the socket, however it is answered

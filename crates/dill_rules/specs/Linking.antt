@@ -12,10 +12,10 @@ use Rattle.dill_http.specs.Heads.{Said, line_of}
 use Rattle.dill_http.specs.Lines.{crlf}
 use Rattle.dill_stack.specs.declared.layer.Layer.{Layer}
 use Rattle.dill_stack.specs.declared.parting.Parting.{Parting}
-use Rattle.dill_stack.specs.Interface.{Held, frame, line, done, attach, expect_greet, greet, parting_fault, detach_start}
+use Rattle.dill_stack.specs.Interface.{Held, frame, line, done, attach, expect_greet, greet, parting_fault, detach_start, drop_unread}
 use Rattle.dill_maps.specs.Maps.{if_some}
 use Rattle.dill_rules.specs.Links as links
-use Rattle.dill_rules.specs.Links.{heated}
+use Rattle.dill_rules.specs.Links.{heated, with_stack}
 use Rattle.dill_rules.specs.World.{World, reply, pend}
 use Rattle.dill_rules.specs.Owning.{take, move, release}
 use Rattle.dill_rules.specs.Taking.{is_cancelled}
@@ -104,10 +104,14 @@ module _ {V : Type 0} where
   abbrev pub begin_giving_up : World V → ℕ → Call → World V
   begin_giving_up w who call = if_some (parting_of call) (pend (heat w call true true) who call) (begin_detach w who call)
 
+  -- `tcp_close` uses all that is unread from its entry on
+  abbrev pub dropped_for : World V → Call → World V
+  dropped_for w call = if_some (parting_of call) (if_some (named_by call) w (λ number. on_named w number (with_stack drop_unread))) (λ parting. w)
+
   -- the caller becomes the owner, and then the stack is given up at once, or the call is pending
   abbrev pub enter_giving_up : World V → ℕ → Call → ℕ → World V
   enter_giving_up w who call kept =
-      let own = if_some (named_by call) w (λ number. take w number who) in
+      let own = dropped_for (if_some (named_by call) w (λ number. take w number who)) call in
       if_some (given_up_at_once own who call) (begin_giving_up own who call) (λ e. give_stack_up own who call e kept)
 
   -- A handshake: the caller becomes the owner, the layer is on the stack from its entry, and both directions are used.

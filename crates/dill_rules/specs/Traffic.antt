@@ -5,6 +5,7 @@ use Rattle.dill_calls.specs.declared.call.Call.{Call}
 use Rattle.dill_calls.specs.declared.ran.LackPlace.{LackPlace}
 use Rattle.dill_calls.specs.CallTable.{word_of, named_by}
 use Rattle.dill_calls.specs.Program.{Program, Move, Calls, Ends}
+use Rattle.dill_kernel.specs.declared.ready.Ready.{Ready}
 use Rattle.dill_kernel.specs.declared.replies.KernelAsk.{KernelAsk}
 use Rattle.dill_kernel.specs.declared.replies.KernelAsk.TheVariants as asks
 use Rattle.dill_kernel.specs.declared.replies.KernelReply.{KernelReply}
@@ -24,7 +25,7 @@ use Rattle.dill_rules.specs.Refusals.{refuse}
 use Rattle.dill_rules.specs.Turning.{move_of, resume, lack_met}
 use Rattle.dill_rules.specs.Trying.{may_need, next_try}
 use Rattle.dill_rules.specs.Hearing.{fitting}
-use Rattle.dill_rules.specs.State.{State, opening_state, next_turn, turned, expired, shut, hear}
+use Rattle.dill_rules.specs.State.{State, opening_state, next_turn, turned, expired, shut, hear, woke}
 
 -- Of a link, from its making on: all that came, all that was sent, the greatest need of the calls that were pending on it, and the greatest limit of these and of its receives that were answered at their entry.
 pub record Traffic : Type 0 where
@@ -117,3 +118,7 @@ module _ {V : Type 0} where
 
   abbrev pub shut_traced : Traced V → Traced V
   shut_traced t = traced (shut t.state) t.traffic
+
+  -- a wait moves nothing
+  abbrev pub woke_traced : ℕ → List Ready → Traced V → Traced V
+  woke_traced told ready t = record t { state = woke t.state told ready }
