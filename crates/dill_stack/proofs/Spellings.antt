@@ -1,5 +1,5 @@
 -- What is composed is the spelling by each layer.
-use Rattle.std.proofs.Common.{◌≡◌, ◌≤◌, [], ◌∷◌, List, ℕ, length, arith, ap, refl, subst, Bool, true, false, not, ◌&&◌, ◌||◌, None, Ok, Err, Result}
+use Rattle.std.proofs.Common.{◌≡◌, ◌∙◌, ◌≤◌, [], ◌∷◌, List, ℕ, length, arith, ap, refl, subst, Bool, true, false, not, ◌&&◌, ◌||◌, None, Ok, Err, Result}
 use Rattle.std.proofs.lemmas.Bool.{false≢true}
 use Rattle.std.proofs.lemmas.Slice.Eq.{bytes_eq-Decides}
 use Rattle.std.proofs.lemmas.Str.{IsUtf8-from_is_utf8}
@@ -7,7 +7,7 @@ use Rattle.std.specs.Prelude.{bytes_eq, Decides, nat_lt, if◌then◌else◌}
 use Rattle.std.specs.Str.{is_utf8}
 use Rattle.rand_core.specs.Stream.{Stream}
 use Rattle.dill_base.specs.declared.errno.Errno.{Errno}
-use Rattle.dill_base.specs.declared.errno.Errno.TheVariants.{Einval}
+use Rattle.dill_base.specs.declared.errno.Errno.TheVariants.{Einval, Emsgsize}
 use Rattle.dill_frames.specs.Prefix.{prefix_due}
 use Rattle.dill_frames.specs.Suffix.{suffix_due}
 use Rattle.dill_frames.specs.Laws.{PrefixLaws, SuffixLaws}
@@ -68,13 +68,28 @@ taken_any key (Http http ∷ below) m s e = cc
 taken_any key (Ws ws ∷ []) m s e = bottom_ws key ws m (ws.text && not (is_utf8 m)) e
 taken_any key (Ws ws ∷ x ∷ below) m s e = cc
 
+left_false : (a b : Bool) → (a || b) ≡ false → a ≡ false
+left_false true b e = cc
+left_false false b e = refl
+
+-- within the limit the layers alone decide
+within_limit : (a b : Bool) (r : Result (List ℕ × Stream) Errno) → a ≡ false → (if a && b then Err Emsgsize else r) ≡ r
+within_limit true b r e = cc
+within_limit false b r e = refl
+
+-- what is composed is within the limit, or is refused by a layer
+by_layers : (a : Bool) (r : Result (List ℕ × Stream) Errno) (x : List ℕ × Stream) → (if a then Err Emsgsize else r) ≡ Ok x → r ≡ Ok x
+by_layers true r x e = cc
+by_layers false r x e = e
+
 pub framing_taken : (s : Held) (m : List ℕ) (words : Stream) → IsStanding s.layers → send_fault m false s ≡ None → (w : List ℕ) × (composed s.layers m words ≡ Ok (w, words_after s.layers words))
 unfolding send_fault composed is_too_long is_refused
 framing_taken s m words i e =
     let none : is_too_long s.layers m ≡ false = long_none (is_invalid s.layers m) false (is_done s) s.sending.broken (is_too_long s.layers m) e in
     let fine : is_refused_with is_any (spelled [] s.layers m) ≡ false = right_false (nat_lt message_limit (length m)) (is_refused_with is_any (spelled [] s.layers m)) none in
+    let short : nat_lt message_limit (length m) ≡ false = left_false (nat_lt message_limit (length m)) (is_refused_with is_any (spelled [] s.layers m)) none in
     let k : Taken (drawn_key words).0 s.layers m = taken_any (drawn_key words).0 s.layers m i fine in
-    (k.0, ap (with_words (words_after s.layers words)) k.1)
+    (k.0, within_limit (nat_lt message_limit (length m)) (not (is_invalid s.layers m)) (with_words (words_after s.layers words) (spelled (drawn_key words).0 s.layers m)) short ∙ ap (with_words (words_after s.layers words)) k.1)
 
 ok_bottom : (key : List ℕ) (r : Result (List ℕ) Errno) (w : List ℕ) → and_then r (spelled key []) ≡ Ok w → r ≡ Ok w
 ok_bottom key (Ok v) w e = e
@@ -128,4 +143,4 @@ ok_words words rest (Err x) w e = cc
 pub framing_spelled : (p : PrefixLaws) (s : SuffixLaws) (layers : List Placed) (m w : List ℕ) (words rest : Stream) → IsStanding layers → IsFormed layers → length m ≤ message_limit → composed layers m words ≡ Ok (w, rest) → SpelledBy layers m w
 unfolding composed
 framing_spelled p s layers m w words rest i f l e =
-    spelled_by p s (drawn_key words).0 layers m w refl i f l (ok_words (words_after layers words) rest (spelled (drawn_key words).0 layers m) w e)
+    spelled_by p s (drawn_key words).0 layers m w refl i f l (ok_words (words_after layers words) rest (spelled (drawn_key words).0 layers m) w (by_layers (nat_lt message_limit (length m) && not (is_invalid layers m)) (with_words (words_after layers words) (spelled (drawn_key words).0 layers m)) (w, rest) e))

@@ -4,7 +4,7 @@ use Rattle.std.specs.List.{list_any}
 use Rattle.std.specs.Int.{w32, to_be_bytes}
 use Rattle.rand_core.specs.Stream.{Stream, next_u32}
 use Rattle.dill_base.specs.declared.errno.Errno.{Errno}
-use Rattle.dill_base.specs.declared.errno.Errno.TheVariants.{Einval, Enotsup}
+use Rattle.dill_base.specs.declared.errno.Errno.TheVariants.{Einval, Emsgsize, Enotsup}
 use Rattle.dill_frames.specs.Prefix.{prefix_due}
 use Rattle.dill_frames.specs.Suffix.{suffix_due}
 use Rattle.dill_ws.specs.declared.side.Side.{Side}
@@ -67,10 +67,6 @@ abbrev pub with_words : Stream → Result (List ℕ) Errno → Result (List ℕ 
 with_words words (Ok w) = Ok (w, words)
 with_words words (Err e) = Err e
 
--- the spelling of a message by all layers, with the random words that are left, or its refusal
-unfoldable pub composed : List Placed → List ℕ → Stream → Result (List ℕ × Stream) Errno
-composed layers m words = with_words (words_after layers words) (spelled (drawn_key words).0 layers m)
-
 -- refused, with an errno that passes the test
 abbrev pub is_refused_with : (Errno → Bool) → {A : Type 0} → Result A Errno → Bool
 is_refused_with test (Ok x) = false
@@ -88,6 +84,10 @@ is_any e = true
 -- a layer refuses the message as such, whatever its length
 unfoldable pub is_invalid : List Placed → List ℕ → Bool
 is_invalid layers m = is_refused_with is_einval (spelled [] layers m)
+
+-- The spelling of a message by all layers, with the random words that are left, or its refusal: that of a layer, and EMSGSIZE for a message over the limit that no layer refuses with EINVAL.
+unfoldable pub composed : List Placed → List ℕ → Stream → Result (List ℕ × Stream) Errno
+composed layers m words = if nat_lt message_limit (length m) && not (is_invalid layers m) then Err Emsgsize else with_words (words_after layers words) (spelled (drawn_key words).0 layers m)
 
 -- some layer refuses the message
 unfoldable pub is_refused : List Placed → List ℕ → Bool
