@@ -199,6 +199,26 @@ takes_memory words.WsAttachNohttp = true
 takes_memory words.WsDetach = true
 takes_memory _ = false
 
+-- the program needs memory to build the call: it has bytes, arguments or clauses
+abbrev pub is_built : Word → Bool
+is_built words.Print = true
+is_built words.Set = true
+is_built words.Join = true
+is_built words.Go = true
+is_built words.BundleGo = true
+is_built words.Chsend = true
+is_built words.Choose = true
+is_built words.Bsend = true
+is_built words.Msend = true
+is_built words.SuffixAttach = true
+is_built words.TermAttach = true
+is_built words.HttpSendrequest = true
+is_built words.HttpSendstatus = true
+is_built words.HttpSendfield = true
+is_built words.WsAttachClient = true
+is_built words.WsDetach = true
+is_built _ = false
+
 -- the handle that a call names first
 abbrev pub named_by : Call → Option ℕ
 named_by (calls.Hquery n1 n2) = Some n1

@@ -5,7 +5,7 @@ use crate::{Answer, Call, Word};
 use dill_base::{Errno, NoMemory};
 
 /// What a program does once it has its answer: it makes a call, was refused memory for the call of this word, or ends,
-/// well or with an errno.
+/// well or with an errno. Only a call with bytes, arguments or clauses takes memory to be built.
 #[derive(Debug, Drop)]
 pub enum Next {
     Call(Call),

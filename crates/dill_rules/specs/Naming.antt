@@ -119,23 +119,3 @@ uses_link words.WsAttachClient = true
 uses_link words.WsAttachServer = true
 uses_link words.WsDetach = true
 uses_link _ = false
-
--- the program needs memory to build the call: it has bytes, arguments or clauses
-abbrev pub is_built : Word → Bool
-is_built words.Print = true
-is_built words.Set = true
-is_built words.Join = true
-is_built words.Go = true
-is_built words.BundleGo = true
-is_built words.Chsend = true
-is_built words.Choose = true
-is_built words.Bsend = true
-is_built words.Msend = true
-is_built words.SuffixAttach = true
-is_built words.TermAttach = true
-is_built words.HttpSendrequest = true
-is_built words.HttpSendstatus = true
-is_built words.HttpSendfield = true
-is_built words.WsAttachClient = true
-is_built words.WsDetach = true
-is_built _ = false

@@ -9,14 +9,13 @@ use Rattle.dill_calls.specs.declared.ran.LackPlace.TheVariants.{Build, Entry}
 use Rattle.dill_calls.specs.declared.ran.Ran.{Ran}
 use Rattle.dill_calls.specs.declared.word.Word.{Word}
 use Rattle.dill_calls.specs.declared.word.Word.TheVariants as words
-use Rattle.dill_calls.specs.CallTable.{word_of}
+use Rattle.dill_calls.specs.CallTable.{word_of, is_built}
 use Rattle.dill_calls.specs.Program.{Program, Move, Calls, Ends}
 use Rattle.dill_maps.specs.Maps.{if_some, change}
 use Rattle.dill_rules.specs.declared.coroutine.Coroutine.{Coroutine}
 use Rattle.dill_rules.specs.declared.coroutine.Mode.{Mode}
 use Rattle.dill_rules.specs.declared.coroutine.Mode.TheVariants as modes
 use Rattle.dill_rules.specs.World.{World, is_coroutine, coroutine_of, reply, begin}
-use Rattle.dill_rules.specs.Naming.{is_built}
 use Rattle.dill_rules.specs.Entering.{entered, enter, may_lack_entry, lack_fault}
 use Rattle.dill_rules.specs.Settling.{end, settle}
 
