@@ -1,15 +1,12 @@
--- The rules as a machine of the story of a run, and worked stories: over a list of replies, with refused memory, and with a write that fails.
+-- Worked stories of the rules: over a list of replies, with refused memory, and with a write that fails.
 use Rattle.std.specs.Prelude.{◌≡◌, ℕ, List, [], ◌∷◌, ◌&&◌, Bool, true, false, Option, Some, None, codes, bytes_eq, flat_map, take}
 use Rattle.dill_calls.specs.declared.ran.LackPlace.TheVariants.{Build, Entry}
-use Rattle.dill_calls.specs.Program.{Program}
-use Rattle.dill_drive.specs.Machine.{Machine}
+use Rattle.dill_drive.specs.ByRules.{machine_of}
 use Rattle.dill_drive.specs.Play.{Playing, Lack, play, opening}
 use Rattle.dill_kernel.specs.declared.replies.KernelReply.{KernelReply}
 use Rattle.dill_kernel.specs.declared.replies.KernelReply.TheVariants.{Came}
 use Rattle.relay_trace.specs.Lines.{line}
-use Rattle.dill_rules.specs.State.{State, opening_state, is_answered, woke, expired, shut, may_lack}
-use Rattle.dill_rules.specs.Waiting.{limit, is_stuck}
-use Rattle.dill_rules.specs.Seen.{turn_seen, ran_seen, ask_seen, hear_seen, notes_seen, waiting_seen, made_seen, gone_seen}
+use Rattle.dill_rules.specs.State.{State, opening_state}
 use Rattle.dill_rows.specs.Play.{Text, Play, playing, first_of}
 use Rattle.dill_rows.specs.Playing.{zeros, idle, connected}
 use Rattle.dill_rows.specs.Runs.{ask_text, text}
@@ -17,27 +14,6 @@ use Rattle.dill_rows.specs.Bundles.{sleeper}
 use Rattle.dill_rows.specs.Closing.{counted}
 use Rattle.dill_rows.specs.Connecting.{receives}
 use Rattle.dill_rows.specs.Lacks.{makes_two}
-
--- the machine whose states are those of the rules
-abbrev pub machine_of : {V : Type 0} → Program V → Machine (State V)
-machine_of p = record {
-  ended = λ s. s.world.ended;
-  answered = is_answered;
-  stuck = is_stuck;
-  limit = limit;
-  woke = woke;
-  next_try = ask_seen;
-  hear = hear_seen;
-  expire = expired;
-  may_lack = may_lack p;
-  ran = ran_seen p;
-  turn = turn_seen p;
-  shut = shut;
-  notes = notes_seen;
-  waiting = waiting_seen;
-  made = made_seen;
-  gone = gone_seen;
-}
 
 -- so many steps of the story of `main`, over these replies, refusals and so many bytes before a write fails
 abbrev pub story : Bool → ℕ → ℕ → (ℕ → List ℕ → Text) → List KernelReply → List Lack → Option ℕ → Playing (State Play)

@@ -1,6 +1,7 @@
-use Rattle.dill_drive.specs.Prints.{prints}
+use Rattle.dill_drive.specs.ByRules.{machine_of}
+use Rattle.dill_drive.specs.Prints.{printing}
 use Rattle.dill_drive.proofs.Ends as ends
 use Rattle.dill_drive.proofs.laws.one_end.Goals as goal
 
 pub returns : goal.returns
-returns c = λ traced most. ends.one_end prints traced most
+returns c = λ traced most. ends.one_end (machine_of printing) traced most
