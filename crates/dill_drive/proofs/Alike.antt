@@ -19,7 +19,8 @@ use Rattle.relay_trace.specs.Lines.{ran_bytes, note_line, waiting_line}
 use Rattle.dill_drive.specs.declared.tally.Tally.{Tally}
 use Rattle.dill_drive.specs.Machine.{Machine}
 use Rattle.dill_drive.specs.Story.{here, no_tally, after_turn, after_last, Place, Round, Asking, Trying, Turns, Due, Stopping, Closing, Last, Closes, Writing, Over, Config, is_sink, is_well, is_empty, showing, notes_of, waiting_lines, moved, stopped, final, summary_of, is_spent, after_test, after_wait, after_try, turned, halted, one_round, one_turn, one_last, lacks_by, before_round, before_turn, at}
-use Rattle.dill_drive.specs.Play.{Lack, Playing, play, advance, advance_at, asks_try, asks_wait, writes, opening, reply_to, replies_after, lack_at, lack_of, lacks_after, halt_within, turn_number}
+use Rattle.dill_kernel.specs.Replay.{reply_to, replies_after}
+use Rattle.dill_drive.specs.Play.{Lack, Playing, play, advance, advance_at, asks_try, asks_wait, writes, opening, lack_at, lack_of, lacks_after, halt_within, turn_number}
 use Rattle.dill_drive.specs.Tells.{Tells, replies_of}
 
 -- Each state of the one stands for some of the other: what is seen of both is the same, and steps keep it so. What is seen only before `main` has ended may differ after.

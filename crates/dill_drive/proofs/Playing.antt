@@ -16,7 +16,8 @@ use Rattle.dill_kernel.specs.declared.replies.KernelReply.TheVariants as told
 use Rattle.dill_kernel.specs.Entry.{Entry, Went, fits}
 use Rattle.dill_drive.specs.Machine.{Machine}
 use Rattle.dill_drive.specs.Story.{here, no_tally, Place, Round, Asking, Trying, Turns, Due, Stopping, Closing, Last, Closes, Writing, Over, Config, after_test, after_wait, after_try, after_turn, after_last, halted}
-use Rattle.dill_drive.specs.Play.{Playing, advance, advance_at, asks_try, asks_wait, writes, play, reply_to, replies_after, is_close, halt_within}
+use Rattle.dill_kernel.specs.Replay.{reply_to, replies_after, is_close}
+use Rattle.dill_drive.specs.Play.{Playing, advance, advance_at, asks_try, asks_wait, writes, play, halt_within}
 use Rattle.dill_drive.specs.Leading.{Event, Passed, Replied, Turned, Wrote, Halted, step, unless_try, by_test, asked, heard, entry_of, by_reply, by_turn, by_write, by_halt, Along, is_proper_part, Leads}
 use Rattle.dill_drive.specs.Tells.{replies_of, ask_of, Tells}
 use Rattle.dill_drive.proofs.Late.{Good, Silent, some_is, tested, step_good, step_silent, halt_silent, never_halts, replied_silent, no_write}

@@ -1,14 +1,12 @@
 -- A run computed from what comes from outside: the kernel's replies, the refusals of memory, and how much was written before a write failed.
-use Rattle.std.specs.Prelude.{◌≡◌, ℕ, zero, suc, ◌+◌, ◌-◌, List, [], ◌∷◌, ◌++◌, length, take, Option, Some, None, Bool, true, false, ◌&&◌, ◌==◌, nat_lt, if◌then◌else◌}
+use Rattle.std.specs.Prelude.{◌≡◌, ℕ, zero, suc, ◌+◌, ◌-◌, List, [], ◌∷◌, ◌++◌, length, take, Option, Some, None, Bool, ◌&&◌, ◌==◌, nat_lt, if◌then◌else◌}
 use Rattle.rand_core.specs.Stream.{Stream}
 use Rattle.dill_base.specs.declared.status.Status.TheVariants.{Well}
 use Rattle.dill_calls.specs.declared.ran.LackPlace.{LackPlace}
 use Rattle.dill_kernel.specs.declared.replies.KernelAsk.{KernelAsk}
-use Rattle.dill_kernel.specs.declared.replies.KernelAsk.TheVariants.{Wait, Close}
+use Rattle.dill_kernel.specs.declared.replies.KernelAsk.TheVariants.{Wait}
 use Rattle.dill_kernel.specs.declared.replies.KernelReply.{KernelReply}
-use Rattle.dill_kernel.specs.declared.replies.KernelReply.TheVariants.{Done, Failed}
-use Rattle.dill_kernel.specs.declared.replies.KernelFault.TheVariants.{Other}
-use Rattle.dill_kernel.specs.Entry.{fits}
+use Rattle.dill_kernel.specs.Replay.{reply_to, replies_after}
 use Rattle.dill_drive.specs.Machine.{Machine}
 use Rattle.dill_drive.specs.Story.{Place, Asking, Trying, Due, Last, Closes, Writing, Over, Round, Config, here, no_tally, after_test, after_wait, after_try, after_turn, after_last, written, halted}
 
@@ -25,26 +23,6 @@ pub record Playing (S : Type 0) : Type 0 where
   -- what was asked of the kernel and what went out so far
   pub asks : List KernelAsk
   pub bytes : List ℕ
-
-abbrev pub is_close : KernelAsk → Bool
-is_close (Close link) = true
-is_close other = false
-
--- a reply that is missing or doesn't fit is a failure
-abbrev pub fitting : KernelAsk → List KernelReply → KernelReply
-fitting ask [] = Failed Other
-fitting ask (reply ∷ replies) = if fits ask reply then reply else Failed Other
-
-abbrev pub rest_of : List KernelReply → List KernelReply
-rest_of [] = []
-rest_of (reply ∷ replies) = replies
-
--- a close takes no reply
-abbrev pub reply_to : KernelAsk → List KernelReply → KernelReply
-reply_to ask replies = if is_close ask then Done else fitting ask replies
-
-abbrev pub replies_after : KernelAsk → List KernelReply → List KernelReply
-replies_after ask replies = if is_close ask then replies else rest_of replies
 
 -- the refusal in the turn of this number, where the next one is meant for it and may come there
 abbrev pub lack_at : (LackPlace → Bool) → ℕ → List Lack → Option LackPlace
