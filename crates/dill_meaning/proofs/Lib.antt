@@ -1,4 +1,5 @@
 pub mod Given
+pub mod Lacks
 pub mod Lawful
 pub mod Lists
 pub mod Table

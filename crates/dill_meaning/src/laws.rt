@@ -1,5 +1,5 @@
 ghost use Rattle.dill_calls.specs.Program.{IsLawful};
-ghost use Rattle.dill_meaning.specs.Laws.{MainBegins, LeftCounts, MakesEachCall};
+ghost use Rattle.dill_meaning.specs.Laws.{MainBegins, LeftCounts, MakesEachCall, LacksAlike};
 ghost use Rattle.dill_meaning.specs.Meaning.{scripts};
 
 /// The programs of scripts keep the law of programs.
@@ -8,4 +8,5 @@ pub fn scripts_are_lawful()
     ensures main { MainBegins }
     ensures left { LeftCounts }
     ensures calls { MakesEachCall }
+    ensures lacks { LacksAlike }
 {}

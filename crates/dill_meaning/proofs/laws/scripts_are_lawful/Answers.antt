@@ -1,4 +1,5 @@
 use Rattle.std.proofs.Common.{refl}
+use Rattle.dill_meaning.proofs.Lacks.{lacks_alike}
 use Rattle.dill_meaning.proofs.Lawful.{scripts_lawful, main_begins, left_counts}
 use Rattle.dill_meaning.proofs.laws.scripts_are_lawful.Goals as goal
 
@@ -13,3 +14,6 @@ returns-clause-left c = left_counts
 
 pub returns-clause-calls : goal.returns-clause-calls
 returns-clause-calls c = refl
+
+pub returns-clause-lacks : goal.returns-clause-lacks
+returns-clause-lacks c = lacks_alike
