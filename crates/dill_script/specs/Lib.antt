@@ -6,6 +6,7 @@ pub mod Numbers
 pub mod Operands
 pub mod Printing
 pub mod Reading
+pub mod Reasons
 pub mod Refusals
 pub mod RowsReading
 pub mod RowsRefused
