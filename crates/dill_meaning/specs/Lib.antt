@@ -1,6 +1,7 @@
 pub mod Calls
 pub mod Effects
 pub mod Laws
+pub mod Making
 pub mod Meaning
 pub mod RowsRuns
 pub mod RowsTraces

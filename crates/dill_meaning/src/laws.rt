@@ -1,5 +1,6 @@
 ghost use Rattle.dill_calls.specs.Program.{IsLawful};
 ghost use Rattle.dill_meaning.specs.Laws.{MainBegins, LeftCounts, MakesEachCall, LacksAlike};
+ghost use Rattle.dill_meaning.specs.Making.{EachFormMakes, CallsAreTold};
 ghost use Rattle.dill_meaning.specs.Meaning.{scripts};
 
 /// The programs of scripts keep the law of programs.
@@ -9,4 +10,6 @@ pub fn scripts_are_lawful()
     ensures left { LeftCounts }
     ensures calls { MakesEachCall }
     ensures lacks { LacksAlike }
+    ensures forms { EachFormMakes }
+    ensures told { CallsAreTold }
 {}

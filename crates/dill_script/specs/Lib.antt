@@ -1,5 +1,6 @@
 pub mod Blocks
 pub mod Contexts
+pub mod Fitting
 pub mod Headings
 pub mod Lines
 pub mod Numbers
