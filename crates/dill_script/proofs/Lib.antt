@@ -1,11 +1,14 @@
 pub mod Addresses
 pub mod Canonical
+pub mod Formed
+pub mod FormedLines
 pub mod HeadWords
 pub mod Judging
 pub mod LineWords
 pub mod Linking
 pub mod OperandWords
 pub mod Printed
+pub mod Saying
 pub mod Scanned
 pub mod Somes
 pub mod Spellings

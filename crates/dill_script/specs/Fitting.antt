@@ -14,6 +14,7 @@ use Rattle.dill_script.specs.declared.form.Rest.TheVariants as rests
 use Rattle.dill_script.specs.declared.operand.Dest.{Dest}
 use Rattle.dill_script.specs.declared.operand.Dest.TheVariants as dests
 use Rattle.dill_script.specs.declared.operand.Num.TheVariants as nums
+use Rattle.dill_script.specs.declared.script.Program.{Program}
 use Rattle.dill_script.specs.declared.statement.Statement.{Statement}
 use Rattle.dill_script.specs.declared.statement.Statement.TheVariants as statements
 use Rattle.dill_script.specs.Table.{kinds_of, rest_kind}
@@ -81,3 +82,7 @@ may_hold word (Some dest) = is_dest (form_of word) dest
 abbrev pub is_formed : Statement → Bool
 is_formed (statements.Call tried dest form) = is_form form && may_hold form.word dest
 is_formed _ = true
+
+-- each statement of each program passes this test
+abbrev pub all_say : (Statement → Bool) → List Program → Bool
+all_say test script = list_all (λ program. list_all test program.statements) script

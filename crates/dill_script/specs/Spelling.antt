@@ -4,6 +4,7 @@ use Rattle.std.specs.List.{list_all, list_any}
 use Rattle.dill_calls.specs.declared.word.Word.{Word}
 use Rattle.dill_script.specs.declared.script.Program.{Program}
 use Rattle.dill_script.specs.Contexts.{places}
+use Rattle.dill_script.specs.Fitting.{is_formed, all_say}
 use Rattle.dill_script.specs.Refusals.{has_name}
 use Rattle.dill_script.specs.Lines.{lines_of, is_line_byte, has_tokens}
 use Rattle.dill_script.specs.Printing.{script_lines, canonical}
@@ -53,3 +54,7 @@ pub record IsWithin (script : List Program) : Type 0 where
 -- what is read is within the limits
 abbrev pub ReadsWithin : Type 0
 ReadsWithin = (built : Word → Bool) (text : List ℕ) (script : List Program) → script_with built text ≡ Ok script → IsWithin script
+
+-- the calls of what is read have operands and registers as their words ask for them
+abbrev pub ReadsFormed : Type 0
+ReadsFormed = (built : Word → Bool) (text : List ℕ) (script : List Program) → script_with built text ≡ Ok script → all_say is_formed script ≡ true

@@ -1,4 +1,4 @@
-ghost use Rattle.dill_script.specs.Spelling.{ReadsSpelling, ReadsEachSpelling, CanonicalSpells, ReadsBack, ReadsWithin};
+ghost use Rattle.dill_script.specs.Spelling.{ReadsSpelling, ReadsEachSpelling, CanonicalSpells, ReadsBack, ReadsWithin, ReadsFormed};
 
 /// What reading and printing promise each other: a script is spelled by the text that it was read from and by its
 /// canonical text, and is read from each text that spells it, up to the limit on its bytes.
@@ -8,4 +8,5 @@ pub fn script_laws()
     ensures canonical { CanonicalSpells }
     ensures again { ReadsBack }
     ensures within { ReadsWithin }
+    ensures formed { ReadsFormed }
 {}

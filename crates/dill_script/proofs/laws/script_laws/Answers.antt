@@ -1,4 +1,5 @@
 use Rattle.dill_script.proofs.Canonical.{canonical_spells, reads_back}
+use Rattle.dill_script.proofs.FormedLines.{reads_formed}
 use Rattle.dill_script.proofs.Spellings.{reads_spelling, reads_each}
 use Rattle.dill_script.proofs.Within.{reads_within}
 use Rattle.dill_script.proofs.laws.script_laws.Goals as goal
@@ -17,3 +18,6 @@ returns-clause-again c = reads_back
 
 pub returns-clause-within : goal.returns-clause-within
 returns-clause-within c = reads_within
+
+pub returns-clause-formed : goal.returns-clause-formed
+returns-clause-formed c = reads_formed
