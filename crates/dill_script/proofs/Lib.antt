@@ -6,6 +6,7 @@ pub mod HeadWords
 pub mod Judging
 pub mod LineWords
 pub mod Linking
+pub mod Named
 pub mod OperandWords
 pub mod Printed
 pub mod Saying
@@ -13,6 +14,7 @@ pub mod Scanned
 pub mod Somes
 pub mod Spellings
 pub mod Spoken
+pub mod Starting
 pub mod Tokenwise
 pub mod Within
 pub mod Words

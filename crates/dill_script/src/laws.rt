@@ -1,4 +1,4 @@
-ghost use Rattle.dill_script.specs.Spelling.{ReadsSpelling, ReadsEachSpelling, CanonicalSpells, ReadsBack, ReadsWithin, ReadsFormed};
+ghost use Rattle.dill_script.specs.Spelling.{ReadsSpelling, ReadsEachSpelling, CanonicalSpells, ReadsBack, ReadsWithin, ReadsFormed, ReadsApart, ReadsStarts};
 
 /// What reading and printing promise each other: a script is spelled by the text that it was read from and by its
 /// canonical text, and is read from each text that spells it, up to the limit on its bytes.
@@ -9,4 +9,6 @@ pub fn script_laws()
     ensures again { ReadsBack }
     ensures within { ReadsWithin }
     ensures formed { ReadsFormed }
+    ensures apart { ReadsApart }
+    ensures starts { ReadsStarts }
 {}

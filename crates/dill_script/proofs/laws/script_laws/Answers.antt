@@ -1,6 +1,8 @@
 use Rattle.dill_script.proofs.Canonical.{canonical_spells, reads_back}
 use Rattle.dill_script.proofs.FormedLines.{reads_formed}
+use Rattle.dill_script.proofs.Named.{reads_apart}
 use Rattle.dill_script.proofs.Spellings.{reads_spelling, reads_each}
+use Rattle.dill_script.proofs.Starting.{reads_starts}
 use Rattle.dill_script.proofs.Within.{reads_within}
 use Rattle.dill_script.proofs.laws.script_laws.Goals as goal
 
@@ -21,3 +23,9 @@ returns-clause-within c = reads_within
 
 pub returns-clause-formed : goal.returns-clause-formed
 returns-clause-formed c = reads_formed
+
+pub returns-clause-apart : goal.returns-clause-apart
+returns-clause-apart c = reads_apart
+
+pub returns-clause-starts : goal.returns-clause-starts
+returns-clause-starts c = reads_starts
