@@ -3,6 +3,8 @@ pub mod Lacks
 pub mod Lawful
 pub mod Lists
 pub mod Making
+pub mod Reached
+pub mod Started
 pub mod Table
 pub mod Told
 pub mod Walking

@@ -1,14 +1,15 @@
 -- A form whose operands fit its word makes the call of that word with all of them.
-use Rattle.std.proofs.Common.{◌≡◌, List, [], ◌∷◌, map, filter_map, Bool, true, false, ◌&&◌, refl, ap}
+use Rattle.std.proofs.Common.{◌≡◌, List, [], ◌∷◌, map, filter_map, flat_map, Bool, true, false, ◌&&◌, refl, ap}
 use Rattle.std.specs.List.{list_all}
 use Rattle.dill_calls.specs.declared.word.Word.{Word}
 use Rattle.dill_calls.specs.declared.word.Word.TheVariants as words
 use Rattle.dill_script.specs.declared.form.Operand.{Operand}
 use Rattle.dill_script.specs.declared.form.Operand.TheVariants as operands
 use Rattle.dill_script.specs.declared.form.Rest.TheVariants as rests
-use Rattle.dill_script.specs.Fitting.{is_rest, is_form}
-use Rattle.dill_meaning.specs.Calls.{arg_of, clause_of, call_of}
-use Rattle.dill_meaning.specs.Making.{arg_value, clause_value, MakesItsOwn, EachFormMakes}
+use Rattle.dill_script.specs.declared.operand.Num.TheVariants as nums
+use Rattle.dill_script.specs.Fitting.{is_rest, is_many, is_form}
+use Rattle.dill_meaning.specs.Calls.{item_text, arg_of, clause_of, call_of}
+use Rattle.dill_meaning.specs.Making.{Joins, arg_value, clause_value, MakesItsOwn, EachFormMakes}
 use Rattle.dill_meaning.specs.Values.{Value, Number, Until, Program, num_value, deadline_value, value_of, values_of}
 use Rattle.dill_meaning.specs.Views.{ScriptView, number_of_name}
 
@@ -18,6 +19,16 @@ all_of false e = cc
 
 behind : (value : Value) (xs ys : List Value) → xs ≡ ys → value ∷ xs ≡ value ∷ ys
 behind value xs ys e = cc
+
+first_of : (a b : Bool) → (a && b) ≡ true → a ≡ true
+first_of true b e = refl
+first_of false b e = cc
+
+items_made : (view : ScriptView) (list : List Operand) → list_all (is_rest rests.Items) list ≡ true → Joins (values_of view list) (flat_map item_text (values_of view list))
+items_made view [] e = refl
+items_made view (operands.Bytes value ∷ list) e = (flat_map item_text (values_of view list), refl, items_made view list e)
+items_made view (operands.Num (nums.Register place) ∷ list) e = (flat_map item_text (values_of view list), refl, items_made view list e)
+items_made view _ e = cc
 
 args_made : (view : ScriptView) (list : List Operand) → list_all (is_rest rests.Args) list ≡ true → map arg_value (filter_map arg_of (values_of view list)) ≡ values_of view list
 args_made view [] e = refl
@@ -32,7 +43,7 @@ clauses_made view (operands.Recv end size ∷ list) e = ap (λ x. value_of view 
 clauses_made view _ e = cc
 
 form_makes : (view : ScriptView) (word : Word) (list : List Operand) → is_form (record { word = word; operands = list }) ≡ true → MakesItsOwn view (record { word = word; operands = list }) (call_of word (values_of view list))
-form_makes view words.Print list fits = record { word = refl; operands = refl }
+form_makes view words.Print list fits = record { word = refl; operands = items_made view list (first_of (list_all (is_rest rests.Items) list) (is_many rests.Items list) fits) }
 form_makes view words.Now [] fits = record { word = refl; operands = refl }
 form_makes view words.Yield [] fits = record { word = refl; operands = refl }
 form_makes view words.Msleep (operands.Wait a ∷ []) fits = record { word = refl; operands = refl }

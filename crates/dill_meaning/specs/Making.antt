@@ -1,5 +1,5 @@
 -- That a call has the word of its form and all of the form's operands, in their order.
-use Rattle.std.specs.Prelude.{◌≡◌, List, [], ◌∷◌, flat_map, map, Bool, true, false, Option, Some, None}
+use Rattle.std.specs.Prelude.{◌≡◌, ℕ, List, [], ◌∷◌, ◌++◌, map, decimal, Bool, true, false, Option, Some, None}
 use Rattle.dill_calls.specs.CallTable.{word_of}
 use Rattle.dill_calls.specs.declared.call.Call.{Call}
 use Rattle.dill_calls.specs.declared.call.Call.TheVariants as calls
@@ -9,7 +9,7 @@ use Rattle.dill_calls.specs.declared.lists.Clause.{Clause}
 use Rattle.dill_calls.specs.declared.lists.Clause.TheVariants.{Send, Recv}
 use Rattle.dill_script.specs.declared.form.Form.{Form}
 use Rattle.dill_script.specs.Fitting.{is_form}
-use Rattle.dill_meaning.specs.Calls.{item_text, call_of}
+use Rattle.dill_meaning.specs.Calls.{call_of}
 use Rattle.dill_meaning.specs.Values.{Value, Number, Octets, Until, Where, First, Program, Gift, Sends, Recvs, values_of}
 use Rattle.dill_meaning.specs.Views.{ScriptView}
 
@@ -73,9 +73,16 @@ values_in (calls.WsAttachNohttp h client text) = Number h ∷ First client ∷ F
 values_in (calls.WsDetach h code reason wait) = Number h ∷ Number code ∷ Octets reason ∷ Until wait ∷ []
 values_in (calls.Pass word fault) = []
 
--- a call with these operands; `print` has the text of its items, one after the other
+-- the text of items, one after the other: bytes as they are, and numbers in decimal
+abbrev pub Joins : List Value → List ℕ → Type 0
+Joins [] text = text ≡ []
+Joins (Number value ∷ rest) text = (more : List ℕ) × (text ≡ decimal value ++ more) × Joins rest more
+Joins (Octets value ∷ rest) text = (more : List ℕ) × (text ≡ value ++ more) × Joins rest more
+Joins _ text = ⊥
+
+-- a call with these operands; `print` has the text of its items
 abbrev pub Has : Call → List Value → Type 0
-Has (calls.Print text) values = text ≡ flat_map item_text values
+Has (calls.Print text) values = Joins values text
 Has call values = values_in call ≡ values
 
 -- the call of a form, with what its registers held

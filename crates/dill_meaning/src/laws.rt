@@ -2,6 +2,9 @@ ghost use Rattle.dill_calls.specs.Program.{IsLawful};
 ghost use Rattle.dill_meaning.specs.Laws.{MainBegins, LeftCounts, MakesEachCall, LacksAlike};
 ghost use Rattle.dill_meaning.specs.Making.{EachFormMakes, CallsAreTold};
 ghost use Rattle.dill_meaning.specs.Meaning.{scripts};
+ghost use Rattle.dill_meaning.specs.Reaching.{EachStatementMakes, EachTurnMakes};
+
+use dill_script::script_laws;
 
 /// The programs of scripts keep the law of programs.
 pub fn scripts_are_lawful()
@@ -13,3 +16,11 @@ pub fn scripts_are_lawful()
     ensures forms { EachFormMakes }
     ensures told { CallsAreTold }
 {}
+
+/// A script that was read makes each of its calls, with all operands and with programs that are there.
+pub fn scripts_make_their_calls()
+    ensures statements { EachStatementMakes }
+    ensures turns { EachTurnMakes }
+{
+    script_laws();
+}
