@@ -29,7 +29,7 @@ and_parts true b e = (refl, e)
 and_parts false b e = cc
 
 -- what stands at the first place that passes is what is found
-looked_up : {X : Type 0} (p : X → Bool) (xs : List X) (b : Bool) → nat_lt (position_or_len p xs) (length xs) ≡ b → slice_get xs (unwrap_or (position p xs) (length xs)) ≡ find p xs
+pub looked_up : {X : Type 0} (p : X → Bool) (xs : List X) (b : Bool) → nat_lt (position_or_len p xs) (length xs) ≡ b → slice_get xs (unwrap_or (position p xs) (length xs)) ≡ find p xs
 looked_up p xs true e = ap (λ b. slice_get xs (unwrap_or (cond b (Some (position_or_len p xs)) None) (length xs))) e ∙ sym (find_at p xs)
 looked_up p xs false e = ap (λ b. slice_get xs (unwrap_or (cond b (Some (position_or_len p xs)) None) (length xs))) e ∙ slice_get_past xs (length xs) (omega arith) ∙ sym (slice_get_past xs (position_or_len p xs) (ltb-false (position_or_len p xs) (length xs) e)) ∙ sym (find_at p xs)
 

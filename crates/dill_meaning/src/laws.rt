@@ -2,7 +2,7 @@ ghost use Rattle.dill_calls.specs.Program.{IsLawful};
 ghost use Rattle.dill_meaning.specs.Laws.{MainBegins, LeftCounts, MakesEachCall, LacksAlike};
 ghost use Rattle.dill_meaning.specs.Making.{EachFormMakes, CallsAreTold};
 ghost use Rattle.dill_meaning.specs.Meaning.{scripts};
-ghost use Rattle.dill_meaning.specs.Reaching.{EachStatementMakes, EachTurnMakes};
+ghost use Rattle.dill_meaning.specs.Reaching.{EachStatementMakes, EachTurnMakes, MainIsThere};
 
 use dill_script::script_laws;
 
@@ -17,10 +17,12 @@ pub fn scripts_are_lawful()
     ensures told { CallsAreTold }
 {}
 
-/// A script that was read makes each of its calls, with all operands and with programs that are there.
+/// A script that was read begins at its program `main`, and makes each of its calls with all operands and with programs
+/// that are there.
 pub fn scripts_make_their_calls()
     ensures statements { EachStatementMakes }
     ensures turns { EachTurnMakes }
+    ensures main { MainIsThere }
 {
     script_laws();
 }

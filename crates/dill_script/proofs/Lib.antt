@@ -6,6 +6,7 @@ pub mod HeadWords
 pub mod Judging
 pub mod LineWords
 pub mod Linking
+pub mod Mains
 pub mod Named
 pub mod OperandWords
 pub mod Printed

@@ -32,7 +32,8 @@ line_says test list = says_well test (line_of (heading_of list))
 and_true : (a b : Bool) → a ≡ true → b ≡ true → (a && b) ≡ true
 and_true a b e f = rw e f
 
-all_push : {X : Type 0} (test : X → Bool) (xs : List X) (x : X) → list_all test xs ≡ true → test x ≡ true → list_all test (xs ++ x ∷ []) ≡ true
+-- one more that passes
+pub all_push : {X : Type 0} (test : X → Bool) (xs : List X) (x : X) → list_all test xs ≡ true → test x ≡ true → list_all test (xs ++ x ∷ []) ≡ true
 all_push test [] x e f = and_true (test x) true f refl
 all_push test (first ∷ rest) x e f =
     let p = and_parts (test first) (list_all test rest) e in

@@ -10,7 +10,7 @@ use Rattle.dill_script.specs.Lines.{lines_of, is_line_byte, has_tokens}
 use Rattle.dill_script.specs.Printing.{script_lines, canonical}
 use Rattle.dill_script.specs.declared.statement.Statement.{Statement}
 use Rattle.dill_script.specs.Reading.{started_by, takes, script_with}
-use Rattle.dill_script.specs.Statements.{Says}
+use Rattle.dill_script.specs.Statements.{Says, params_fit}
 use Rattle.dill_script.specs.Tokens.{Token, tokens}
 
 -- the tokens of a line, where it is well formed
@@ -82,3 +82,11 @@ starts_there script statement = is_there script (started_by (Says statement))
 -- so it is with each statement of what is read
 abbrev pub ReadsStarts : Type 0
 ReadsStarts = (built : Word → Bool) (text : List ℕ) (script : List Program) → script_with built text ≡ Ok script → all_say (starts_there script) script ≡ true
+
+-- a program takes so many arguments as its name allows: `main` takes none
+abbrev pub takes_its : Program → Bool
+takes_its program = params_fit program.name program.params
+
+-- so it is with the programs of what is read
+abbrev pub ReadsMains : Type 0
+ReadsMains = (built : Word → Bool) (text : List ℕ) (script : List Program) → script_with built text ≡ Ok script → list_all takes_its script ≡ true

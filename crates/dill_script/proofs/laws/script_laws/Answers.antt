@@ -1,5 +1,6 @@
 use Rattle.dill_script.proofs.Canonical.{canonical_spells, reads_back}
 use Rattle.dill_script.proofs.FormedLines.{reads_formed}
+use Rattle.dill_script.proofs.Mains.{reads_mains}
 use Rattle.dill_script.proofs.Named.{reads_apart}
 use Rattle.dill_script.proofs.Spellings.{reads_spelling, reads_each}
 use Rattle.dill_script.proofs.Starting.{reads_starts}
@@ -29,3 +30,6 @@ returns-clause-apart c = reads_apart
 
 pub returns-clause-starts : goal.returns-clause-starts
 returns-clause-starts c = reads_starts
+
+pub returns-clause-mains : goal.returns-clause-mains
+returns-clause-mains c = reads_mains
