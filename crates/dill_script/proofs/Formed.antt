@@ -1,5 +1,5 @@
 -- The call of a line has operands and registers as its word asks for them.
-use Rattle.std.proofs.Common.{◌≡◌, ℕ, List, [], ◌∷◌, length, Bool, true, ◌&&◌, nat_le, if◌then◌else◌, Option, Some, None, IfSome, option_map, refl, arith, codes}
+use Rattle.std.proofs.Common.{◌≡◌, ℕ, List, [], ◌∷◌, length, Bool, true, false, ◌&&◌, nat_le, if◌then◌else◌, Option, Some, None, IfSome, option_map, refl, arith, codes}
 use Rattle.std.specs.List.{list_all}
 use Rattle.dill_calls.specs.CallTable.{Form, OneNumber, TwoNumbers, OneBytes, TwoBytes, CodeAndBytes, Choice, form_of}
 use Rattle.dill_calls.specs.declared.word.Word.{Word}
@@ -12,7 +12,7 @@ use Rattle.dill_script.specs.declared.form.Operand.TheVariants as operands
 use Rattle.dill_script.specs.declared.line.Register.{Register}
 use Rattle.dill_script.specs.declared.line.Register.TheVariants as registers
 use Rattle.dill_script.specs.declared.operand.Num.TheVariants as nums
-use Rattle.dill_script.specs.Fitting.{is_kind, is_rest, is_many, are_kinds, is_dest, may_hold}
+use Rattle.dill_script.specs.Fitting.{is_kind, is_rest, is_many, are_kinds, is_register, is_dest, may_hold}
 use Rattle.dill_script.specs.Numbers.{each, joined}
 use Rattle.dill_script.specs.Operands.{operand_of, item_of, items_of, send_of, recv_of, args_of, clauses_of, rest_of, operands_of, dest_of, num_of, bytes_of, number_register}
 use Rattle.dill_script.specs.Statements.{dest_at}
@@ -115,15 +115,28 @@ operands_fit (kind ∷ more) rest [] = tt
 operands_fit (kind ∷ more) rest (token ∷ tokens) = if_joined (λ operand. is_kind kind operand ≡ true) (λ found. are_kinds more rest found ≡ true) (λ found. are_kinds (kind ∷ more) rest found ≡ true) (operand_of kind token) (operands_of more rest tokens)
     (λ operand found e f. and_true (is_kind kind operand) (are_kinds more rest found) e f) (kind_fits kind token) (operands_fit more rest tokens)
 
-dest_fits : (form : Form) (list : List Register) → IfSome (dest_of form list) (λ dest. is_dest form dest ≡ true)
-dest_fits OneNumber (registers.Number first ∷ []) = refl
-dest_fits TwoNumbers (registers.Number first ∷ registers.Number second ∷ []) = refl
-dest_fits OneBytes (registers.Bytes first ∷ []) = refl
-dest_fits TwoBytes (registers.Bytes first ∷ registers.Bytes second ∷ []) = refl
-dest_fits CodeAndBytes (registers.Number first ∷ registers.Bytes second ∷ []) = refl
-dest_fits Choice (registers.Number first ∷ registers.Bytes second ∷ []) = refl
-dest_fits _ _ = tt
+-- a register that there is
+abbrev pub is_small : Register → Bool
+is_small (registers.Number place) = is_register place
+is_small (registers.Bytes place) = is_register place
 
-pub dest_at_fits : (word : Word) (targets : List Register) → IfSome (dest_at word targets) (λ dest. may_hold word dest ≡ true)
-dest_at_fits word [] = refl
-dest_at_fits word (register ∷ targets) = if_map (λ dest. may_hold word dest ≡ true) (λ dest. Some dest) (dest_of (form_of word) (register ∷ targets)) (dest_fits (form_of word) (register ∷ targets))
+one_small : (a : Bool) → (a && true) ≡ true → a ≡ true
+one_small true e = refl
+one_small false e = cc
+
+two_small : (a b : Bool) → (a && (b && true)) ≡ true → (a && b) ≡ true
+two_small true b e = one_small b e
+two_small false b e = cc
+
+dest_fits : (form : Form) (list : List Register) → list_all is_small list ≡ true → IfSome (dest_of form list) (λ dest. is_dest form dest ≡ true)
+dest_fits OneNumber (registers.Number first ∷ []) e = one_small (is_register first) e
+dest_fits TwoNumbers (registers.Number first ∷ registers.Number second ∷ []) e = two_small (is_register first) (is_register second) e
+dest_fits OneBytes (registers.Bytes first ∷ []) e = one_small (is_register first) e
+dest_fits TwoBytes (registers.Bytes first ∷ registers.Bytes second ∷ []) e = two_small (is_register first) (is_register second) e
+dest_fits CodeAndBytes (registers.Number first ∷ registers.Bytes second ∷ []) e = two_small (is_register first) (is_register second) e
+dest_fits Choice (registers.Number first ∷ registers.Bytes second ∷ []) e = two_small (is_register first) (is_register second) e
+dest_fits _ _ e = tt
+
+pub dest_at_fits : (word : Word) (targets : List Register) → list_all is_small targets ≡ true → IfSome (dest_at word targets) (λ dest. may_hold word dest ≡ true)
+dest_at_fits word [] e = refl
+dest_at_fits word (register ∷ targets) e = if_map (λ dest. may_hold word dest ≡ true) (λ dest. Some dest) (dest_of (form_of word) (register ∷ targets)) (dest_fits (form_of word) (register ∷ targets) e)

@@ -1,5 +1,5 @@
 -- Each statement of what is read has the form that its word asks for.
-use Rattle.std.proofs.Common.{◌≡◌, List, [], ◌∷◌, Bool, true, false, ◌&&◌, cond, if◌then◌else◌, find, Option, Some, None, IfSome, option_map, option_and_then, bytes_eq, refl, codes}
+use Rattle.std.proofs.Common.{◌≡◌, ℕ, ◌==◌, nat_le, List, [], ◌∷◌, Bool, true, false, ◌&&◌, cond, if◌then◌else◌, find, Option, Some, None, IfSome, option_map, option_and_then, bytes_eq, refl, codes}
 use Rattle.std.specs.List.{list_all}
 use Rattle.dill_calls.specs.declared.word.Word.{Word}
 use Rattle.dill_script.specs.declared.line.Keyword.{Keyword}
@@ -8,19 +8,19 @@ use Rattle.dill_script.specs.declared.line.Register.{Register}
 use Rattle.dill_script.specs.declared.line.Register.TheVariants as registers
 use Rattle.dill_script.specs.declared.statement.Statement.{Statement}
 use Rattle.dill_script.specs.declared.statement.Statement.TheVariants as statements
-use Rattle.dill_script.specs.Fitting.{is_call_word, are_kinds, may_hold, is_formed}
-use Rattle.dill_script.specs.Headings.{Heading, keyword_text, all_keywords, keyword_of, up_to_equals, with_word, with_targets, heading_of}
+use Rattle.dill_script.specs.Fitting.{is_call_word, is_register, are_kinds, may_hold, is_formed}
+use Rattle.dill_script.specs.Headings.{Heading, keyword_text, all_keywords, keyword_of, with_target, up_to_equals, with_word, with_targets, heading_of}
 use Rattle.dill_script.specs.Lines.{lines_of}
 use Rattle.dill_script.specs.Operands.{word_in, name_of, register_in, number_register, bytes_register, num_of, bytes_of, operands_of}
-use Rattle.dill_script.specs.Numbers.{named, only_if, number_up_to, errno_of}
+use Rattle.dill_script.specs.Numbers.{named, only_if, is_decimal, value_of, number_up_to, register_of, errno_of}
 use Rattle.dill_script.specs.Spelling.{spoken, ReadsFormed}
 use Rattle.dill_script.specs.Statements.{Line, Opens, Ends, Says, both, set_at, with_two, with_none, params_fit, program_of, fail_of, loop_of, cond_of, dest_at, call_of_line, plain_line, worded_line, line_of}
 use Rattle.dill_script.specs.Table.{kinds_of, rest_kind}
 use Rattle.dill_script.specs.Tokens.{Token, is_word}
-use Rattle.dill_script.proofs.Formed.{always, mapped, operands_fit, dest_at_fits}
+use Rattle.dill_script.proofs.Formed.{always, mapped, is_small, operands_fit, dest_at_fits}
 use Rattle.dill_script.proofs.LineWords.{two_is, none_is}
 use Rattle.dill_script.proofs.Saying.{says_well, line_says, reads_all}
-use Rattle.dill_script.proofs.Somes.{if_map, if_then, if_only, if_both, and_parts}
+use Rattle.dill_script.proofs.Somes.{if_map, if_then, if_test, if_only, if_both, and_parts}
 
 -- a line whose statement has its form
 abbrev Formed : Line → Type 0
@@ -48,25 +48,52 @@ find_among p test (x ∷ xs) e =
 keyword_well : (token : Token) → IfSome (keyword_of token) (λ k. is_well k ≡ true)
 keyword_well token = if_then (λ k. is_well k ≡ true) (named keyword_text all_keywords) (word_in token) (always (λ word. IfSome (named keyword_text all_keywords word) (λ k. is_well k ≡ true)) (word_in token) (λ word. find_among (λ k. bytes_eq (keyword_text k) word) is_well all_keywords refl))
 
-abbrev IsHead : Heading → Type 0
-IsHead heading = IfSome heading.word (λ k. is_well k ≡ true)
+-- the head has such a word, and registers that there are
+record IsHead (heading : Heading) : Type 0 where
+  word : IfSome heading.word (λ k. is_well k ≡ true)
+  targets : list_all is_small heading.targets ≡ true
 
-with_word_well : (tried : Bool) (targets : List Register) (tokens : List Token) → IsHead (with_word tried targets tokens)
-with_word_well tried targets [] = tt
-with_word_well tried targets (token ∷ rest) = keyword_well token
+place_small : (word : List ℕ) → IfSome (number_up_to 15 word) (λ place. is_register place ≡ true)
+place_small word = if_only (λ place. is_register place ≡ true) (is_decimal word && nat_le (value_of word) 15) (value_of word) (λ e. (and_parts (is_decimal word) (nat_le (value_of word) 15) e).1)
 
-with_targets_well : (tried : Bool) (tokens : List Token) (o : Option (List Register × List Token)) → IsHead (with_targets tried tokens o)
-with_targets_well tried tokens (Some (register ∷ targets, behind)) = with_word_well tried (register ∷ targets) behind
-with_targets_well tried tokens (Some ([], behind)) = with_word_well tried [] tokens
-with_targets_well tried tokens None = with_word_well tried [] tokens
+register_small : (word : List ℕ) → IfSome (register_of word) (λ r. is_small r ≡ true)
+register_small [] = tt
+register_small (letter ∷ rest) = if_test (λ r. is_small r ≡ true) (letter == 110) (option_map registers.Number (number_up_to 15 rest)) (if letter == 98 then option_map registers.Bytes (number_up_to 15 rest) else None)
+    (λ e. if_map (λ r. is_small r ≡ true) registers.Number (number_up_to 15 rest) (place_small rest))
+    (λ e. if_test (λ r. is_small r ≡ true) (letter == 98) (option_map registers.Bytes (number_up_to 15 rest)) None (λ f. if_map (λ r. is_small r ≡ true) registers.Bytes (number_up_to 15 rest) (place_small rest)) (λ f. tt))
+
+target_small : (token : Token) → IfSome (register_in token) (λ r. is_small r ≡ true)
+target_small token = if_then (λ r. is_small r ≡ true) register_of (word_in token) (always (λ word. IfSome (register_of word) (λ r. is_small r ≡ true)) (word_in token) register_small)
+
+abbrev AreSmall : List Register × List Token → Type 0
+AreSmall found = list_all is_small found.0 ≡ true
+
+with_target_small : (o : Option Register) (p : Option (List Register × List Token)) → IfSome o (λ r. is_small r ≡ true) → IfSome p AreSmall → IfSome (with_target o p) AreSmall
+with_target_small None None h k = tt
+with_target_small None (Some behind) h k = tt
+with_target_small (Some register) None h k = tt
+with_target_small (Some register) (Some (targets, behind)) h k = and_true (is_small register) (list_all is_small targets) h k
+
+targets_small : (tokens : List Token) → IfSome (up_to_equals tokens) AreSmall
+targets_small [] = tt
+targets_small (token ∷ rest) = if_test AreSmall (is_word (codes "=") token) (Some ([], rest)) (with_target (register_in token) (up_to_equals rest)) (λ e. refl) (λ e. with_target_small (register_in token) (up_to_equals rest) (target_small token) (targets_small rest))
+
+with_word_well : (tried : Bool) (targets : List Register) (tokens : List Token) → list_all is_small targets ≡ true → IsHead (with_word tried targets tokens)
+with_word_well tried targets [] e = record { word = tt; targets = e }
+with_word_well tried targets (token ∷ rest) e = record { word = keyword_well token; targets = e }
+
+with_targets_well : (tried : Bool) (tokens : List Token) (o : Option (List Register × List Token)) → IfSome o AreSmall → IsHead (with_targets tried tokens o)
+with_targets_well tried tokens (Some (register ∷ targets, behind)) h = with_word_well tried (register ∷ targets) behind h
+with_targets_well tried tokens (Some ([], behind)) h = with_word_well tried [] tokens refl
+with_targets_well tried tokens None h = with_word_well tried [] tokens refl
 
 either_head : (b : Bool) (first second : Heading) → IsHead first → IsHead second → IsHead (if b then first else second)
 either_head true first second h k = h
 either_head false first second h k = k
 
 heading_well : (tokens : List Token) → IsHead (heading_of tokens)
-heading_well [] = tt
-heading_well (token ∷ rest) = either_head (is_word (codes "try") token) (with_targets true rest (up_to_equals rest)) (with_targets false (token ∷ rest) (up_to_equals (token ∷ rest))) (with_targets_well true rest (up_to_equals rest)) (with_targets_well false (token ∷ rest) (up_to_equals (token ∷ rest)))
+heading_well [] = record { word = tt; targets = refl }
+heading_well (token ∷ rest) = either_head (is_word (codes "try") token) (with_targets true rest (up_to_equals rest)) (with_targets false (token ∷ rest) (up_to_equals (token ∷ rest))) (with_targets_well true rest (up_to_equals rest) (targets_small rest)) (with_targets_well false (token ∷ rest) (up_to_equals (token ∷ rest)) (targets_small (token ∷ rest)))
 
 -- a statement made of two parts
 paired : {X Y : Type 0} (make : X → Y → Statement) (o : Option X) (p : Option Y) → ((x : X) (y : Y) → is_formed (make x y) ≡ true) → IfSome (both make o p) (λ statement. is_formed statement ≡ true)
@@ -76,9 +103,9 @@ paired {X} {Y} make o p h = if_both (λ (x : X). Unit {0}) (λ (y : Y). Unit {0}
 says : (o : Option Statement) → IfSome o (λ statement. is_formed statement ≡ true) → IfSome (option_map Says o) Formed
 says o h = if_map Formed Says o h
 
-call_formed : (tried : Bool) (targets : List Register) (word : Word) (tokens : List Token) → is_call_word word ≡ true → IfSome (call_of_line tried word targets tokens) (λ statement. is_formed statement ≡ true)
-call_formed tried targets word tokens e = if_both (λ dest. may_hold word dest ≡ true) (λ list. are_kinds (kinds_of word) (rest_kind word) list ≡ true) (λ statement. is_formed statement ≡ true) (λ dest operands. statements.Call tried dest (record { word = word; operands = operands })) (dest_at word targets) (operands_of (kinds_of word) (rest_kind word) tokens)
-    (λ dest list f g. and_true (is_call_word word && are_kinds (kinds_of word) (rest_kind word) list) (may_hold word dest) (and_true (is_call_word word) (are_kinds (kinds_of word) (rest_kind word) list) e g) f) (dest_at_fits word targets) (operands_fit (kinds_of word) (rest_kind word) tokens)
+call_formed : (tried : Bool) (targets : List Register) (word : Word) (tokens : List Token) → is_call_word word ≡ true → list_all is_small targets ≡ true → IfSome (call_of_line tried word targets tokens) (λ statement. is_formed statement ≡ true)
+call_formed tried targets word tokens e t = if_both (λ dest. may_hold word dest ≡ true) (λ list. are_kinds (kinds_of word) (rest_kind word) list ≡ true) (λ statement. is_formed statement ≡ true) (λ dest operands. statements.Call tried dest (record { word = word; operands = operands })) (dest_at word targets) (operands_of (kinds_of word) (rest_kind word) tokens)
+    (λ dest list f g. and_true (is_call_word word && are_kinds (kinds_of word) (rest_kind word) list) (may_hold word dest) (and_true (is_call_word word) (are_kinds (kinds_of word) (rest_kind word) list) e g) f) (dest_at_fits word targets t) (operands_fit (kinds_of word) (rest_kind word) tokens)
 
 fail_formed : (tokens : List Token) → IfSome (fail_of tokens) (λ statement. is_formed statement ≡ true)
 fail_formed (token ∷ []) = mapped (λ statement. is_formed statement ≡ true) statements.Fail (option_and_then errno_of (word_in token)) (λ x. refl)
@@ -124,19 +151,19 @@ plain_formed keywords.Return tokens = none_formed (Says statements.Return) token
 plain_formed keywords.Fail tokens = says (fail_of tokens) (fail_formed tokens)
 plain_formed _ tokens = tt
 
-worded_formed : (tried : Bool) (targets : List Register) (k : Keyword) (tokens : List Token) → is_well k ≡ true → IfSome (worded_line tried targets k tokens) Formed
-worded_formed tried targets (keywords.Call word) tokens e = says (call_of_line tried word targets tokens) (call_formed tried targets word tokens e)
-worded_formed tried [] keywords.Set tokens e = two_formed (λ target value. option_and_then (λ register. set_at tried register value) (register_in target)) tokens (set_line_formed tried)
-worded_formed tried [] keywords.Join tokens e = two_formed (λ place value. both (statements.Join tried) (bytes_register place) (bytes_of value)) tokens (λ a b. paired (statements.Join tried) (bytes_register a) (bytes_of b) (λ x y. refl))
-worded_formed false [] k tokens e = plain_formed k tokens
-worded_formed _ _ _ _ e = tt
+worded_formed : (tried : Bool) (targets : List Register) (k : Keyword) (tokens : List Token) → is_well k ≡ true → list_all is_small targets ≡ true → IfSome (worded_line tried targets k tokens) Formed
+worded_formed tried targets (keywords.Call word) tokens e t = says (call_of_line tried word targets tokens) (call_formed tried targets word tokens e t)
+worded_formed tried [] keywords.Set tokens e t = two_formed (λ target value. option_and_then (λ register. set_at tried register value) (register_in target)) tokens (set_line_formed tried)
+worded_formed tried [] keywords.Join tokens e t = two_formed (λ place value. both (statements.Join tried) (bytes_register place) (bytes_of value)) tokens (λ a b. paired (statements.Join tried) (bytes_register a) (bytes_of b) (λ x y. refl))
+worded_formed false [] k tokens e t = plain_formed k tokens
+worded_formed _ _ _ _ e t = tt
 
-headed : (heading : Heading) (o : Option Keyword) → IfSome o (λ k. is_well k ≡ true) → IfSome (option_and_then (λ k. worded_line heading.tried heading.targets k heading.operands) o) Formed
-headed heading None h = tt
-headed heading (Some k) h = worded_formed heading.tried heading.targets k heading.operands h
+headed : (heading : Heading) (o : Option Keyword) → IfSome o (λ k. is_well k ≡ true) → list_all is_small heading.targets ≡ true → IfSome (option_and_then (λ k. worded_line heading.tried heading.targets k heading.operands) o) Formed
+headed heading None h t = tt
+headed heading (Some k) h t = worded_formed heading.tried heading.targets k heading.operands h t
 
 line_formed : (list : List Token) → line_says is_formed list ≡ true
-line_formed list = of_line (line_of (heading_of list)) (headed (heading_of list) (heading_of list).word (heading_well list))
+line_formed list = of_line (line_of (heading_of list)) (headed (heading_of list) (heading_of list).word (heading_well list).word (heading_well list).targets)
   where
     of_line : (o : Option Line) → IfSome o Formed → says_well is_formed o ≡ true
     of_line None h = refl

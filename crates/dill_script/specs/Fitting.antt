@@ -1,5 +1,5 @@
 -- Operands that fit the word of their call, and registers that fit its answer.
-use Rattle.std.specs.Prelude.{List, [], ◌∷◌, length, Bool, true, false, ◌&&◌, nat_le, Option, Some, None}
+use Rattle.std.specs.Prelude.{ℕ, List, [], ◌∷◌, length, Bool, true, false, ◌&&◌, nat_le, Option, Some, None}
 use Rattle.std.specs.List.{list_all}
 use Rattle.dill_calls.specs.CallTable.{Form as AnswerForm, OneNumber, TwoNumbers, OneBytes, TwoBytes, CodeAndBytes, Choice, form_of}
 use Rattle.dill_calls.specs.declared.word.Word.{Word}
@@ -63,14 +63,18 @@ are_kinds (kind ∷ more) rest (operand ∷ list) = is_kind kind operand && are_
 abbrev pub is_form : Form → Bool
 is_form form = is_call_word form.word && are_kinds (kinds_of form.word) (rest_kind form.word) form.operands
 
+-- there are 16 registers of each sort
+abbrev pub is_register : ℕ → Bool
+is_register place = nat_le place 15
+
 -- registers that an answer of this form goes into
 abbrev pub is_dest : AnswerForm → Dest → Bool
-is_dest OneNumber (dests.Number place) = true
-is_dest TwoNumbers (dests.Pair first second) = true
-is_dest OneBytes (dests.Bytes place) = true
-is_dest TwoBytes (dests.Two first second) = true
-is_dest CodeAndBytes (dests.Mixed first second) = true
-is_dest Choice (dests.Mixed first second) = true
+is_dest OneNumber (dests.Number place) = is_register place
+is_dest TwoNumbers (dests.Pair first second) = is_register first && is_register second
+is_dest OneBytes (dests.Bytes place) = is_register place
+is_dest TwoBytes (dests.Two first second) = is_register first && is_register second
+is_dest CodeAndBytes (dests.Mixed first second) = is_register first && is_register second
+is_dest Choice (dests.Mixed first second) = is_register first && is_register second
 is_dest _ _ = false
 
 -- registers that the answer of a call goes into, if there are any
