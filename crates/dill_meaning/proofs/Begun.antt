@@ -1,5 +1,5 @@
 -- A script that was read begins at its program `main`.
-use Rattle.std.proofs.Common.{◌≡◌, ℕ, List, [], ◌∷◌, find, length, slice_get, Bool, true, false, not, ◌||◌, ◌==◌, nat_lt, cond, Some, refl, ap, ◌∙◌, codes, bytes_eq}
+use Rattle.std.proofs.Common.{◌≡◌, ℕ, List, [], ◌∷◌, find, length, slice_get, Bool, true, false, not, ◌||◌, ◌&&◌, ◌==◌, nat_lt, nat_le, cond, Some, refl, ap, ◌∙◌, codes, bytes_eq}
 use Rattle.std.specs.List.{list_any, position_or_len}
 use Rattle.std.proofs.lemmas.Bool.{eqb-true}
 use Rattle.std.proofs.lemmas.Slice.Eq.{bytes_eq-Decides}
@@ -29,8 +29,12 @@ first name [] a = absurd (none a)
     none e = cc
 first name (program ∷ rest) a = first_by name program rest (has_name name program) refl a (first name rest)
 
-no_params : (b : Bool) (params : ℕ) → b ≡ true → (not b || (params == 0)) ≡ true → params ≡ 0
-no_params true params e f = eqb-true params 0 f
+no_params : (b : Bool) (params : ℕ) → b ≡ true → ((not b || (params == 0)) && nat_le params 16) ≡ true → params ≡ 0
+no_params true params e f = eqb-true params 0 (first_part (params == 0) (nat_le params 16) f)
+  where
+    first_part : (a b : Bool) → (a && b) ≡ true → a ≡ true
+    first_part true b e = refl
+    first_part false b e = cc
 no_params false params e f = cc
 
 pub main_is_there : ReadsWithin → ReadsMains → MainIsThere

@@ -4,8 +4,10 @@ pub mod Lacks
 pub mod Lawful
 pub mod Lists
 pub mod Making
+pub mod Put
 pub mod Reached
 pub mod Started
 pub mod Table
 pub mod Told
 pub mod Walking
+pub mod Wide

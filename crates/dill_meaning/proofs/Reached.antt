@@ -29,7 +29,7 @@ use Rattle.dill_meaning.proofs.Table.{call_fits}
 use Rattle.dill_meaning.proofs.Walking.{Walked, Stands, walk_walked}
 
 -- a test that each statement passes is passed by one of them
-one_says : (test : Statement → Bool) (script : List Program) (program : ℕ) (o : Option Program) (place : ℕ) (statement : Statement) → slice_get script program ≡ o → all_say test script ≡ true → slice_get (statements_in o) place ≡ Some statement → test statement ≡ true
+pub one_says : (test : Statement → Bool) (script : List Program) (program : ℕ) (o : Option Program) (place : ℕ) (statement : Statement) → slice_get script program ≡ o → all_say test script ≡ true → slice_get (statements_in o) place ≡ Some statement → test statement ≡ true
 one_says test script program None place statement e a g = cc
 one_says test script program (Some found) place statement e a g = all_at test found.statements place statement (all_at (λ p. list_all test p.statements) script program found a e) g
 

@@ -3,6 +3,7 @@ pub mod Effects
 pub mod Laws
 pub mod Making
 pub mod Meaning
+pub mod Putting
 pub mod Reaching
 pub mod RowsRuns
 pub mod RowsTraces

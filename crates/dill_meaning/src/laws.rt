@@ -2,6 +2,7 @@ ghost use Rattle.dill_calls.specs.Program.{IsLawful};
 ghost use Rattle.dill_meaning.specs.Laws.{MainBegins, LeftCounts, MakesEachCall, LacksAlike};
 ghost use Rattle.dill_meaning.specs.Making.{EachFormMakes, CallsAreTold};
 ghost use Rattle.dill_meaning.specs.Meaning.{scripts};
+ghost use Rattle.dill_meaning.specs.Putting.{EachAnswerIsPut, BeginsWide, StaysWide};
 ghost use Rattle.dill_meaning.specs.Reaching.{EachStatementMakes, EachTurnMakes, MainIsThere};
 
 use dill_script::script_laws;
@@ -23,6 +24,16 @@ pub fn scripts_make_their_calls()
     ensures statements { EachStatementMakes }
     ensures turns { EachTurnMakes }
     ensures main { MainIsThere }
+{
+    script_laws();
+}
+
+/// The coroutines of a script that was read have 16 registers of each sort, and an answer of the form that its call has
+/// goes whole into the registers of its statement.
+pub fn scripts_put_their_answers()
+    ensures begins { BeginsWide }
+    ensures stays { StaysWide }
+    ensures puts { EachAnswerIsPut }
 {
     script_laws();
 }

@@ -13,11 +13,11 @@ use Rattle.dill_script.specs.declared.line.Register.{Register}
 use Rattle.dill_script.specs.declared.line.Register.TheVariants as registers
 use Rattle.dill_script.specs.declared.operand.Num.TheVariants as nums
 use Rattle.dill_script.specs.Fitting.{is_kind, is_rest, is_many, are_kinds, is_register, is_dest, may_hold}
-use Rattle.dill_script.specs.Numbers.{each, joined}
+use Rattle.dill_script.specs.Numbers.{each, joined, is_decimal, value_of, number_up_to}
 use Rattle.dill_script.specs.Operands.{operand_of, item_of, items_of, send_of, recv_of, args_of, clauses_of, rest_of, operands_of, dest_of, num_of, bytes_of, number_register}
 use Rattle.dill_script.specs.Statements.{dest_at}
 use Rattle.dill_script.specs.Tokens.{Token, is_word}
-use Rattle.dill_script.proofs.Somes.{if_map, if_or, if_then, if_test, if_joined}
+use Rattle.dill_script.proofs.Somes.{if_map, if_or, if_then, if_test, if_only, if_joined, and_parts}
 
 pub always : {X : Type 0} (P : X → Type 0) (o : Option X) → ((x : X) → P x) → IfSome o P
 always P None h = tt
@@ -29,6 +29,10 @@ mapped P f o h = if_map P f o (always (λ x. P (f x)) o h)
 
 and_true : (a b : Bool) → a ≡ true → b ≡ true → (a && b) ≡ true
 and_true a b e f = rw e f
+
+-- a number up to the greatest is no greater
+pub number_small : (greatest : ℕ) (word : List ℕ) → IfSome (number_up_to greatest word) (λ value. nat_le value greatest ≡ true)
+number_small greatest word = if_only (λ value. nat_le value greatest ≡ true) (is_decimal word && nat_le (value_of word) greatest) (value_of word) (λ e. (and_parts (is_decimal word) (nat_le (value_of word) greatest) e).1)
 
 kind_fits : (kind : Kind) (token : Token) → IfSome (operand_of kind token) (λ operand. is_kind kind operand ≡ true)
 kind_fits kinds.Num token = mapped (λ operand. is_kind kinds.Num operand ≡ true) operands.Num _ (λ x. refl)

@@ -1,5 +1,5 @@
 -- Each statement of what is read has the form that its word asks for.
-use Rattle.std.proofs.Common.{◌≡◌, ℕ, ◌==◌, nat_le, List, [], ◌∷◌, Bool, true, false, ◌&&◌, cond, if◌then◌else◌, find, Option, Some, None, IfSome, option_map, option_and_then, bytes_eq, refl, codes}
+use Rattle.std.proofs.Common.{◌≡◌, ℕ, ◌==◌, List, [], ◌∷◌, Bool, true, false, ◌&&◌, cond, if◌then◌else◌, find, Option, Some, None, IfSome, option_map, option_and_then, bytes_eq, refl, codes}
 use Rattle.std.specs.List.{list_all}
 use Rattle.dill_calls.specs.declared.word.Word.{Word}
 use Rattle.dill_script.specs.declared.line.Keyword.{Keyword}
@@ -8,16 +8,16 @@ use Rattle.dill_script.specs.declared.line.Register.{Register}
 use Rattle.dill_script.specs.declared.line.Register.TheVariants as registers
 use Rattle.dill_script.specs.declared.statement.Statement.{Statement}
 use Rattle.dill_script.specs.declared.statement.Statement.TheVariants as statements
-use Rattle.dill_script.specs.Fitting.{is_call_word, is_register, are_kinds, may_hold, is_formed}
+use Rattle.dill_script.specs.Fitting.{is_call_word, are_kinds, may_hold, is_formed}
 use Rattle.dill_script.specs.Headings.{Heading, keyword_text, all_keywords, keyword_of, with_target, up_to_equals, with_word, with_targets, heading_of}
 use Rattle.dill_script.specs.Lines.{lines_of}
 use Rattle.dill_script.specs.Operands.{word_in, name_of, register_in, number_register, bytes_register, num_of, bytes_of, operands_of}
-use Rattle.dill_script.specs.Numbers.{named, only_if, is_decimal, value_of, number_up_to, register_of, errno_of}
+use Rattle.dill_script.specs.Numbers.{named, only_if, number_up_to, register_of, errno_of}
 use Rattle.dill_script.specs.Spelling.{spoken, ReadsFormed}
 use Rattle.dill_script.specs.Statements.{Line, Opens, Ends, Says, both, set_at, with_two, with_none, params_fit, program_of, fail_of, loop_of, cond_of, dest_at, call_of_line, plain_line, worded_line, line_of}
 use Rattle.dill_script.specs.Table.{kinds_of, rest_kind}
 use Rattle.dill_script.specs.Tokens.{Token, is_word}
-use Rattle.dill_script.proofs.Formed.{always, mapped, is_small, operands_fit, dest_at_fits}
+use Rattle.dill_script.proofs.Formed.{always, mapped, number_small, is_small, operands_fit, dest_at_fits}
 use Rattle.dill_script.proofs.LineWords.{two_is, none_is}
 use Rattle.dill_script.proofs.Saying.{says_well, line_says, reads_all}
 use Rattle.dill_script.proofs.Somes.{if_map, if_then, if_test, if_only, if_both, and_parts}
@@ -53,14 +53,11 @@ record IsHead (heading : Heading) : Type 0 where
   word : IfSome heading.word (λ k. is_well k ≡ true)
   targets : list_all is_small heading.targets ≡ true
 
-place_small : (word : List ℕ) → IfSome (number_up_to 15 word) (λ place. is_register place ≡ true)
-place_small word = if_only (λ place. is_register place ≡ true) (is_decimal word && nat_le (value_of word) 15) (value_of word) (λ e. (and_parts (is_decimal word) (nat_le (value_of word) 15) e).1)
-
 register_small : (word : List ℕ) → IfSome (register_of word) (λ r. is_small r ≡ true)
 register_small [] = tt
 register_small (letter ∷ rest) = if_test (λ r. is_small r ≡ true) (letter == 110) (option_map registers.Number (number_up_to 15 rest)) (if letter == 98 then option_map registers.Bytes (number_up_to 15 rest) else None)
-    (λ e. if_map (λ r. is_small r ≡ true) registers.Number (number_up_to 15 rest) (place_small rest))
-    (λ e. if_test (λ r. is_small r ≡ true) (letter == 98) (option_map registers.Bytes (number_up_to 15 rest)) None (λ f. if_map (λ r. is_small r ≡ true) registers.Bytes (number_up_to 15 rest) (place_small rest)) (λ f. tt))
+    (λ e. if_map (λ r. is_small r ≡ true) registers.Number (number_up_to 15 rest) (number_small 15 rest))
+    (λ e. if_test (λ r. is_small r ≡ true) (letter == 98) (option_map registers.Bytes (number_up_to 15 rest)) None (λ f. if_map (λ r. is_small r ≡ true) registers.Bytes (number_up_to 15 rest) (number_small 15 rest)) (λ f. tt))
 
 target_small : (token : Token) → IfSome (register_in token) (λ r. is_small r ≡ true)
 target_small token = if_then (λ r. is_small r ≡ true) register_of (word_in token) (always (λ word. IfSome (register_of word) (λ r. is_small r ≡ true)) (word_in token) register_small)

@@ -83,9 +83,9 @@ starts_there script statement = is_there script (started_by (Says statement))
 abbrev pub ReadsStarts : Type 0
 ReadsStarts = (built : Word → Bool) (text : List ℕ) (script : List Program) → script_with built text ≡ Ok script → all_say (starts_there script) script ≡ true
 
--- a program takes so many arguments as its name allows: `main` takes none
+-- a program takes at most 16 arguments, and `main` none
 abbrev pub takes_its : Program → Bool
-takes_its program = params_fit program.name program.params
+takes_its program = params_fit program.name program.params && nat_le program.params 16
 
 -- so it is with the programs of what is read
 abbrev pub ReadsMains : Type 0
