@@ -1,5 +1,13 @@
+pub mod Begun
 pub mod Given
+pub mod Lacks
 pub mod Lawful
 pub mod Lists
+pub mod Making
+pub mod Put
+pub mod Reached
+pub mod Started
 pub mod Table
+pub mod Told
 pub mod Walking
+pub mod Wide

@@ -2,6 +2,8 @@
 use Rattle.std.specs.Prelude.{◌≡◌, ◌+◌, List, [], take, true, map, is_some}
 use Rattle.std.specs.List.{list_all}
 use Rattle.dill_base.specs.declared.deadline.Deadline.TheVariants.{Never}
+use Rattle.dill_calls.specs.CallTable.{is_built}
+use Rattle.dill_calls.specs.declared.word.Word.{Word}
 use Rattle.dill_calls.specs.Program.{Begins}
 use Rattle.dill_script.specs.Contexts.{places}
 use Rattle.dill_script.specs.declared.form.Kind.{Kind}
@@ -10,7 +12,7 @@ use Rattle.dill_script.specs.declared.script.Program.{Program}
 use Rattle.dill_script.specs.Spelling.{is_sized}
 use Rattle.dill_script.specs.Table.{kinds_of, call_words}
 use Rattle.dill_meaning.specs.Calls.{call_of}
-use Rattle.dill_meaning.specs.Meaning.{scripts, left, most}
+use Rattle.dill_meaning.specs.Meaning.{scripts, left, most, may_lack}
 use Rattle.dill_meaning.specs.Values.{Value, Number, Octets, Until, Where, First, Program as ProgramNumber}
 use Rattle.dill_meaning.specs.Views.{ScriptView, statements_of, main_of}
 
@@ -32,6 +34,10 @@ some_value kinds.Program = ProgramNumber 0
 some_value kinds.Order = First true
 some_value kinds.Mode = First true
 some_value kinds.Role = First true
+
+-- the calls for whose building a script takes memory are those for which any program takes some
+abbrev pub LacksAlike : Type 0
+LacksAlike = (word : Word) → may_lack word ≡ is_built word
 
 -- each word of the table makes its call of operands of its kinds
 abbrev pub MakesEachCall : Type 0

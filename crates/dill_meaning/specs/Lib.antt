@@ -1,7 +1,10 @@
 pub mod Calls
 pub mod Effects
 pub mod Laws
+pub mod Making
 pub mod Meaning
+pub mod Putting
+pub mod Reaching
 pub mod RowsRuns
 pub mod RowsTraces
 pub mod Values

@@ -79,6 +79,7 @@ pub record FaultRows : Type 0 where
 -- numbers at their bounds
 pub record NumberRows : Type 0 where
   pub sums : moves (body (codes "set n0 9223372036854775807\nadd n0 5\nsub n1 7\nset n2 9\nsub n2 n3\nadd n2 1\nset b15 \"abc\"\nlen n4 b15\nprint n0 \" \" n1 \" \" n2 \" \" n4 b15")) (zeros 2) ≡ Calls (calls.Pass words.Set None) ∷ Calls (calls.Print (codes "9223372036854775807 0 10 3abc")) ∷ []
+  pub up_to_the_greatest : moves (body (codes "set n0 9223372036854775806\nadd n0 1\nset n1 n0\nadd n1 1\nprint n0 \" \" n1")) (zeros 1) ≡ Calls (calls.Print (codes "9223372036854775807 9223372036854775807")) ∷ []
   pub greater_before : moves (body (codes "n0 = now\nadd n0 0\nprint n0")) (zero_answer ∷ Number 18446744073709551615 ∷ []) ≡ Calls calls.Now ∷ Calls (calls.Print (codes "9223372036854775807")) ∷ []
   pub moments : moves (body (codes "set n0 5\nmsleep n0\nmsleep +n0\nmsleep 0\nmsleep -1")) (zeros 4) ≡ Calls (calls.Msleep (At 5)) ∷ Calls (calls.Msleep (After 5)) ∷ Calls (calls.Msleep (At 0)) ∷ Calls (calls.Msleep Never) ∷ []
 

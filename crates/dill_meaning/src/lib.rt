@@ -5,7 +5,7 @@
 mod laws;
 mod rows;
 
-pub use laws::scripts_are_lawful;
+pub use laws::{scripts_are_lawful, scripts_make_their_calls, scripts_put_their_answers};
 pub use rows::{
     answer_rows, channel_rows, fault_rows, handle_rows, if_rows, keep_rows, lack_rows, link_rows,
     loop_rows, number_rows, start_rows,

@@ -20,7 +20,7 @@ not_false : (b : Bool) → not b ≡ false → b ≡ true
 not_false true e = refl
 not_false false e = cc
 
-matches_of : (h : Heading) (w : Option Keyword) (k : Keyword) (line : Line) → option_and_then (λ keyword. worded_line h.tried h.targets keyword h.operands) w ≡ Some line → w ≡ Some k → Matches k line
+pub matches_of : (h : Heading) (w : Option Keyword) (k : Keyword) (line : Line) → option_and_then (λ keyword. worded_line h.tried h.targets keyword h.operands) w ≡ Some line → w ≡ Some k → Matches k line
 matches_of h w k line e f =
     let g : worded_line h.tried h.targets k h.operands ≡ Some line = subst (λ o. option_and_then (λ keyword. worded_line h.tried h.targets keyword h.operands) o ≡ Some line) f e in
     some_matches (worded_line h.tried h.targets k h.operands) g (worded_matches h.tried h.targets k h.operands)
@@ -36,11 +36,11 @@ head_added context h (Some k) (Some line) list e f g i m s n =
     let a : Adds context (record (adding context (Some line)) { open_blocks = open_behind context.open_blocks (Some k) }) (spelled line) = added context k line n (not_false (may_stand context.open_blocks k) m) (matches_of h h.word k line f e) in
     record { nested = a.nested; written = a.written ∙ ap (λ x. written context ++ x ∷ []) s }
 
-said_some : (context : Context) (list : List Token) → context.begun ≡ true → said_by context list ≡ Some (heading_of list)
+pub said_some : (context : Context) (list : List Token) → context.begun ≡ true → said_by context list ≡ Some (heading_of list)
 said_some context list e = ap (λ b. if b then Some (heading_of list) else None) e
 
 -- a line against which nothing holds adds its tokens
-step_adds : (built : Word → Bool) (context : Context) (list : List Token) → context.begun ≡ true → Nested context.open_blocks → IsFine built context list → Adds context (after_by context list) list
+pub step_adds : (built : Word → Bool) (context : Context) (list : List Token) → context.begun ≡ true → Nested context.open_blocks → IsFine built context list → Adds context (after_by context list) list
 step_adds built context list e n f =
     let h : Heading = heading_of list in
     let s : said_by context list ≡ Some h = said_some context list e in

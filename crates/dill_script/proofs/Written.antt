@@ -123,7 +123,7 @@ finally_open (blocks.Else ∷ outer) n e = cc
 finally_open (blocks.Loop ∷ outer) n e = cc
 
 -- which blocks are open behind a line that holds a statement
-says_open : (open_blocks : List Block) (k : Keyword) (s : Statement) → Nested open_blocks → may_stand open_blocks k ≡ true → Matches k (Says s) → StaysOpen open_blocks (blocks_behind open_blocks k)
+pub says_open : (open_blocks : List Block) (k : Keyword) (s : Statement) → Nested open_blocks → may_stand open_blocks k ≡ true → Matches k (Says s) → StaysOpen open_blocks (blocks_behind open_blocks k)
 says_open open_blocks keywords.Program s n e m = absurd m
 says_open open_blocks keywords.End s n e m = absurd m
 says_open open_blocks keywords.If s n e m = record { before = not_true (is_empty open_blocks) e; after = refl; nested = (not_true (is_empty open_blocks) e, n) }

@@ -1,11 +1,13 @@
 pub mod Blocks
 pub mod Contexts
+pub mod Fitting
 pub mod Headings
 pub mod Lines
 pub mod Numbers
 pub mod Operands
 pub mod Printing
 pub mod Reading
+pub mod Reasons
 pub mod Refusals
 pub mod RowsReading
 pub mod RowsRefused

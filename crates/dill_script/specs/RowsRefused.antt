@@ -23,6 +23,7 @@ pub record TokenRows : Type 0 where
   pub unknown : Refused (codes "dill 1\nprogram main 0\nfoo\nend\n") 3 UnknownWord
   pub no_word : Refused (codes "dill 1\nprogram main 0\ntry\nend\n") 3 UnknownWord
   pub try_behind_registers : Refused (codes "dill 1\nprogram main 0\nn0 = try now\nend\n") 3 UnknownWord
+  pub nothing_behind_equals : Refused (codes "dill 1\nprogram main 0\nn0 =\nend\n") 3 UnknownWord
   pub no_register_before_equals : Refused (codes "dill 1\nprogram main 0\n= now\nend\n") 3 UnknownWord
   pub start_is_no_word : Refused (codes "dill 1\nprogram main 0\nstart\nend\n") 3 UnknownWord
   pub second_version : Refused (codes "dill 1\nprogram main 0\ndill 1\nend\n") 3 UnknownWord
@@ -43,11 +44,24 @@ pub record PlaceRows : Type 0 where
   pub statement_outside : Refused (codes "dill 1\nnow\n") 2 BadBlock
   pub open_at_the_last_line : Refused (codes "dill 1\nprogram main 0\nnow\n") 3 BadBlock
   pub last_line_is_blank : Refused (codes "dill 1\nprogram main 0\nnow\n\n# end\n") 5 BadBlock
+
+-- last lines: a block that is open behind one is told before what is wrong with its operands, and behind what is wrong with its word
+pub record LastRows : Type 0 where
   pub operand_in_an_open_program : Refused (codes "dill 1\nprogram main 0\nnow 5") 3 BadBlock
   pub word_in_an_open_program : Refused (codes "dill 1\nprogram main 0\nfoo\n") 3 UnknownWord
+  pub try_alone : Refused (codes "dill 1\nprogram main 0\ntry") 3 UnknownWord
+  pub program : Refused (codes "dill 1\nprogram main 0") 2 BadBlock
+  pub program_without_parameters : Refused (codes "dill 1\nprogram p") 2 BadBlock
+  pub main_with_a_parameter : Refused (codes "dill 1\nprogram main 1\n") 2 BadBlock
+  pub operand_of_the_last_end : Refused (codes "dill 1\nprogram main 0\nend 5") 3 BadOperand
+  pub operand_of_an_inner_end : Refused (codes "dill 1\nprogram main 0\nif n0 = 0\nend 5\n") 4 BadBlock
+  pub operand_of_an_end_outside : Refused (codes "dill 1\nend 5") 2 BadBlock
+  pub return_alone : Refused (codes "dill 1\nprogram main 0\nnow\n" ++ 13 ∷ []) 4 BadBlock
 
 -- operands that do not fit
 pub record OperandRows : Type 0 where
+  pub operand_of_an_end : Refused (codes "dill 1\nprogram main 0\nend 5\nend\n") 3 BadOperand
+  pub program_without_parameters : Refused (codes "dill 1\nprogram p\nend\n") 2 BadOperand
   pub one_too_many : Refused (codes "dill 1\nprogram main 0\nnow 5\nend\n") 3 BadOperand
   pub one_too_few : Refused (codes "dill 1\nprogram main 0\nmsleep\nend\n") 3 BadOperand
   pub try_without_a_call : Refused (codes "dill 1\nprogram main 0\ntry set n0 1\nend\n") 3 BadOperand
@@ -81,6 +95,7 @@ pub record WholeRows : Type 0 where
   pub no_program_before_no_main : Refused (codes "dill 1\nprogram a 0\ngo b\nend\n") 3 NoProgram
   pub main_missing : Refused (codes "dill 1\nprogram a 0\nend\n") 1 NoMain
   pub five_loops : Refused (codes "dill 1\nprogram main 0\nloop\nloop\nloop\nloop\nloop\nend\nend\nend\nend\nend\nend\n") 7 TooLarge
+  pub sixteen_of_both : Refused (codes "dill 1\nprogram main 0\nloop\nloop\nloop\nloop\nif n0 = 0\nif n0 = 0\nif n0 = 0\nif n0 = 0\nif n0 = 0\nif n0 = 0\nif n0 = 0\nif n0 = 0\nif n0 = 0\nif n0 = 0\nif n0 = 0\nif n0 = 0\nend\nend\nend\nend\nend\nend\nend\nend\nend\nend\nend\nend\nend\nend\nend\nend\nend\n") 18 TooLarge
   pub sixteen_ifs : Refused (codes "dill 1\nprogram main 0\nif n0 = 0\nif n0 = 0\nif n0 = 0\nif n0 = 0\nif n0 = 0\nif n0 = 0\nif n0 = 0\nif n0 = 0\nif n0 = 0\nif n0 = 0\nif n0 = 0\nif n0 = 0\nif n0 = 0\nif n0 = 0\nif n0 = 0\nif n0 = 0\nend\nend\nend\nend\nend\nend\nend\nend\nend\nend\nend\nend\nend\nend\nend\nend\nend\n") 18 TooLarge
 
 -- bytes that may not stand in a line, and a CR where it may
@@ -91,14 +106,17 @@ pub record ByteRows : Type 0 where
   pub behind_the_version : Refused (codes "dill 1 # " ++ 128 ∷ codes "\nend\n") 1 BadByte
   pub comment_before_the_version : Refused (codes "# " ++ 128 ∷ codes "\ndill 2\n") 1 BadByte
   pub version_of_the_same_line : Refused (codes "dill 1 " ++ 128 ∷ codes "\n") 1 NoVersion
+  pub only_a_return : Refused (13 ∷ []) 1 NoVersion
   pub second_return : Refused (codes "dill 1" ++ 13 ∷ 13 ∷ 10 ∷ codes "x") 1 NoVersion
 
 -- texts with CR LF, with TABs, with no LF at the end, and forms at their limits
 pub record ReadRows : Type 0 where
   pub carriage_returns : script_of (codes "dill 1" ++ 13 ∷ 10 ∷ codes "\tprogram\tmain 0" ++ 13 ∷ 10 ∷ codes "end" ++ 13 ∷ []) ≡ script_of (codes "dill 1\nprogram main 0\nend\n")
+  pub return_alone : script_of (codes "dill 1\nprogram main 0\nend\n" ++ 13 ∷ []) ≡ script_of (codes "dill 1\nprogram main 0\nend\n")
   pub equal_registers : PrintsBack (codes "dill 1\nprogram main 0\nn0 n0 = chmake\nend\n")
   pub sixteen_items : PrintsBack (codes "dill 1\nprogram main 0\nprint n0 n0 n0 n0 n0 n0 n0 n0 n0 n0 n0 n0 n0 n0 n0 n0\nend\n")
   pub fifteen_ifs : PrintsBack (codes "dill 1\nprogram main 0\nif n0 = 0\nif n0 = 0\nif n0 = 0\nif n0 = 0\nif n0 = 0\nif n0 = 0\nif n0 = 0\nif n0 = 0\nif n0 = 0\nif n0 = 0\nif n0 = 0\nif n0 = 0\nif n0 = 0\nif n0 = 0\nif n0 = 0\nend\nend\nend\nend\nend\nend\nend\nend\nend\nend\nend\nend\nend\nend\nend\nend\n")
+  pub fifteen_of_both : PrintsBack (codes "dill 1\nprogram main 0\nloop\nloop\nloop\nloop\nif n0 = 0\nif n0 = 0\nif n0 = 0\nif n0 = 0\nif n0 = 0\nif n0 = 0\nif n0 = 0\nif n0 = 0\nif n0 = 0\nif n0 = 0\nif n0 = 0\nend\nend\nend\nend\nend\nend\nend\nend\nend\nend\nend\nend\nend\nend\nend\nend\n")
   pub later_program : PrintsBack (codes "dill 1\nprogram main 0\ngo s n1\nend\nprogram s 1\nend\n")
 
 -- `print` and `now` alone are built

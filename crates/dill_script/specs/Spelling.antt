@@ -1,13 +1,16 @@
 -- Which texts spell a script, and what reading and printing promise each other.
-use Rattle.std.specs.Prelude.{◌≡◌, ℕ, ◌≤◌, List, [], length, map, filter, Bool, true, is_some, unwrap_or, nat_le, codes, Ok}
+use Rattle.std.specs.Prelude.{◌≡◌, ℕ, ◌≤◌, List, [], length, map, filter, Bool, true, not, ◌&&◌, is_some, Option, Some, None, ◌∷◌, unwrap_or, nat_le, codes, Ok}
 use Rattle.std.specs.List.{list_all, list_any}
 use Rattle.dill_calls.specs.declared.word.Word.{Word}
 use Rattle.dill_script.specs.declared.script.Program.{Program}
 use Rattle.dill_script.specs.Contexts.{places}
+use Rattle.dill_script.specs.Fitting.{is_formed, all_say}
 use Rattle.dill_script.specs.Refusals.{has_name}
 use Rattle.dill_script.specs.Lines.{lines_of, is_line_byte, has_tokens}
 use Rattle.dill_script.specs.Printing.{script_lines, canonical}
-use Rattle.dill_script.specs.Reading.{script_with}
+use Rattle.dill_script.specs.declared.statement.Statement.{Statement}
+use Rattle.dill_script.specs.Reading.{started_by, takes, script_with}
+use Rattle.dill_script.specs.Statements.{Says, params_fit}
 use Rattle.dill_script.specs.Tokens.{Token, tokens}
 
 -- the tokens of a line, where it is well formed
@@ -53,3 +56,37 @@ pub record IsWithin (script : List Program) : Type 0 where
 -- what is read is within the limits
 abbrev pub ReadsWithin : Type 0
 ReadsWithin = (built : Word → Bool) (text : List ℕ) (script : List Program) → script_with built text ≡ Ok script → IsWithin script
+
+-- the calls of what is read have operands and registers as their words ask for them
+abbrev pub ReadsFormed : Type 0
+ReadsFormed = (built : Word → Bool) (text : List ℕ) (script : List Program) → script_with built text ≡ Ok script → all_say is_formed script ≡ true
+
+-- no two programs have one name
+abbrev pub are_apart : List Program → Bool
+are_apart [] = true
+are_apart (program ∷ rest) = not (list_any (has_name program.name) rest) && are_apart rest
+
+-- so it is in what is read
+abbrev pub ReadsApart : Type 0
+ReadsApart = (built : Word → Bool) (text : List ℕ) (script : List Program) → script_with built text ≡ Ok script → are_apart script ≡ true
+
+-- the program that is started, if any is, is there, with so many parameters as it is given arguments
+abbrev pub is_there : List Program → Option (List ℕ × ℕ) → Bool
+is_there script None = true
+is_there script (Some start) = list_any (takes start) script
+
+-- so it is with the program that a statement starts
+abbrev pub starts_there : List Program → Statement → Bool
+starts_there script statement = is_there script (started_by (Says statement))
+
+-- so it is with each statement of what is read
+abbrev pub ReadsStarts : Type 0
+ReadsStarts = (built : Word → Bool) (text : List ℕ) (script : List Program) → script_with built text ≡ Ok script → all_say (starts_there script) script ≡ true
+
+-- a program takes at most 16 arguments, and `main` none
+abbrev pub takes_its : Program → Bool
+takes_its program = params_fit program.name program.params && nat_le program.params 16
+
+-- so it is with the programs of what is read
+abbrev pub ReadsMains : Type 0
+ReadsMains = (built : Word → Bool) (text : List ℕ) (script : List Program) → script_with built text ≡ Ok script → list_all takes_its script ≡ true

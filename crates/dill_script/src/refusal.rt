@@ -1,3 +1,6 @@
+ghost use Rattle.std.specs.Prelude.{◌≡◌};
+ghost use Rattle.dill_script.specs.Reasons.{reason_text};
+
 /// Why a script is refused, at the line that is told with it. Of one line the first reason in this order is told.
 #[derive(Clone, Copy, Debug, PartialEq, Eq)]
 pub enum Reason {
@@ -21,6 +24,27 @@ pub enum Reason {
     /// It starts a program that isn't there, or with another number of arguments.
     NoProgram,
     NoMain,
+}
+
+impl Reason {
+    /// Its words, as `no version`.
+    pub fn text(self) -> &'static str
+        ensures { result.now ≡ reason_text self }
+    {
+        match self {
+            Reason::NoVersion => "no version",
+            Reason::BadByte => "bad byte",
+            Reason::BadText => "bad text",
+            Reason::UnknownWord => "unknown word",
+            Reason::NotBuilt => "not built",
+            Reason::BadBlock => "bad block",
+            Reason::BadOperand => "bad operand",
+            Reason::RepeatedName => "repeated name",
+            Reason::TooLarge => "too large",
+            Reason::NoProgram => "no program",
+            Reason::NoMain => "no main",
+        }
+    }
 }
 
 /// A script that was not read: at a line, counted from 1, or for want of memory.

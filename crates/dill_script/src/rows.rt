@@ -1,5 +1,5 @@
 ghost use Rattle.dill_script.specs.RowsReading.{FirstLineRows, CanonicalRows};
-ghost use Rattle.dill_script.specs.RowsRefused.{LimitRows, TokenRows, PlaceRows, OperandRows, WholeRows, ByteRows, ReadRows, BuiltRows};
+ghost use Rattle.dill_script.specs.RowsRefused.{LimitRows, TokenRows, PlaceRows, LastRows, OperandRows, WholeRows, ByteRows, ReadRows, BuiltRows};
 ghost use Rattle.dill_script.specs.RowsScripts.{ScriptRows, ChannelRows, RelayRows, FormRows};
 
 /// First lines that are refused.
@@ -40,6 +40,11 @@ pub fn token_rows()
 /// Lines in a wrong place.
 pub fn place_rows()
     ensures { PlaceRows }
+{}
+
+/// Last lines.
+pub fn last_rows()
+    ensures { LastRows }
 {}
 
 /// Operands.

@@ -1,5 +1,8 @@
 use Rattle.std.proofs.Common.{refl}
+use Rattle.dill_meaning.proofs.Lacks.{lacks_alike}
 use Rattle.dill_meaning.proofs.Lawful.{scripts_lawful, main_begins, left_counts}
+use Rattle.dill_meaning.proofs.Making.{each_form_makes}
+use Rattle.dill_meaning.proofs.Told.{calls_told}
 use Rattle.dill_meaning.proofs.laws.scripts_are_lawful.Goals as goal
 
 pub returns-clause-lawful : goal.returns-clause-lawful
@@ -13,3 +16,12 @@ returns-clause-left c = left_counts
 
 pub returns-clause-calls : goal.returns-clause-calls
 returns-clause-calls c = refl
+
+pub returns-clause-lacks : goal.returns-clause-lacks
+returns-clause-lacks c = lacks_alike
+
+pub returns-clause-forms : goal.returns-clause-forms
+returns-clause-forms c = each_form_makes
+
+pub returns-clause-told : goal.returns-clause-told
+returns-clause-told c = calls_told

@@ -4,4 +4,4 @@ use Rattle.dill_meaning.proofs.rows.number_rows.Goals as goal
 
 pub returns : goal.returns
 unfolding digits
-returns c = record { sums = refl; greater_before = refl; moments = refl }
+returns c = record { sums = refl; up_to_the_greatest = refl; greater_before = refl; moments = refl }
