@@ -10,5 +10,7 @@ pub mod Looped
 pub mod Readings
 pub mod Lacks
 pub mod Limits
+pub mod Session
+pub mod Words
 pub mod Relay
 pub mod Stories

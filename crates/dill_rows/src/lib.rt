@@ -10,6 +10,8 @@ ghost use Rattle.dill_rows.specs.Looped.{LoadCounts, LoopedDetach, LoopedWait};
 ghost use Rattle.dill_rows.specs.Readings.{Occupied, DeadClause, GiveUps, CancelledTakers, DoneAndBroken, GivenBack};
 ghost use Rattle.dill_rows.specs.Lacks.{LacksChangeNothing};
 ghost use Rattle.dill_rows.specs.Limits.{LimitsAreExact};
+ghost use Rattle.dill_rows.specs.Session.{WebsocketSession};
+ghost use Rattle.dill_rows.specs.Words.{FailedDetachWords, ReplacedPongs};
 ghost use Rattle.dill_rows.specs.Relay.{RelayToWebsocket, LoadOfFour};
 ghost use Rattle.dill_rows.specs.Stories.{WorkedStories};
 
@@ -186,6 +188,21 @@ pub fn lacks_change_nothing()
 /// The last handle, the last number and the last link can be had, and no more.
 pub fn limits_are_exact()
     ensures { LimitsAreExact }
+{}
+
+/// A WebSocket server over one connection, up to a frame that it refuses.
+pub fn websocket_server_session()
+    ensures { WebsocketSession }
+{}
+
+/// A client's pong has used up its random word, also where the detach that queued it fails in the same look.
+pub fn failed_detach_uses_its_words()
+    ensures { FailedDetachWords }
+{}
+
+/// A pong that takes an earlier one's place goes at that place, with a random word of its own.
+pub fn replaced_pong_keeps_its_place()
+    ensures { ReplacedPongs }
 {}
 
 /// Three clients over PREFIX to a WebSocket upstream.
