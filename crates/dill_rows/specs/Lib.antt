@@ -10,7 +10,9 @@ pub mod Looped
 pub mod Readings
 pub mod Lacks
 pub mod Limits
+pub mod InUse
 pub mod Session
 pub mod Words
 pub mod Relay
 pub mod Stories
+pub mod Stops

@@ -10,6 +10,8 @@ ghost use Rattle.dill_rows.specs.Looped.{LoadCounts, LoopedDetach, LoopedWait};
 ghost use Rattle.dill_rows.specs.Readings.{Occupied, DeadClause, GiveUps, CancelledTakers, DoneAndBroken, GivenBack};
 ghost use Rattle.dill_rows.specs.Lacks.{LacksChangeNothing};
 ghost use Rattle.dill_rows.specs.Limits.{LimitsAreExact};
+ghost use Rattle.dill_rows.specs.InUse.{HandshakeKinds, LeavingOccupies, EndsAreSends, HeadsInUse};
+ghost use Rattle.dill_rows.specs.Stops.{RootClosingNotes, QueuedPongs, RefusedHeatsNothing, RepliesUsedUp};
 ghost use Rattle.dill_rows.specs.Session.{WebsocketSession};
 ghost use Rattle.dill_rows.specs.Words.{FailedDetachWords, ReplacedPongs};
 ghost use Rattle.dill_rows.specs.Relay.{RelayToWebsocket, LoadOfFour};
@@ -218,4 +220,44 @@ pub fn load_of_four()
 /// The story of a run over the rules: its bytes and its asks.
 pub fn worked_stories()
     ensures { WorkedStories }
+{}
+
+/// While a handshake is pending what needs a byte socket isn't supported, and all else is busy.
+pub fn pending_handshake_decides_the_kind()
+    ensures { HandshakeKinds }
+{}
+
+/// While a detach or a `tcp_close` is pending every other call on the number is busy.
+pub fn pending_detach_occupies()
+    ensures { LeavingOccupies }
+{}
+
+/// While an end is pending a send is busy, and the other way round.
+pub fn ends_count_as_sends()
+    ensures { EndsAreSends }
+{}
+
+/// A pending line of a head counts as sent, and an awaited one not as received.
+pub fn pending_lines_of_heads()
+    ensures { HeadsInUse }
+{}
+
+/// What the closing of the root gives up is noted before the first turn behind the stop.
+pub fn notes_of_closing_the_root()
+    ensures { RootClosingNotes }
+{}
+
+/// A queued pong doesn't keep a run from being stuck, and is never written once the run is over.
+pub fn queued_pong_keeps_nothing_going()
+    ensures { QueuedPongs }
+{}
+
+/// A call that is refused makes no direction hot.
+pub fn refused_call_heats_nothing()
+    ensures { RefusedHeatsNothing }
+{}
+
+/// A listed reply that doesn't fit is a failure and is used up.
+pub fn unfitting_replies_are_used_up()
+    ensures { RepliesUsedUp }
 {}
