@@ -16,3 +16,6 @@ pub mod Words
 pub mod Relay
 pub mod Stories
 pub mod Stops
+pub mod Ends
+pub mod Orders
+pub mod Cancelled

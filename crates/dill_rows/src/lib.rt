@@ -12,6 +12,9 @@ ghost use Rattle.dill_rows.specs.Lacks.{LacksChangeNothing};
 ghost use Rattle.dill_rows.specs.Limits.{LimitsAreExact};
 ghost use Rattle.dill_rows.specs.InUse.{HandshakeKinds, LeavingOccupies, EndsAreSends, HeadsInUse};
 ghost use Rattle.dill_rows.specs.Stops.{RootClosingNotes, QueuedPongs, RefusedHeatsNothing, RepliesUsedUp};
+ghost use Rattle.dill_rows.specs.Ends.{LowerEndMet, FailedEnds, LateLines, BrokenAttaches, JoinedTooMuch};
+ghost use Rattle.dill_rows.specs.Orders.{ExpiryOrder, EndingsChain, WaiterCameInside, WaiterOutside, ChoiceClauses};
+ghost use Rattle.dill_rows.specs.Cancelled.{CancelledLacks, EndsTakeNothing, CancelledReceives};
 ghost use Rattle.dill_rows.specs.Session.{WebsocketSession};
 ghost use Rattle.dill_rows.specs.Words.{FailedDetachWords, ReplacedPongs};
 ghost use Rattle.dill_rows.specs.Relay.{RelayToWebsocket, LoadOfFour};
@@ -260,4 +263,57 @@ pub fn refused_call_heats_nothing()
 /// A listed reply that doesn't fit is a failure and is used up.
 pub fn unfitting_replies_are_used_up()
     ensures { RepliesUsedUp }
+{}
+
+/// A detach that meets the end of a layer below sends what it sends, and releases the stack.
+pub fn lower_end_met_by_a_detach()
+    ensures { LowerEndMet }
+{}
+
+/// An end or a first line whose write failed counts as made; one that is given up before a byte has gone doesn't.
+pub fn failed_and_late_ends()
+    ensures failed { FailedEnds }
+    ensures late { LateLines }
+{}
+
+/// Nothing can be attached where one direction is broken.
+pub fn broken_directions_refuse_attaches()
+    ensures { BrokenAttaches }
+{}
+
+/// What an earlier receive joined is too much for a detach only at the next frame.
+pub fn joined_too_much_for_a_detach()
+    ensures { JoinedTooMuch }
+{}
+
+/// What expires at one moment goes by deadline and coroutine.
+pub fn expiry_goes_by_deadline_and_coroutine()
+    ensures { ExpiryOrder }
+{}
+
+/// Endings that can finish do so before a closing is answered.
+pub fn endings_before_answers()
+    ensures { EndingsChain }
+{}
+
+/// A closing cancels who waits for the bundle inside it, and tells the others that it is dead.
+pub fn closing_and_those_who_wait()
+    ensures inside { WaiterCameInside }
+    ensures outside { WaiterOutside }
+{}
+
+/// A choice is refused whole for one clause, and a dead end is that clause's own errno only while it waits.
+pub fn one_clause_refuses_the_choice()
+    ensures { ChoiceClauses }
+{}
+
+/// A cancelled caller's lack is counted, and the end of a program lacks nothing.
+pub fn lacks_of_the_cancelled_and_the_ending()
+    ensures cancelled { CancelledLacks }
+    ensures ends { EndsTakeNothing }
+{}
+
+/// A cancelled coroutine is given nothing, and nothing is used.
+pub fn cancelled_receives_give_nothing()
+    ensures { CancelledReceives }
 {}
