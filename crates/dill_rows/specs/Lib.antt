@@ -19,3 +19,5 @@ pub mod Stops
 pub mod Ends
 pub mod Orders
 pub mod Cancelled
+pub mod Handshakes
+pub mod Leaving

@@ -52,3 +52,11 @@ told read write = Woke 5 (record { link = 1; read = read; write = write } ∷ []
 pub record ReplacedPongs : Type 0 where
   pub replaced : does (counted (connected (idle 0 ∷ Came (137 ∷ 1 ∷ 1 ∷ 137 ∷ 1 ∷ 2 ∷ 129 ∷ 1 ∷ 97 ∷ []) ∷ idle 0 ∷ Took 7 ∷ idle 0 ∷ Took 7 ∷ [])) 60 receives_first) (codes "1 start =0" ∷ codes "1 tcp_connect =1" ∷ codes "moved 1 2" ∷ codes "1 ws_attach_nohttp =2" ∷ codes "1 mrecv #1:61" ∷ codes "1 msend =0" ∷ codes "1 end ok" ∷ codes "freed 2" ∷ codes "summary status=0 errno=none turns=5 rounds=5 closing=0 made=2 gone=2 lacks=0" ∷ []) (codes "wait 0" ∷ codes "wait 0" ∷ codes "connect 1" ∷ codes "finish 1" ∷ codes "wait 0" ∷ codes "read 1" ∷ codes "wait 0" ∷ codes "write 1 #7:8a810202020200" ∷ codes "wait 0" ∷ codes "write 1 #7:8181030303037b" ∷ codes "close 1" ∷ []) ≡ true
   pub in_place : does (counted (connected (idle 0 ∷ Came (137 ∷ 1 ∷ 1 ∷ []) ∷ idle 0 ∷ NotYet ∷ NotYet ∷ idle 5 ∷ idle 5 ∷ NotYet ∷ told true false ∷ Came (137 ∷ 1 ∷ 2 ∷ []) ∷ idle 5 ∷ NotYet ∷ told false true ∷ Took 7 ∷ idle 5 ∷ Took 7 ∷ [])) 70 receives_beside) (codes "1 start =0" ∷ codes "1 tcp_connect =1" ∷ codes "moved 1 2" ∷ codes "1 ws_attach_nohttp =2" ∷ codes "1 go =3" ∷ codes "2 start =0" ∷ codes "1 msleep =0" ∷ codes "1 msend =0" ∷ codes "1 end ok" ∷ codes "2 mrecv ECANCELED" ∷ codes "2 end ECANCELED" ∷ codes "freed 3" ∷ codes "freed 2" ∷ codes "summary status=0 errno=none turns=8 rounds=10 closing=0 made=3 gone=3 lacks=0" ∷ []) (codes "wait 0" ∷ codes "wait 0" ∷ codes "connect 1" ∷ codes "finish 1" ∷ codes "wait 0" ∷ codes "read 1" ∷ codes "wait 0" ∷ codes "write 1 #7:8a810101010100" ∷ codes "read 1" ∷ codes "wait until 5" ∷ codes "wait 0" ∷ codes "write 1 #7:8a810101010100" ∷ codes "wait" ∷ codes "read 1" ∷ codes "wait 0" ∷ codes "read 1" ∷ codes "wait" ∷ codes "write 1 #7:8a810303030301" ∷ codes "wait 0" ∷ codes "write 1 #7:8181020202027a" ∷ codes "close 1" ∷ []) ≡ true
+
+-- an end over a client of WebSocket, which is left, and a message behind it
+abbrev pub leaves_end : ℕ → List ℕ → Text
+leaves_end program args = plain 0 (Does (calls.TcpConnect (place 9) Never) ∷ Does (calls.WsAttachNohttp 1 true true) ∷ Does (calls.TermAttach 2 (codes "bye")) ∷ Does (calls.TermDetach 3 Never) ∷ Does (calls.Msend 4 (codes "hi") Never) ∷ [])
+
+-- A detach isn't kept waiting by the pong that it queued: it is handed back with the stack, and goes before the next message.
+pub record HandedBackPong : Type 0 where
+  pub run : does (counted (connected (idle 0 ∷ Took 9 ∷ Came (137 ∷ 0 ∷ 129 ∷ 3 ∷ codes "bye") ∷ idle 0 ∷ Took 6 ∷ idle 0 ∷ Took 8 ∷ [])) 60 leaves_end) (codes "1 start =0" ∷ codes "1 tcp_connect =1" ∷ codes "moved 1 2" ∷ codes "1 ws_attach_nohttp =2" ∷ codes "moved 2 3" ∷ codes "1 term_attach =3" ∷ codes "moved 3 4" ∷ codes "1 term_detach =4" ∷ codes "1 msend =0" ∷ codes "1 end ok" ∷ codes "freed 4" ∷ codes "summary status=0 errno=none turns=6 rounds=5 closing=0 made=4 gone=4 lacks=0" ∷ []) (codes "wait 0" ∷ codes "wait 0" ∷ codes "connect 1" ∷ codes "finish 1" ∷ codes "wait 0" ∷ codes "write 1 #9:818301010101637864" ∷ codes "read 1" ∷ codes "wait 0" ∷ codes "write 1 #6:8a8002020202" ∷ codes "wait 0" ∷ codes "write 1 #8:8182030303036b6a" ∷ codes "close 1" ∷ []) ≡ true

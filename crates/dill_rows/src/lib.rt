@@ -16,7 +16,9 @@ ghost use Rattle.dill_rows.specs.Ends.{LowerEndMet, FailedEnds, LateLines, Broke
 ghost use Rattle.dill_rows.specs.Orders.{ExpiryOrder, EndingsChain, WaiterCameInside, WaiterOutside, ChoiceClauses};
 ghost use Rattle.dill_rows.specs.Cancelled.{CancelledLacks, EndsTakeNothing, CancelledReceives};
 ghost use Rattle.dill_rows.specs.Session.{WebsocketSession};
-ghost use Rattle.dill_rows.specs.Words.{FailedDetachWords, ReplacedPongs};
+ghost use Rattle.dill_rows.specs.Words.{FailedDetachWords, ReplacedPongs, HandedBackPong};
+ghost use Rattle.dill_rows.specs.Handshakes.{ClientSession, RefusedHead};
+ghost use Rattle.dill_rows.specs.Leaving.{RequestThenBody, ClosedInOrder, GivenUpShut, CancelledLeavers};
 ghost use Rattle.dill_rows.specs.Relay.{RelayToWebsocket, LoadOfFour};
 ghost use Rattle.dill_rows.specs.Stories.{WorkedStories};
 
@@ -316,4 +318,35 @@ pub fn lacks_of_the_cancelled_and_the_ending()
 /// A cancelled coroutine is given nothing, and nothing is used.
 pub fn cancelled_receives_give_nothing()
     ensures { CancelledReceives }
+{}
+
+/// A pong that a detach queued is handed back with the stack.
+pub fn pong_is_handed_back()
+    ensures { HandedBackPong }
+{}
+
+/// A WebSocket client over one connection, and one whose answer is refused.
+pub fn websocket_client_session()
+    ensures { ClientSession }
+{}
+
+/// A server that refuses a client's head sends nothing.
+pub fn refused_head_sends_nothing()
+    ensures { RefusedHead }
+{}
+
+/// A request, its answer, and the body behind the head.
+pub fn http_request_then_body()
+    ensures { RequestThenBody }
+{}
+
+/// A link that is closed in order, and a `tcp_done` that is given up before its `shut`.
+pub fn links_closed_and_shut()
+    ensures closed { ClosedInOrder }
+    ensures given_up { GivenUpShut }
+{}
+
+/// A cancelled caller is busy where it would leave a layer of another's stack, and releases its own.
+pub fn cancelled_leavers()
+    ensures { CancelledLeavers }
 {}
