@@ -21,3 +21,5 @@ pub mod Orders
 pub mod Cancelled
 pub mod Handshakes
 pub mod Leaving
+pub mod Outside
+pub mod Faults

@@ -15,6 +15,8 @@ ghost use Rattle.dill_rows.specs.Stops.{RootClosingNotes, QueuedPongs, RefusedHe
 ghost use Rattle.dill_rows.specs.Ends.{LowerEndMet, FailedEnds, LateLines, BrokenAttaches, JoinedTooMuch};
 ghost use Rattle.dill_rows.specs.Orders.{ExpiryOrder, EndingsChain, WaiterCameInside, WaiterOutside, ChoiceClauses};
 ghost use Rattle.dill_rows.specs.Cancelled.{CancelledLacks, EndsTakeNothing, CancelledReceives};
+ghost use Rattle.dill_rows.specs.Outside.{MomentsAndTurns, ReadyLinks, ListenersThatFail, KernelWantsMemory};
+ghost use Rattle.dill_rows.specs.Faults.{LinkFails, ShortEndKeeps, TooLongAndTooLate, GiftRefusals, Kinds};
 ghost use Rattle.dill_rows.specs.Session.{WebsocketSession};
 ghost use Rattle.dill_rows.specs.Words.{FailedDetachWords, ReplacedPongs, HandedBackPong};
 ghost use Rattle.dill_rows.specs.Handshakes.{ClientSession, RefusedHead};
@@ -349,4 +351,45 @@ pub fn links_closed_and_shut()
 /// A cancelled caller is busy where it would leave a layer of another's stack, and releases its own.
 pub fn cancelled_leavers()
     ensures { CancelledLeavers }
+{}
+
+/// The moment never falls, and a round has 64 turns at most.
+pub fn moments_and_turns()
+    ensures { MomentsAndTurns }
+{}
+
+/// A link is tried where it is told ready, and one that isn't there is passed over.
+pub fn ready_links()
+    ensures { ReadyLinks }
+{}
+
+/// The faults of listeners, whose link numbers aren't used up.
+pub fn listeners_that_fail()
+    ensures { ListenersThatFail }
+{}
+
+/// Each want of memory that the kernel tells is counted.
+pub fn kernel_wants_memory()
+    ensures { KernelWantsMemory }
+{}
+
+/// A link that fails answers the calls of both its directions, and a short end keeps what came.
+pub fn links_that_fail_or_end()
+    ensures fails { LinkFails }
+    ensures ends { ShortEndKeeps }
+{}
+
+/// A message over the limit, and a detach that is late.
+pub fn too_long_and_too_late()
+    ensures { TooLongAndTooLate }
+{}
+
+/// Gifts that are refused, and one that isn't.
+pub fn gifts_that_are_refused()
+    ensures { GiftRefusals }
+{}
+
+/// Each thing has its kind, and a stack that of its top.
+pub fn kinds_of_things()
+    ensures { Kinds }
 {}
