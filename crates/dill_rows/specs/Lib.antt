@@ -23,3 +23,6 @@ pub mod Handshakes
 pub mod Leaving
 pub mod Outside
 pub mod Faults
+pub mod Taking
+pub mod Meeting
+pub mod Layers

@@ -17,6 +17,9 @@ ghost use Rattle.dill_rows.specs.Orders.{ExpiryOrder, EndingsChain, WaiterCameIn
 ghost use Rattle.dill_rows.specs.Cancelled.{CancelledLacks, EndsTakeNothing, CancelledReceives};
 ghost use Rattle.dill_rows.specs.Outside.{MomentsAndTurns, ReadyLinks, ListenersThatFail, KernelWantsMemory};
 ghost use Rattle.dill_rows.specs.Faults.{LinkFails, ShortEndKeeps, TooLongAndTooLate, GiftRefusals, Kinds};
+ghost use Rattle.dill_rows.specs.Taking.{CancelledOwner, CancelledOwn, AwaitedListener};
+ghost use Rattle.dill_rows.specs.Meeting.{EndsOfChannels, LongestWaiting};
+ghost use Rattle.dill_rows.specs.Layers.{PeerCloses, EndSentOnce, AttachKeepsUnread, AfterShut};
 ghost use Rattle.dill_rows.specs.Session.{WebsocketSession};
 ghost use Rattle.dill_rows.specs.Words.{FailedDetachWords, ReplacedPongs, HandedBackPong};
 ghost use Rattle.dill_rows.specs.Handshakes.{ClientSession, RefusedHead};
@@ -392,4 +395,41 @@ pub fn gifts_that_are_refused()
 /// Each thing has its kind, and a stack that of its top.
 pub fn kinds_of_things()
     ensures { Kinds }
+{}
+
+/// What others and it itself may do with the handles of a cancelled coroutine.
+pub fn handles_of_the_cancelled()
+    ensures others { CancelledOwner }
+    ensures own { CancelledOwn }
+{}
+
+/// A listener at which somebody waits can't be awaited again, nor be taken.
+pub fn awaited_listener()
+    ensures { AwaitedListener }
+{}
+
+/// Ends of channels that die or are done while others wait.
+pub fn ends_of_channels()
+    ensures { EndsOfChannels }
+{}
+
+/// Who has waited longest at a channel is met first.
+pub fn longest_waiting_is_met()
+    ensures { LongestWaiting }
+{}
+
+/// Behind the peer's close frame messages still go, and a detach is answered once its own has gone.
+pub fn peer_closes_first()
+    ensures { PeerCloses }
+{}
+
+/// An end is sent once, and what came before a layer is read through it.
+pub fn layers_keep_what_came()
+    ensures end { EndSentOnce }
+    ensures unread { AttachKeepsUnread }
+{}
+
+/// What a link refuses that had its `shut`, and how it is closed.
+pub fn after_a_shut()
+    ensures { AfterShut }
 {}

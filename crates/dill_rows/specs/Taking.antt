@@ -1,0 +1,35 @@
+-- Worked runs of handles of those that are cancelled, by others and by themselves, and of a listener that is awaited.
+use Rattle.std.specs.Prelude.{◌≡◌, true, ℕ, zero, suc, List, [], ◌∷◌, codes}
+use Rattle.dill_base.specs.declared.deadline.Deadline.TheVariants.{Never}
+use Rattle.dill_calls.specs.declared.call.Call.TheVariants as calls
+use Rattle.dill_calls.specs.declared.lists.Arg.TheVariants.{Give}
+use Rattle.dill_kernel.specs.declared.replies.KernelReply.TheVariants.{Done}
+use Rattle.dill_rows.specs.Play.{Does, Tries, Text}
+use Rattle.dill_rows.specs.Playing.{plain, played, replayed, idle, place, connected}
+use Rattle.dill_rows.specs.Runs.{prints}
+
+abbrev pub takes_late : ℕ → List ℕ → Text
+takes_late zero args = plain 0 (Does calls.Bundle ∷ Does (calls.BundleGo 1 1 []) ∷ Does (calls.Go 2 []) ∷ Does calls.Yield ∷ Does (calls.Hclose 1) ∷ [])
+takes_late (suc zero) args = record { count = 0; body = Does calls.Bundle ∷ Does (calls.Msleep Never) ∷ []; last = Tries (calls.Msleep Never) ∷ Tries (calls.Msleep Never) ∷ [] }
+takes_late (suc (suc zero)) args = plain 0 (Does calls.Yield ∷ Tries (calls.BundleGo 3 3 []) ∷ Tries (calls.Hown 3) ∷ Tries (calls.BundleWait 3 Never) ∷ [])
+takes_late program args = plain 0 []
+
+-- A handle of a coroutine that is cancelled can't be taken, and its bundle takes no child; it may be waited for.
+pub record CancelledOwner : Type 0 where
+  pub run : prints (played 60 takes_late) (codes "1 start =0" ∷ codes "1 bundle =1" ∷ codes "1 bundle_go =0" ∷ codes "2 start =0" ∷ codes "1 go =2" ∷ codes "3 start =0" ∷ codes "2 bundle =3" ∷ codes "1 yield =0" ∷ codes "3 yield =0" ∷ codes "2 msleep ECANCELED" ∷ codes "3 bundle_go EBUSY" ∷ codes "2 msleep ECANCELED" ∷ codes "3 hown EBUSY" ∷ codes "2 msleep ECANCELED" ∷ codes "2 end ECANCELED" ∷ codes "freed 3" ∷ codes "freed 1" ∷ codes "3 bundle_wait =0" ∷ codes "3 end ok" ∷ codes "1 hclose =0" ∷ codes "1 end ok" ∷ codes "freed 2" ∷ codes "summary status=0 errno=none turns=16 rounds=1 closing=0 made=3 gone=3 lacks=0" ∷ []) ≡ true
+
+abbrev pub takes_own : ℕ → List ℕ → Text
+takes_own zero args = plain 0 (Does (calls.TcpConnect (place 9) Never) ∷ Does calls.Bundle ∷ Does (calls.BundleGo 2 1 (Give 1 ∷ [])) ∷ Does calls.Yield ∷ Does (calls.Hclose 2) ∷ [])
+takes_own program args = plain 1 (Tries (calls.Msleep Never) ∷ Does (calls.Hown 3) ∷ Tries (calls.PrefixAttach 4 2 true) ∷ Does (calls.Hquery 4 4) ∷ Does (calls.Hclose 4) ∷ Does calls.Now ∷ Tries calls.Yield ∷ [])
+
+-- What is its own a cancelled coroutine may renumber, query and close; what blocks or makes it may not do.
+pub record CancelledOwn : Type 0 where
+  pub run : prints (replayed (connected []) 60 takes_own) (codes "1 start =0" ∷ codes "1 tcp_connect =1" ∷ codes "1 bundle =2" ∷ codes "moved 1 3" ∷ codes "1 bundle_go =0" ∷ codes "2 start =0" ∷ codes "1 yield =0" ∷ codes "2 msleep ECANCELED" ∷ codes "moved 3 4" ∷ codes "2 hown =4" ∷ codes "2 prefix_attach ECANCELED" ∷ codes "2 hquery =0" ∷ codes "freed 4" ∷ codes "2 hclose =0" ∷ codes "2 now =0" ∷ codes "2 yield ECANCELED" ∷ codes "2 end ok" ∷ codes "freed 2" ∷ codes "1 hclose =0" ∷ codes "1 end ok" ∷ codes "summary status=0 errno=none turns=14 rounds=2 closing=0 made=4 gone=4 lacks=0" ∷ []) ≡ true
+
+abbrev pub accepts_twice : ℕ → List ℕ → Text
+accepts_twice zero args = plain 0 (Does (calls.TcpListen (place 9) 1) ∷ Does (calls.Go 1 []) ∷ Does calls.Yield ∷ Tries (calls.TcpAccept 1 Never) ∷ Tries (calls.Hown 1) ∷ [])
+accepts_twice program args = plain 0 (Does (calls.TcpAccept 1 Never) ∷ [])
+
+-- A listener at which somebody waits can't be awaited again, nor be taken.
+pub record AwaitedListener : Type 0 where
+  pub run : prints (replayed (idle 0 ∷ idle 0 ∷ Done ∷ []) 50 accepts_twice) (codes "1 start =0" ∷ codes "1 tcp_listen =1" ∷ codes "1 go =2" ∷ codes "2 start =0" ∷ codes "1 yield =0" ∷ codes "1 tcp_accept EBUSY" ∷ codes "1 hown EBUSY" ∷ codes "1 end ok" ∷ codes "2 tcp_accept ECANCELED" ∷ codes "2 end ECANCELED" ∷ codes "freed 2" ∷ codes "freed 1" ∷ codes "summary status=0 errno=none turns=8 rounds=2 closing=0 made=2 gone=2 lacks=0" ∷ []) ≡ true
