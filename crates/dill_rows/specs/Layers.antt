@@ -38,3 +38,10 @@ closes_after_shut program args = plain 0 (Does (calls.TcpConnect (place 9) Never
 pub record AfterShut : Type 0 where
   pub sends : does (replayed (connected (idle 0 ∷ Done ∷ [])) 50 after_shut) (codes "1 start =0" ∷ codes "1 tcp_connect =1" ∷ codes "1 tcp_done =0" ∷ codes "1 ws_attach_client EINVAL" ∷ codes "1 ws_attach_client EPIPE" ∷ codes "1 ws_attach_server EPIPE" ∷ codes "moved 1 2" ∷ codes "1 prefix_attach =2" ∷ codes "moved 2 3" ∷ codes "1 term_attach =3" ∷ codes "1 msend EPIPE" ∷ codes "freed 3" ∷ codes "1 term_detach EPIPE" ∷ codes "1 end ok" ∷ codes "summary status=0 errno=none turns=10 rounds=3 closing=0 made=3 gone=3 lacks=0" ∷ []) (codes "wait 0" ∷ codes "wait 0" ∷ codes "connect 1" ∷ codes "finish 1" ∷ codes "wait 0" ∷ codes "shut 1" ∷ codes "close 1" ∷ []) ≡ true
   pub closes : does (replayed (connected (idle 0 ∷ Done ∷ idle 0 ∷ End ∷ [])) 50 closes_after_shut) (codes "1 start =0" ∷ codes "1 tcp_connect =1" ∷ codes "1 tcp_done =0" ∷ codes "freed 1" ∷ codes "1 tcp_close =0" ∷ codes "1 end ok" ∷ codes "summary status=0 errno=none turns=4 rounds=4 closing=0 made=1 gone=1 lacks=0" ∷ []) (codes "wait 0" ∷ codes "wait 0" ∷ codes "connect 1" ∷ codes "finish 1" ∷ codes "wait 0" ∷ codes "shut 1" ∷ codes "wait 0" ∷ codes "read 1" ∷ codes "close 1" ∷ []) ≡ true
+
+abbrev pub reads_lines : ℕ → List ℕ → Text
+reads_lines program args = plain 0 (Does (calls.TcpConnect (place 9) Never) ∷ Does (calls.Brecv 1 0 Never) ∷ Does (calls.SuffixAttach 1 (codes "\r\n")) ∷ Does (calls.Mrecv 2 9 Never) ∷ Does (calls.Msend 2 (codes "x") Never) ∷ Does (calls.SuffixDetach 2) ∷ Does (calls.Brecv 3 2 Never) ∷ [])
+
+-- Messages before CR LF, and what stands behind them; no bytes are received without a read.
+pub record LinesOverLink : Type 0 where
+  pub run : does (replayed (connected (idle 0 ∷ Came (codes "ab\r\ncd") ∷ idle 0 ∷ Took 3 ∷ [])) 50 reads_lines) (codes "1 start =0" ∷ codes "1 tcp_connect =1" ∷ codes "1 brecv #0:" ∷ codes "moved 1 2" ∷ codes "1 suffix_attach =2" ∷ codes "1 mrecv #2:6162" ∷ codes "1 msend =0" ∷ codes "moved 2 3" ∷ codes "1 suffix_detach =3" ∷ codes "1 brecv #2:6364" ∷ codes "1 end ok" ∷ codes "freed 3" ∷ codes "summary status=0 errno=none turns=8 rounds=4 closing=0 made=3 gone=3 lacks=0" ∷ []) (codes "wait 0" ∷ codes "wait 0" ∷ codes "connect 1" ∷ codes "finish 1" ∷ codes "wait 0" ∷ codes "read 1" ∷ codes "wait 0" ∷ codes "write 1 #3:780d0a" ∷ codes "close 1" ∷ []) ≡ true

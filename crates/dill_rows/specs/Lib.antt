@@ -26,3 +26,4 @@ pub mod Faults
 pub mod Taking
 pub mod Meeting
 pub mod Layers
+pub mod Bounds

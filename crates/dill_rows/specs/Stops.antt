@@ -6,8 +6,8 @@ use Rattle.dill_kernel.specs.declared.replies.KernelFault.TheVariants as faults
 use Rattle.dill_kernel.specs.declared.replies.KernelReply.{KernelReply}
 use Rattle.dill_kernel.specs.declared.replies.KernelReply.TheVariants.{Done, NotYet, Came, Took, Failed}
 use Rattle.dill_rows.specs.Play.{Item, Does, Tries, Text}
-use Rattle.dill_rows.specs.Playing.{plain, played_over, replayed, idle, place, connected}
-use Rattle.dill_rows.specs.Runs.{listed, does, text}
+use Rattle.dill_rows.specs.Playing.{plain, played, played_over, replayed, idle, place, connected}
+use Rattle.dill_rows.specs.Runs.{listed, prints, does, text}
 use Rattle.dill_rows.specs.Stories.{story, tells}
 
 abbrev pub closes : ℕ → List ℕ → Text
@@ -47,3 +47,11 @@ connects_again program args = plain 0 (Does (calls.TcpConnect (place 9) Never) �
 pub record RepliesUsedUp : Type 0 where
   pub read : tells (story true 1000000000 120 connects_again (connected (idle 0 ∷ Took 3 ∷ idle 0 ∷ Done ∷ Done ∷ [])) [] None) (text (codes "1 start =0" ∷ codes "1 tcp_connect =1" ∷ codes "1 brecv ECONNRESET" ∷ codes "1 tcp_connect =2" ∷ codes "1 end ok" ∷ codes "freed 2" ∷ codes "freed 1" ∷ codes "summary status=0 errno=none turns=4 rounds=4 closing=0 made=2 gone=2 lacks=0" ∷ [])) (codes "wait 0" ∷ codes "wait 0" ∷ codes "connect 1" ∷ codes "finish 1" ∷ codes "wait 0" ∷ codes "read 1" ∷ codes "wait 0" ∷ codes "connect 2" ∷ codes "finish 2" ∷ codes "close 1" ∷ codes "close 2" ∷ []) ≡ true
   pub wait : tells (story true 1000000000 60 connects_again (Done ∷ []) [] None) (text (codes "1 start =0" ∷ codes "1 tcp_connect ECANCELED" ∷ codes "1 end ECANCELED" ∷ codes "summary status=9 errno=none turns=0 rounds=1 closing=2 made=0 gone=0 lacks=0" ∷ [])) (codes "wait 0" ∷ []) ≡ true
+
+abbrev pub both_wait : ℕ → List ℕ → Text
+both_wait zero args = plain 0 (Does calls.Chmake ∷ Does (calls.Go 1 []) ∷ Does (calls.Chrecv 2 1 Never) ∷ [])
+both_wait program args = plain 0 (Does (calls.Msleep Never) ∷ [])
+
+-- All that wait in a stuck run are told, the lower coroutine first, before anybody is cancelled.
+pub record AllWaitersTold : Type 0 where
+  pub run : prints (played 40 both_wait) (codes "1 start =0" ∷ codes "1 chmake =1,2" ∷ codes "1 go =3" ∷ codes "2 start =0" ∷ codes "waiting 1 chrecv" ∷ codes "waiting 2 msleep" ∷ codes "1 chrecv ECANCELED" ∷ codes "1 end ECANCELED" ∷ codes "2 msleep ECANCELED" ∷ codes "2 end ECANCELED" ∷ codes "freed 3" ∷ codes "freed 2" ∷ codes "freed 1" ∷ codes "summary status=8 errno=none turns=4 rounds=1 closing=2 made=3 gone=3 lacks=0" ∷ []) ≡ true

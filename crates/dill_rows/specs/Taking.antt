@@ -2,10 +2,10 @@
 use Rattle.std.specs.Prelude.{◌≡◌, true, ℕ, zero, suc, List, [], ◌∷◌, codes}
 use Rattle.dill_base.specs.declared.deadline.Deadline.TheVariants.{Never}
 use Rattle.dill_calls.specs.declared.call.Call.TheVariants as calls
-use Rattle.dill_calls.specs.declared.lists.Arg.TheVariants.{Give}
+use Rattle.dill_calls.specs.declared.lists.Arg.TheVariants.{Show, Give}
 use Rattle.dill_kernel.specs.declared.replies.KernelReply.TheVariants.{Done}
 use Rattle.dill_rows.specs.Play.{Does, Tries, Text}
-use Rattle.dill_rows.specs.Playing.{plain, played, replayed, idle, place, connected}
+use Rattle.dill_rows.specs.Playing.{plain, nth, played, replayed, idle, place, connected}
 use Rattle.dill_rows.specs.Runs.{prints}
 
 abbrev pub takes_late : ℕ → List ℕ → Text
@@ -33,3 +33,11 @@ accepts_twice program args = plain 0 (Does (calls.TcpAccept 1 Never) ∷ [])
 -- A listener at which somebody waits can't be awaited again, nor be taken.
 pub record AwaitedListener : Type 0 where
   pub run : prints (replayed (idle 0 ∷ idle 0 ∷ Done ∷ []) 50 accepts_twice) (codes "1 start =0" ∷ codes "1 tcp_listen =1" ∷ codes "1 go =2" ∷ codes "2 start =0" ∷ codes "1 yield =0" ∷ codes "1 tcp_accept EBUSY" ∷ codes "1 hown EBUSY" ∷ codes "1 end ok" ∷ codes "2 tcp_accept ECANCELED" ∷ codes "2 end ECANCELED" ∷ codes "freed 2" ∷ codes "freed 1" ∷ codes "summary status=0 errno=none turns=8 rounds=2 closing=0 made=2 gone=2 lacks=0" ∷ []) ≡ true
+
+abbrev pub attaches_anothers : ℕ → List ℕ → Text
+attaches_anothers zero args = plain 0 (Does (calls.TcpConnect (place 9) Never) ∷ Does (calls.Go 1 (Show 1 ∷ [])) ∷ Does (calls.BundleWait 2 Never) ∷ Tries (calls.Hquery 1 4) ∷ Tries (calls.Hquery 3 5) ∷ [])
+attaches_anothers program args = plain 1 (Does (calls.PrefixAttach (nth args 0) 2 true) ∷ [])
+
+-- Who attaches a layer to another's socket owns it from then on.
+pub record TakenByAttach : Type 0 where
+  pub run : prints (replayed (connected []) 40 attaches_anothers) (codes "1 start =0" ∷ codes "1 tcp_connect =1" ∷ codes "1 go =2" ∷ codes "2 start =0" ∷ codes "moved 1 3" ∷ codes "2 prefix_attach =3" ∷ codes "2 end ok" ∷ codes "freed 3" ∷ codes "1 bundle_wait =0" ∷ codes "1 hquery EBADF" ∷ codes "1 hquery EBADF" ∷ codes "1 end ok" ∷ codes "freed 2" ∷ codes "summary status=0 errno=none turns=8 rounds=2 closing=0 made=3 gone=3 lacks=0" ∷ []) ≡ true

@@ -11,15 +11,16 @@ ghost use Rattle.dill_rows.specs.Readings.{Occupied, DeadClause, GiveUps, Cancel
 ghost use Rattle.dill_rows.specs.Lacks.{LacksChangeNothing};
 ghost use Rattle.dill_rows.specs.Limits.{LimitsAreExact};
 ghost use Rattle.dill_rows.specs.InUse.{HandshakeKinds, LeavingOccupies, EndsAreSends, HeadsInUse};
-ghost use Rattle.dill_rows.specs.Stops.{RootClosingNotes, QueuedPongs, RefusedHeatsNothing, RepliesUsedUp};
+ghost use Rattle.dill_rows.specs.Stops.{RootClosingNotes, QueuedPongs, RefusedHeatsNothing, RepliesUsedUp, AllWaitersTold};
+ghost use Rattle.dill_rows.specs.Bounds.{BoundsOfLayers, BoundsOfChannels};
 ghost use Rattle.dill_rows.specs.Ends.{LowerEndMet, FailedEnds, LateLines, BrokenAttaches, JoinedTooMuch};
 ghost use Rattle.dill_rows.specs.Orders.{ExpiryOrder, EndingsChain, WaiterCameInside, WaiterOutside, ChoiceClauses};
 ghost use Rattle.dill_rows.specs.Cancelled.{CancelledLacks, EndsTakeNothing, CancelledReceives};
 ghost use Rattle.dill_rows.specs.Outside.{MomentsAndTurns, ReadyLinks, ListenersThatFail, KernelWantsMemory};
 ghost use Rattle.dill_rows.specs.Faults.{LinkFails, ShortEndKeeps, TooLongAndTooLate, GiftRefusals, Kinds};
-ghost use Rattle.dill_rows.specs.Taking.{CancelledOwner, CancelledOwn, AwaitedListener};
+ghost use Rattle.dill_rows.specs.Taking.{CancelledOwner, CancelledOwn, AwaitedListener, TakenByAttach};
 ghost use Rattle.dill_rows.specs.Meeting.{EndsOfChannels, LongestWaiting};
-ghost use Rattle.dill_rows.specs.Layers.{PeerCloses, EndSentOnce, AttachKeepsUnread, AfterShut};
+ghost use Rattle.dill_rows.specs.Layers.{PeerCloses, EndSentOnce, AttachKeepsUnread, AfterShut, LinesOverLink};
 ghost use Rattle.dill_rows.specs.Session.{WebsocketSession};
 ghost use Rattle.dill_rows.specs.Words.{FailedDetachWords, ReplacedPongs, HandedBackPong};
 ghost use Rattle.dill_rows.specs.Handshakes.{ClientSession, RefusedHead};
@@ -432,4 +433,25 @@ pub fn layers_keep_what_came()
 /// What a link refuses that had its `shut`, and how it is closed.
 pub fn after_a_shut()
     ensures { AfterShut }
+{}
+
+/// Arguments outside their ranges, and the last ones inside.
+pub fn bounds_of_arguments()
+    ensures layers { BoundsOfLayers }
+    ensures channels { BoundsOfChannels }
+{}
+
+/// Who attaches a layer to another's socket owns it from then on.
+pub fn taken_by_an_attach()
+    ensures { TakenByAttach }
+{}
+
+/// All that wait in a stuck run are told.
+pub fn all_waiters_are_told()
+    ensures { AllWaitersTold }
+{}
+
+/// Messages before CR LF over a link.
+pub fn lines_over_a_link()
+    ensures { LinesOverLink }
 {}
