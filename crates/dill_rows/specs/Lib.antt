@@ -27,3 +27,4 @@ pub mod Taking
 pub mod Meeting
 pub mod Layers
 pub mod Bounds
+pub mod SameStories

@@ -27,6 +27,7 @@ ghost use Rattle.dill_rows.specs.Handshakes.{ClientSession, RefusedHead};
 ghost use Rattle.dill_rows.specs.Leaving.{RequestThenBody, ClosedInOrder, GivenUpShut, CancelledLeavers};
 ghost use Rattle.dill_rows.specs.Relay.{RelayToWebsocket, LoadOfFour};
 ghost use Rattle.dill_rows.specs.Stories.{WorkedStories};
+ghost use Rattle.dill_rows.specs.SameStories.{SameStories};
 
 /// Three deadlines at one moment pass in the order of the coroutines.
 pub fn equal_deadlines_lower_first()
@@ -454,4 +455,9 @@ pub fn all_waiters_are_told()
 /// Messages before CR LF over a link.
 pub fn lines_over_a_link()
     ensures { LinesOverLink }
+{}
+
+/// The story of a run over the rules writes and asks what the worked run does.
+pub fn stories_of_worked_runs()
+    ensures { SameStories }
 {}
