@@ -1,11 +1,10 @@
 -- Worked runs whose story, over the same replies, writes the same bytes and asks the same.
-use Rattle.std.specs.Prelude.{◌≡◌, ℕ, ◌*◌, List, [], ◌∷◌, ◌++◌, ◌&&◌, Bool, true, None, codes, bytes_eq, flat_map}
+use Rattle.std.specs.Prelude.{◌≡◌, ℕ, ◌*◌, List, [], ◌∷◌, ◌&&◌, Bool, true, None, codes, bytes_eq, flat_map}
 use Rattle.dill_base.specs.declared.deadline.Deadline.TheVariants.{Never}
 use Rattle.dill_calls.specs.declared.call.Call.TheVariants as calls
 use Rattle.dill_kernel.specs.declared.replies.KernelFault.TheVariants as faults
 use Rattle.dill_kernel.specs.declared.replies.KernelReply.{KernelReply}
 use Rattle.dill_kernel.specs.declared.replies.KernelReply.TheVariants.{Done, NotYet, Came, Took, Failed}
-use Rattle.dill_stack.specs.HandshakeRows.{chat_head, hello_frame}
 use Rattle.dill_drive.specs.Play.{Playing}
 use Rattle.relay_trace.specs.Lines.{line}
 use Rattle.dill_rules.specs.State.{State}
@@ -19,7 +18,7 @@ use Rattle.dill_rows.specs.InUse.{handshakes, leaving}
 use Rattle.dill_rows.specs.Stops.{closes, pinged, ping_comes, refused_beside, both_wait}
 use Rattle.dill_rows.specs.Orders.{expires, chain, comes_inside}
 use Rattle.dill_rows.specs.Cancelled.{reads_cancelled}
-use Rattle.dill_rows.specs.Session.{serves}
+use Rattle.dill_rows.specs.Session.{serves, session_replies}
 use Rattle.dill_rows.specs.Outside.{sleeps, looks, wants, without_memory}
 
 -- the bytes and the asks of a run, and those of a story
@@ -35,7 +34,7 @@ agree replies steps table = agree_within 1000000000 replies steps table
 
 pub record SameStories : Type 0 where
   -- links, layers and handshakes
-  pub session : agree (connected (idle 0 ∷ Came (chat_head ++ hello_frame) ∷ idle 0 ∷ Took 129 ∷ idle 0 ∷ Came (1 ∷ 131 ∷ 0 ∷ 0 ∷ 0 ∷ 0 ∷ codes "Hel") ∷ idle 0 ∷ Came (137 ∷ 128 ∷ 0 ∷ 0 ∷ 0 ∷ 0 ∷ []) ∷ idle 0 ∷ Took 2 ∷ Came (128 ∷ 130 ∷ 0 ∷ 0 ∷ 0 ∷ 0 ∷ codes "lo") ∷ idle 0 ∷ Came (129 ∷ 254 ∷ 0 ∷ []) ∷ idle 0 ∷ Came (5 ∷ []) ∷ idle 0 ∷ Took 3 ∷ [])) 60 serves ≡ true
+  pub session : agree session_replies 60 serves ≡ true
   pub detaches : agree (connected (idle 0 ∷ Came (0 ∷ 1 ∷ 97 ∷ 0 ∷ 0 ∷ 120 ∷ 121 ∷ 122 ∷ []) ∷ idle 0 ∷ Took 2 ∷ [])) 50 tower ≡ true
   pub occupied : agree (connected []) 50 handshakes ≡ true
   pub left : agree (connected (idle 0 ∷ Done ∷ Done ∷ [])) 60 leaving ≡ true

@@ -6,7 +6,7 @@ use Rattle.dill_calls.specs.declared.lists.Arg.TheVariants.{Show, Give}
 use Rattle.dill_kernel.specs.declared.replies.KernelReply.TheVariants.{Done}
 use Rattle.dill_rows.specs.Play.{Does, Tries, Text}
 use Rattle.dill_rows.specs.Playing.{plain, nth, played, replayed, idle, place, connected}
-use Rattle.dill_rows.specs.Runs.{prints}
+use Rattle.dill_rows.specs.Runs.{prints, does}
 
 abbrev pub takes_late : ℕ → List ℕ → Text
 takes_late zero args = plain 0 (Does calls.Bundle ∷ Does (calls.BundleGo 1 1 []) ∷ Does (calls.Go 2 []) ∷ Does calls.Yield ∷ Does (calls.Hclose 1) ∷ [])
@@ -41,3 +41,17 @@ attaches_anothers program args = plain 1 (Does (calls.PrefixAttach (nth args 0) 
 -- Who attaches a layer to another's socket owns it from then on.
 pub record TakenByAttach : Type 0 where
   pub run : prints (replayed (connected []) 40 attaches_anothers) (codes "1 start =0" ∷ codes "1 tcp_connect =1" ∷ codes "1 go =2" ∷ codes "2 start =0" ∷ codes "moved 1 3" ∷ codes "2 prefix_attach =3" ∷ codes "2 end ok" ∷ codes "freed 3" ∷ codes "1 bundle_wait =0" ∷ codes "1 hquery EBADF" ∷ codes "1 hquery EBADF" ∷ codes "1 end ok" ∷ codes "freed 2" ∷ codes "summary status=0 errno=none turns=8 rounds=2 closing=0 made=3 gone=3 lacks=0" ∷ []) ≡ true
+
+abbrev pub owner_ends : ℕ → List ℕ → Text
+owner_ends zero args = plain 0 (Does (calls.TcpConnect (place 9) Never) ∷ Does (calls.Go 1 (Give 1 ∷ [])) ∷ Does (calls.Go 2 []) ∷ Does (calls.BundleWait 2 Never) ∷ Does (calls.BundleWait 4 Never) ∷ [])
+owner_ends (suc zero) args = plain 1 (Does calls.Yield ∷ Does calls.Yield ∷ [])
+owner_ends program args = plain 0 (Tries (calls.Brecv 3 1 Never) ∷ [])
+
+abbrev pub listen_cancelled : ℕ → List ℕ → Text
+listen_cancelled zero args = plain 0 (Does calls.Bundle ∷ Does (calls.BundleGo 1 1 []) ∷ Does calls.Yield ∷ Does (calls.Hclose 1) ∷ [])
+listen_cancelled program args = plain 0 (Tries (calls.TcpListen (place 9) 1) ∷ [])
+
+-- A receive at a socket whose owner ends learns that its number is dead. A listen that is cancelled is never asked for.
+pub record OwnersAndListens : Type 0 where
+  pub owner : prints (replayed (connected []) 50 owner_ends) (codes "1 start =0" ∷ codes "1 tcp_connect =1" ∷ codes "moved 1 3" ∷ codes "1 go =2" ∷ codes "2 start =0" ∷ codes "1 go =4" ∷ codes "3 start =0" ∷ codes "2 yield =0" ∷ codes "2 yield =0" ∷ codes "2 end ok" ∷ codes "freed 3" ∷ codes "1 bundle_wait =0" ∷ codes "3 brecv EBADF" ∷ codes "3 end ok" ∷ codes "1 bundle_wait =0" ∷ codes "1 end ok" ∷ codes "freed 4" ∷ codes "freed 2" ∷ codes "summary status=0 errno=none turns=11 rounds=2 closing=0 made=4 gone=4 lacks=0" ∷ []) ≡ true
+  pub listen : does (replayed (idle 0 ∷ []) 50 listen_cancelled) (codes "1 start =0" ∷ codes "1 bundle =1" ∷ codes "1 bundle_go =0" ∷ codes "2 start =0" ∷ codes "1 yield =0" ∷ codes "2 tcp_listen ECANCELED" ∷ codes "2 end ok" ∷ codes "freed 1" ∷ codes "1 hclose =0" ∷ codes "1 end ok" ∷ codes "summary status=0 errno=none turns=7 rounds=1 closing=0 made=1 gone=1 lacks=0" ∷ []) (codes "wait 0" ∷ []) ≡ true

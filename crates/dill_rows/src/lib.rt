@@ -18,11 +18,11 @@ ghost use Rattle.dill_rows.specs.Orders.{ExpiryOrder, EndingsChain, WaiterCameIn
 ghost use Rattle.dill_rows.specs.Cancelled.{CancelledLacks, EndsTakeNothing, CancelledReceives};
 ghost use Rattle.dill_rows.specs.Outside.{MomentsAndTurns, ReadyLinks, ListenersThatFail, KernelWantsMemory};
 ghost use Rattle.dill_rows.specs.Faults.{LinkFails, ShortEndKeeps, TooLongAndTooLate, GiftRefusals, Kinds};
-ghost use Rattle.dill_rows.specs.Taking.{CancelledOwner, CancelledOwn, AwaitedListener, TakenByAttach};
+ghost use Rattle.dill_rows.specs.Taking.{CancelledOwner, CancelledOwn, AwaitedListener, TakenByAttach, OwnersAndListens};
 ghost use Rattle.dill_rows.specs.Meeting.{EndsOfChannels, LongestWaiting};
 ghost use Rattle.dill_rows.specs.Layers.{PeerCloses, EndSentOnce, AttachKeepsUnread, AfterShut, LinesOverLink};
 ghost use Rattle.dill_rows.specs.Session.{WebsocketSession};
-ghost use Rattle.dill_rows.specs.Words.{FailedDetachWords, ReplacedPongs, HandedBackPong};
+ghost use Rattle.dill_rows.specs.Words.{FailedDetachWords, ReplacedPongs, HandedBackPong, WordsTaken};
 ghost use Rattle.dill_rows.specs.Handshakes.{ClientSession, RefusedHead};
 ghost use Rattle.dill_rows.specs.Leaving.{RequestThenBody, ClosedInOrder, GivenUpShut, CancelledLeavers};
 ghost use Rattle.dill_rows.specs.Relay.{RelayToWebsocket, LoadOfFour};
@@ -460,4 +460,14 @@ pub fn lines_over_a_link()
 /// The story of a run over the rules writes and asks what the worked run does.
 pub fn stories_of_worked_runs()
     ensures { SameStories }
+{}
+
+/// Which calls take a random word.
+pub fn words_that_are_taken()
+    ensures { WordsTaken }
+{}
+
+/// A socket whose owner ends, and a listen that is cancelled.
+pub fn owners_and_listens()
+    ensures { OwnersAndListens }
 {}
