@@ -44,6 +44,14 @@ gives program args = plain 2 []
 pub record GiftRefusals : Type 0 where
   pub run : prints (played 50 gives) (codes "1 start =0" ∷ codes "1 bundle =1" ∷ codes "1 hmake =2" ∷ codes "1 bundle_go EBUSY" ∷ codes "1 go EINVAL" ∷ codes "1 go EINVAL" ∷ codes "1 go EBADF" ∷ codes "moved 1 4" ∷ codes "1 go =3" ∷ codes "1 end ok" ∷ codes "2 start =0" ∷ codes "2 end ok" ∷ codes "freed 4" ∷ codes "freed 3" ∷ codes "freed 2" ∷ codes "summary status=0 errno=none turns=9 rounds=1 closing=0 made=4 gone=4 lacks=0" ∷ []) ≡ true
 
+abbrev pub gives_two : ℕ → List ℕ → Text
+gives_two zero args = plain 0 (Does (calls.Hmake 256 7) ∷ Does (calls.Hmake 257 8) ∷ Does (calls.Go 1 (Give 2 ∷ Give 1 ∷ [])) ∷ Tries (calls.Hquery 2 257) ∷ Does (calls.BundleWait 3 Never) ∷ [])
+gives_two program args = plain 2 (Does (calls.Hquery 4 257) ∷ Does (calls.Hquery 5 256) ∷ [])
+
+-- The bundle's number is drawn first, then those of the gifts in their order; the child owns them.
+pub record GiftsInOrder : Type 0 where
+  pub run : prints (played 50 gives_two) (codes "1 start =0" ∷ codes "1 hmake =1" ∷ codes "1 hmake =2" ∷ codes "moved 2 4" ∷ codes "moved 1 5" ∷ codes "1 go =3" ∷ codes "2 start =0" ∷ codes "1 hquery EBADF" ∷ codes "2 hquery =8" ∷ codes "2 hquery =7" ∷ codes "2 end ok" ∷ codes "freed 5" ∷ codes "freed 4" ∷ codes "1 bundle_wait =0" ∷ codes "1 end ok" ∷ codes "freed 3" ∷ codes "summary status=0 errno=none turns=9 rounds=1 closing=0 made=5 gone=5 lacks=0" ∷ []) ≡ true
+
 abbrev pub asks_kinds : ℕ → List ℕ → Text
 asks_kinds program args = plain 0 (Does calls.Bundle ∷ Does calls.Chmake ∷ Does (calls.TcpListen (place 8) 1) ∷ Does (calls.TcpConnect (place 9) Never) ∷ Does (calls.Hquery 1 1) ∷ Does (calls.Hquery 2 2) ∷ Does (calls.Hquery 4 3) ∷ Does (calls.Hquery 5 4) ∷ Tries (calls.Hquery 5 5) ∷ Does (calls.PrefixAttach 5 2 true) ∷ Does (calls.Hquery 6 5) ∷ Does (calls.PrefixDetach 6) ∷ Does (calls.HttpAttach 7) ∷ Does (calls.Hquery 8 6) ∷ Tries (calls.Hquery 8 4) ∷ Tries (calls.Hmake 255 0) ∷ Tries (calls.Hmake 4294967296 0) ∷ [])
 

@@ -6,8 +6,8 @@ use Rattle.dill_kernel.specs.declared.replies.KernelFault.TheVariants as faults
 use Rattle.dill_kernel.specs.declared.replies.KernelReply.{KernelReply}
 use Rattle.dill_kernel.specs.declared.replies.KernelReply.TheVariants.{Woke, Done, NotYet, Came, Failed}
 use Rattle.dill_rows.specs.Play.{Does, Tries, Text}
-use Rattle.dill_rows.specs.Playing.{plain, untraced, replayed, idle, place, connected}
-use Rattle.dill_rows.specs.Runs.{prints, does, text}
+use Rattle.dill_rows.specs.Playing.{plain, played_over, replayed, idle, place, connected}
+use Rattle.dill_rows.specs.Runs.{listed, does, text}
 use Rattle.dill_rows.specs.Stories.{story, tells}
 
 abbrev pub sleeps : ℕ → List ℕ → Text
@@ -16,10 +16,10 @@ sleeps program args = plain 0 (Does (calls.Msleep (At 5)) ∷ Does calls.Now ∷
 abbrev pub looks : ℕ → List ℕ → Text
 looks program args = plain 0 (replicate 70 (Does calls.Now))
 
--- A wait that comes back early tells nothing new, and the moment never falls. A round has 64 turns at most.
+-- A wait that comes back early tells nothing new, and the moment never falls. A round has 64 turns at most, and the next wait doesn't last while somebody has an answer.
 pub record MomentsAndTurns : Type 0 where
   pub moments : does (replayed (idle 0 ∷ idle 5 ∷ idle 3 ∷ idle 6 ∷ []) 40 sleeps) (codes "1 start =0" ∷ codes "1 msleep =0" ∷ codes "1 now =5" ∷ codes "1 msleep =0" ∷ codes "1 now =6" ∷ codes "1 end ok" ∷ codes "summary status=0 errno=none turns=5 rounds=4 closing=0 made=0 gone=0 lacks=0" ∷ []) (codes "wait 0" ∷ codes "wait until 5" ∷ codes "wait until 6" ∷ codes "wait until 6" ∷ []) ≡ true
-  pub turns : prints (untraced 1000000000 120 looks) (codes "summary status=0 errno=none turns=71 rounds=2 closing=0 made=0 gone=0 lacks=0" ∷ []) ≡ true
+  pub turns : does (played_over listed (idle 0 ∷ idle 0 ∷ []) false 1000000000 120 looks) (codes "summary status=0 errno=none turns=71 rounds=2 closing=0 made=0 gone=0 lacks=0" ∷ []) (codes "wait 0" ∷ codes "wait 0" ∷ []) ≡ true
 
 abbrev pub reads_one : ℕ → List ℕ → Text
 reads_one program args = plain 0 (Does (calls.TcpConnect (place 9) Never) ∷ Does (calls.Brecv 1 1 Never) ∷ [])

@@ -55,3 +55,10 @@ both_wait program args = plain 0 (Does (calls.Msleep Never) ∷ [])
 -- All that wait in a stuck run are told, the lower coroutine first, before anybody is cancelled.
 pub record AllWaitersTold : Type 0 where
   pub run : prints (played 40 both_wait) (codes "1 start =0" ∷ codes "1 chmake =1,2" ∷ codes "1 go =3" ∷ codes "2 start =0" ∷ codes "waiting 1 chrecv" ∷ codes "waiting 2 msleep" ∷ codes "1 chrecv ECANCELED" ∷ codes "1 end ECANCELED" ∷ codes "2 msleep ECANCELED" ∷ codes "2 end ECANCELED" ∷ codes "freed 3" ∷ codes "freed 2" ∷ codes "freed 1" ∷ codes "summary status=8 errno=none turns=4 rounds=1 closing=2 made=3 gone=3 lacks=0" ∷ []) ≡ true
+
+abbrev pub closes_and_sleeps : ℕ → List ℕ → Text
+closes_and_sleeps program args = plain 0 (Does (calls.TcpConnect (place 9) Never) ∷ Does (calls.Hclose 1) ∷ Does (calls.Msleep Never) ∷ [])
+
+-- A run isn't stuck before the close that is due was made.
+pub record ClosedBeforeStuck : Type 0 where
+  pub run : does (replayed (connected (idle 0 ∷ [])) 40 closes_and_sleeps) (codes "1 start =0" ∷ codes "1 tcp_connect =1" ∷ codes "freed 1" ∷ codes "1 hclose =0" ∷ codes "waiting 1 msleep" ∷ codes "1 msleep ECANCELED" ∷ codes "1 end ECANCELED" ∷ codes "summary status=8 errno=none turns=3 rounds=3 closing=1 made=1 gone=1 lacks=0" ∷ []) (codes "wait 0" ∷ codes "wait 0" ∷ codes "connect 1" ∷ codes "finish 1" ∷ codes "wait 0" ∷ codes "close 1" ∷ []) ≡ true

@@ -11,13 +11,13 @@ ghost use Rattle.dill_rows.specs.Readings.{Occupied, DeadClause, GiveUps, Cancel
 ghost use Rattle.dill_rows.specs.Lacks.{LacksChangeNothing};
 ghost use Rattle.dill_rows.specs.Limits.{LimitsAreExact};
 ghost use Rattle.dill_rows.specs.InUse.{HandshakeKinds, LeavingOccupies, EndsAreSends, HeadsInUse};
-ghost use Rattle.dill_rows.specs.Stops.{RootClosingNotes, QueuedPongs, RefusedHeatsNothing, RepliesUsedUp, AllWaitersTold};
+ghost use Rattle.dill_rows.specs.Stops.{RootClosingNotes, QueuedPongs, RefusedHeatsNothing, RepliesUsedUp, AllWaitersTold, ClosedBeforeStuck};
 ghost use Rattle.dill_rows.specs.Bounds.{BoundsOfLayers, BoundsOfChannels};
 ghost use Rattle.dill_rows.specs.Ends.{LowerEndMet, FailedEnds, LateLines, BrokenAttaches, JoinedTooMuch};
 ghost use Rattle.dill_rows.specs.Orders.{ExpiryOrder, EndingsChain, WaiterCameInside, WaiterOutside, ChoiceClauses};
 ghost use Rattle.dill_rows.specs.Cancelled.{CancelledLacks, EndsTakeNothing, CancelledReceives};
 ghost use Rattle.dill_rows.specs.Outside.{MomentsAndTurns, ReadyLinks, ListenersThatFail, KernelWantsMemory};
-ghost use Rattle.dill_rows.specs.Faults.{LinkFails, ShortEndKeeps, TooLongAndTooLate, GiftRefusals, Kinds};
+ghost use Rattle.dill_rows.specs.Faults.{LinkFails, ShortEndKeeps, TooLongAndTooLate, GiftRefusals, GiftsInOrder, Kinds};
 ghost use Rattle.dill_rows.specs.Taking.{CancelledOwner, CancelledOwn, AwaitedListener, TakenByAttach, OwnersAndListens};
 ghost use Rattle.dill_rows.specs.Meeting.{EndsOfChannels, LongestWaiting};
 ghost use Rattle.dill_rows.specs.Layers.{PeerCloses, EndSentOnce, AttachKeepsUnread, AfterShut, LinesOverLink};
@@ -389,9 +389,10 @@ pub fn too_long_and_too_late()
     ensures { TooLongAndTooLate }
 {}
 
-/// Gifts that are refused, and one that isn't.
-pub fn gifts_that_are_refused()
-    ensures { GiftRefusals }
+/// Gifts that are refused, and the numbers of those that aren't.
+pub fn gifts_to_children()
+    ensures refused { GiftRefusals }
+    ensures given { GiftsInOrder }
 {}
 
 /// Each thing has its kind, and a stack that of its top.
@@ -447,9 +448,10 @@ pub fn taken_by_an_attach()
     ensures { TakenByAttach }
 {}
 
-/// All that wait in a stuck run are told.
-pub fn all_waiters_are_told()
-    ensures { AllWaitersTold }
+/// All that wait in a stuck run are told, and a close that is due comes first.
+pub fn stuck_runs()
+    ensures waiters { AllWaitersTold }
+    ensures closes { ClosedBeforeStuck }
 {}
 
 /// Messages before CR LF over a link.

@@ -27,8 +27,12 @@ use Rattle.dill_ws.specs.Offers.{client_asks, server_agrees, key_of}
 use Rattle.dill_ws.specs.Handshakes.{client_front, server_front}
 use Rattle.dill_stack.specs.Greeting.{greet, greeted}
 use Rattle.dill_loop.specs.Steps.{network_reply, network_after}
-use Rattle.dill_rows.proofs.gifts_that_are_refused.Goals as goal
+use Rattle.dill_rows.proofs.stuck_runs.Goals as goal
 
-pub returns : goal.returns
+pub returns-clause-waiters : goal.returns-clause-waiters
 unfolding digits network_reply network_after is_utf8 chars encode next_u32 prefix_front prefix_due suffix_front suffix_due is_token_byte front_of_line request_cut status_cut field_cut head_front composed is_invalid is_refused is_too_long attach_fault send_fault line_fault done_fault read_fault detach_fault frame line done withdraw ws_front passed shown read_list dropped read attach greet_fault expect_greet parting_fault detach_start detach_finish first_words schedule rounds compress hash_after digest_bytes sha1 encode_symbols groups_error groups_bytes scan_steps decoded_of next_line lines_at behind head_stop head_front_by client_asks server_agrees key_of client_front server_front greet greeted
-returns c = record { run = refl }
+returns-clause-waiters c = record { run = refl }
+
+pub returns-clause-closes : goal.returns-clause-closes
+unfolding digits network_reply network_after is_utf8 chars encode next_u32 prefix_front prefix_due suffix_front suffix_due is_token_byte front_of_line request_cut status_cut field_cut head_front composed is_invalid is_refused is_too_long attach_fault send_fault line_fault done_fault read_fault detach_fault frame line done withdraw ws_front passed shown read_list dropped read attach greet_fault expect_greet parting_fault detach_start detach_finish first_words schedule rounds compress hash_after digest_bytes sha1 encode_symbols groups_error groups_bytes scan_steps decoded_of next_line lines_at behind head_stop head_front_by client_asks server_agrees key_of client_front server_front greet greeted
+returns-clause-closes c = record { run = refl }
