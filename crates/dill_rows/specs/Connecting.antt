@@ -23,7 +23,7 @@ pub record ConnectAndReceive : Type 0 where
 -- A connection that isn't made ends the run with the kernel's reason, and is closed if it was begun.
 pub record RefusedConnections : Type 0 where
   pub refused : does (over (idle 0 ∷ idle 0 ∷ Failed faults.Refused ∷ [])) (codes "1 start =0" ∷ codes "1 tcp_connect ECONNREFUSED" ∷ codes "1 end ECONNREFUSED" ∷ codes "summary status=1 errno=ECONNREFUSED turns=2 rounds=2 closing=0 made=0 gone=0 lacks=0" ∷ []) (codes "wait 0" ∷ codes "wait 0" ∷ codes "connect 1" ∷ []) ≡ true
-  pub memory : does (over (idle 0 ∷ idle 0 ∷ Failed faults.NoMemory ∷ [])) (codes "1 start =0" ∷ codes "1 tcp_connect ENOMEM" ∷ codes "1 end ENOMEM" ∷ codes "summary status=1 errno=ENOMEM turns=2 rounds=2 closing=0 made=0 gone=0 lacks=0" ∷ []) (codes "wait 0" ∷ codes "wait 0" ∷ codes "connect 1" ∷ []) ≡ true
+  pub memory : does (over (idle 0 ∷ idle 0 ∷ Failed faults.NoMemory ∷ [])) (codes "1 start =0" ∷ codes "1 tcp_connect ENOMEM" ∷ codes "1 end ENOMEM" ∷ codes "summary status=1 errno=ENOMEM turns=2 rounds=2 closing=0 made=0 gone=0 lacks=1" ∷ []) (codes "wait 0" ∷ codes "wait 0" ∷ codes "connect 1" ∷ []) ≡ true
   pub reset : does (over (idle 0 ∷ idle 0 ∷ Done ∷ Failed faults.Reset ∷ [])) (codes "1 start =0" ∷ codes "1 tcp_connect ECONNRESET" ∷ codes "1 end ECONNRESET" ∷ codes "summary status=1 errno=ECONNRESET turns=2 rounds=2 closing=0 made=0 gone=0 lacks=0" ∷ []) (codes "wait 0" ∷ codes "wait 0" ∷ codes "connect 1" ∷ codes "finish 1" ∷ codes "close 1" ∷ []) ≡ true
   pub other : does (over (idle 0 ∷ idle 0 ∷ Done ∷ Failed faults.Other ∷ [])) (codes "1 start =0" ∷ codes "1 tcp_connect EHOSTUNREACH" ∷ codes "1 end EHOSTUNREACH" ∷ codes "summary status=1 errno=EHOSTUNREACH turns=2 rounds=2 closing=0 made=0 gone=0 lacks=0" ∷ []) (codes "wait 0" ∷ codes "wait 0" ∷ codes "connect 1" ∷ codes "finish 1" ∷ codes "close 1" ∷ []) ≡ true
 

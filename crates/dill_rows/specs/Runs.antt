@@ -15,6 +15,8 @@ use Rattle.dill_kernel.specs.declared.replies.KernelReply.TheVariants as replies
 use Rattle.relay_trace.specs.declared.summary.Summary.{Summary}
 use Rattle.relay_trace.specs.Lines.{line, sized, ran_bytes, note_line, waiting_line, summary_line}
 use Rattle.dill_maps.specs.Maps.{if_some}
+use Rattle.dill_drive.specs.Story.{lacks_by}
+use Rattle.dill_rules.specs.Hearing.{fitting}
 use Rattle.dill_rules.specs.Trying.{Try, next_try}
 use Rattle.dill_rules.specs.State.{State, opening_state, is_answered, turned, ran, expired, shut, woke, hear}
 use Rattle.dill_rules.specs.Waiting.{waiters, limit, is_stuck}
@@ -41,6 +43,7 @@ pub record Run (V N : Type 0) : Type 0 where
   pub turns : ℕ
   pub rounds : ℕ
   pub closing : ℕ
+  pub lacks : ℕ
   pub out : List ℕ
   pub asks : List ℕ
 
@@ -139,7 +142,9 @@ module _ {V N : Type 0} (p : Program V) (outside : Outside N) (traced : Bool) (m
 
   -- a try of the round, or a close behind the run
   abbrev pub one_try : Run V N → Try → Run V N
-  one_try r x = noted (record (asking r x.ask) { state = hear r.state (reply_to outside r.net x.ask) })
+  one_try r x =
+      let said = reply_to outside r.net x.ask in
+      noted (record (asking r x.ask) { state = hear r.state said; lacks = lacks_by (fitting x.ask said) r.lacks })
 
   -- status 1 where `main` ended with an errno
   abbrev pub final : Status → Option (Option Errno) → Status
@@ -158,7 +163,7 @@ module _ {V N : Type 0} (p : Program V) (outside : Outside N) (traced : Bool) (m
     turns = r.turns;
     rounds = r.rounds;
     closing = r.closing;
-    counts = record { made = r.state.world.handles.last; gone = gone r.state.world.handles; lacks = 0 };
+    counts = record { made = r.state.world.handles.last; gone = gone r.state.world.handles; lacks = r.lacks };
   }
 
   -- the summary is the last line
@@ -187,7 +192,7 @@ module _ {V N : Type 0} (p : Program V) (outside : Outside N) (traced : Bool) (m
   run_within (suc k) r = run_within k (step r)
 
 abbrev pub begun : {V N : Type 0} → V → Stream → N → Run V N
-begun view words net = record { state = opening_state view words; net = net; phase = Round; status = status.Well; turns = 0; rounds = 0; closing = 0; out = []; asks = [] }
+begun view words net = record { state = opening_state view words; net = net; phase = Round; status = status.Well; turns = 0; rounds = 0; closing = 0; lacks = 0; out = []; asks = [] }
 
 -- lines as one text
 abbrev pub text : List (List ℕ) → List ℕ
