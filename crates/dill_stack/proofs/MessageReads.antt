@@ -62,7 +62,7 @@ unmet_top false b e = (refl, e)
 
 -- the layers below an end by a terminal message are readable too
 below_is : (term : TermLayer) (below : List Placed) → IsReadable (Term term ∷ below) → IsReadable below
-below_is term below r = record { framing = r.framing; standing = r.standing.1; formed = r.formed; unmet = (unmet_top term.met (is_met below) r.unmet).1 }
+below_is term below r = record { framing = r.framing; standing = r.standing.1; formed = r.formed.2; unmet = (unmet_top term.met (is_met below) r.unmet).1 }
 
 unmet_is : (term : TermLayer) (below : List Placed) → IsReadable (Term term ∷ below) → term.met ≡ false
 unmet_is term below r = (unmet_top term.met (is_met below) r.unmet).0

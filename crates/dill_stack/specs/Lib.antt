@@ -1,6 +1,7 @@
 pub mod Layers
 pub mod Held
 pub mod Composed
+pub mod Formed
 pub mod Refusals
 pub mod Sending
 pub mod WsReading

@@ -7,7 +7,8 @@ use Rattle.dill_calls.specs.declared.answer.Answer.TheVariants.{Bytes}
 use Rattle.dill_frames.specs.Prefix.{AreBytes, PrefixShows}
 use Rattle.dill_frames.specs.Suffix.{SuffixShows}
 use Rattle.dill_stack.specs.declared.want.ReadOut.TheVariants.{Given, Fault}
-use Rattle.dill_stack.specs.Layers.{Placed, Prefix, Suffix, Term, Http, Ws, IsStanding, IsFormed}
+use Rattle.dill_stack.specs.Layers.{Placed, Prefix, Suffix, Term, Http, Ws, IsStanding}
+use Rattle.dill_stack.specs.Formed.{IsFormed}
 use Rattle.dill_stack.specs.Refusals.{is_met}
 use Rattle.dill_stack.specs.Read.{outcome, read_message}
 use Rattle.dill_stack.specs.Spelling.{SpelledBy}

@@ -4,7 +4,8 @@ use Rattle.rand_core.specs.Stream.{Stream}
 use Rattle.dill_frames.specs.Prefix.{PrefixSpells}
 use Rattle.dill_frames.specs.Suffix.{SuffixSpells}
 use Rattle.dill_ws.specs.Frames.{Frame}
-use Rattle.dill_stack.specs.Layers.{Placed, Prefix, Suffix, Term, Http, Ws, IsStanding, IsFormed}
+use Rattle.dill_stack.specs.Layers.{Placed, Prefix, Suffix, Term, Http, Ws, IsStanding}
+use Rattle.dill_stack.specs.Formed.{IsFormed}
 use Rattle.dill_stack.specs.Held.{Held}
 use Rattle.dill_stack.specs.Composed.{message_limit, composed, words_after}
 use Rattle.dill_stack.specs.Refusals.{send_fault}
