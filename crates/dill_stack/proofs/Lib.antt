@@ -1,6 +1,10 @@
+pub mod Following
 pub mod Fronts
+pub mod JoinedReads
 pub mod Joinings
 pub mod Limits
 pub mod MessageReads
+pub mod OneMessage
+pub mod PassedParts
 pub mod Passings
 pub mod Spellings

@@ -20,7 +20,7 @@ length_from : (at : ℕ) (key p : List ℕ) → length (masked_from at key p) �
 length_from at key [] = refl
 length_from at key (b ∷ p) = omega (arith, length_from (at + 1) key p)
 
-length_masked : (key : Option (List ℕ)) (p : List ℕ) → length (masked key p) ≡ length p
+pub length_masked : (key : Option (List ℕ)) (p : List ℕ) → length (masked key p) ≡ length p
 length_masked None p = refl
 length_masked (Some key) p = length_from 0 key p
 

@@ -90,7 +90,7 @@ pub record PassIs (ws : WsLayer) (part : Part) (used : ℕ) (q : Passed) : Type 
 abbrev part_with : Bool → ℕ → List ℕ → Part
 part_with fin opcode payload = record { fin = fin; opcode = opcode; payload = payload }
 
-unjoined : (ws : WsLayer) → ws ≡ record ws { joined = ws.joined ++ [] }
+pub unjoined : (ws : WsLayer) → ws ≡ record ws { joined = ws.joined ++ [] }
 unjoined ws = ap (λ j. record ws { joined = j }) (sym (append-nil ws.joined))
 
 nine : (ws : WsLayer) (used : ℕ) (fin : Bool) (payload : List ℕ) → PassIs ws (part_with fin 9 payload) used (record { used = used; ws = ws; pings = payload ∷ [] })
@@ -124,7 +124,7 @@ by_tests false false true ws part used q x y z e =
     subst (PassIs ws part used) same (data_is ws used part (is_data part.opcode) x y refl z)
 by_tests false false false ws part used q x y z e = cc
 
-pass_is : (ws : WsLayer) (part : Part) (used : ℕ) (q : Passed) → pass_of ws part used ≡ Some q → PassIs ws part used q
+pub pass_is : (ws : WsLayer) (part : Part) (used : ℕ) (q : Passed) → pass_of ws part used ≡ Some q → PassIs ws part used q
 pass_is ws part used q e = by_tests (part.opcode == 9) (part.opcode == 10) (is_data part.opcode && not part.fin) ws part used q refl refl refl e
 
 -- a pass at the front, by its frame
@@ -154,14 +154,14 @@ joined_more part ds ws =
     ap (λ j. record ws { joining = j; joined = ws.joined ++ (part.payload ++ text) }) (begun_more ws.joining part ds)
     ∙ ap (λ b. record ws { joining = begun (begun ws.joining (part ∷ [])) ds; joined = b }) bytes
 
-parts_more : (part : Part) (parts : List Part) (ws : WsLayer) → with_parts (part ∷ parts) ws ≡ with_parts parts (with_parts (part ∷ []) ws)
+pub parts_more : (part : Part) (parts : List Part) (ws : WsLayer) → with_parts (part ∷ parts) ws ≡ with_parts parts (with_parts (part ∷ []) ws)
 parts_more part parts ws = by_test (is_data part.opcode)
   where
     by_test : (b : Bool) → joined_with (cond b (part ∷ data_parts parts) (data_parts parts)) ws ≡ joined_with (data_parts parts) (joined_with (cond b (part ∷ []) []) ws)
     by_test true = joined_more part (data_parts parts) ws
     by_test false = ap (joined_with (data_parts parts)) (unjoined ws)
 
-pings_more : (part : Part) (parts : List Part) → pings_of (part ∷ parts) ≡ pings_of (part ∷ []) ++ pings_of parts
+pub pings_more : (part : Part) (parts : List Part) → pings_of (part ∷ parts) ≡ pings_of (part ∷ []) ++ pings_of parts
 pings_more part parts = by_test (part.opcode == 9)
   where
     by_test : (b : Bool) → map (λ p. p.payload) (cond b (part ∷ filter (λ p. p.opcode == 9) parts) (filter (λ p. p.opcode == 9) parts)) ≡ map (λ p. p.payload) (cond b (part ∷ []) []) ++ map (λ p. p.payload) (filter (λ p. p.opcode == 9) parts)
@@ -194,7 +194,7 @@ empty_front : (limit : ℕ) (ws : WsLayer) → pass_by_front ws (ws_front limit 
 unfolding ws_front head_front
 empty_front limit ws = refl
 
-grows : (ws : WsLayer) (part : Part) (w : List ℕ) → Frame (peer_of ws.side) part.fin part.opcode part.payload w → 1 ≤ length w
+pub grows : (ws : WsLayer) (part : Part) (w : List ℕ) → Frame (peer_of ws.side) part.fin part.opcode part.payload w → 1 ≤ length w
 grows ws part w f = omega (arith, ap length f.whole)
 
 -- the frame at the front

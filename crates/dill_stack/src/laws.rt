@@ -1,4 +1,4 @@
-ghost use Rattle.dill_stack.specs.Joining.{GivesJoined};
+ghost use Rattle.dill_stack.specs.Joining.{JoiningLaws};
 ghost use Rattle.dill_stack.specs.Messages.{MessageLaws};
 ghost use Rattle.dill_stack.specs.Passing.{PassesFrames};
 ghost use Rattle.dill_stack.specs.Staying.{FrontStays};
@@ -30,9 +30,9 @@ pub fn message_laws()
     suffix_laws();
 }
 
-/// What a WebSocket layer gives as one message stands at the front as the frames of one message.
+/// A WebSocket layer gives a message exactly where the frames of one message stand at the front, and just their bytes are used.
 pub fn joining_laws()
-    ensures { GivesJoined }
+    ensures { JoiningLaws }
 {
     frame_laws();
 }
