@@ -4,6 +4,8 @@ pub mod JoinedReads
 pub mod Joinings
 pub mod Limits
 pub mod MessageReads
+pub mod MessageTold
+pub mod MessageWaits
 pub mod OneMessage
 pub mod PassedParts
 pub mod Passings

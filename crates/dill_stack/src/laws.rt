@@ -22,7 +22,8 @@ pub fn passing_laws()
     frame_laws();
 }
 
-/// A message is given exactly where its spelling stands at the front of what came, and just its bytes are used.
+/// A receive over a framing is answered by what stands at the front of what came: a message exactly where its spelling
+/// stands there, and each errno and each wait exactly where its cause does.
 pub fn message_laws()
     ensures { MessageLaws }
 {
