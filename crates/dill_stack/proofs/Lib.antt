@@ -1,3 +1,4 @@
+pub mod Attachings
 pub mod Following
 pub mod Fronts
 pub mod JoinedReads
