@@ -1,6 +1,6 @@
 -- A message that stands at the front as frames is given.
-use Rattle.std.proofs.Common.{◌≡◌, ◌≤◌, ◌+◌, [], ◌∷◌, ◌++◌, List, ℕ, length, take, drop, arith, sym, ap, ◌∙◌, refl, subst, Bool, true, false, not, ◌&&◌, None, append_assoc, append-nil, length-append}
-use Rattle.std.specs.Prelude.{◌==◌, if◌then◌else◌, flat_map, IsUtf8}
+use Rattle.std.proofs.Common.{◌≡◌, ◌≤◌, ◌+◌, [], ◌∷◌, ◌++◌, List, ℕ, length, take, drop, arith, sym, ap, ◌∙◌, refl, subst, Bool, true, false, not, ◌&&◌, ◌||◌, None, append_assoc, append-nil, length-append}
+use Rattle.std.specs.Prelude.{◌==◌, if◌then◌else◌, is_some, flat_map, IsUtf8}
 use Rattle.std.specs.List.{list_all}
 use Rattle.std.specs.Option.{unwrap_or}
 use Rattle.std.specs.Str.{is_utf8}
@@ -8,20 +8,21 @@ use Rattle.std.proofs.lemmas.Bool.{eqb-true, leb-true, ne_eqb}
 use Rattle.std.proofs.lemmas.Str.{is_utf8-from_IsUtf8}
 use Rattle.std.proofs.lemmas.List.{length-take-le, take-append-drop}
 use Rattle.std.proofs.Math.Seq.{drop-append_seam}
-use Rattle.dill_base.specs.declared.errno.Errno.TheVariants.{Eproto}
+use Rattle.dill_base.specs.declared.errno.Errno.TheVariants.{Epipe, Eproto}
 use Rattle.dill_calls.specs.declared.answer.Answer.TheVariants.{Bytes}
 use Rattle.dill_ws.specs.declared.side.Side.{Side}
-use Rattle.dill_ws.specs.Frames.{Part, Frame, peer_of, data_parts, may_follow}
+use Rattle.dill_ws.specs.Frames.{Part, Frame, Joined, peer_of, data_parts, may_follow}
 use Rattle.dill_ws.specs.FrameLaws.{FrameLaws}
 use Rattle.dill_stack.specs.declared.want.ReadOut.TheVariants.{Given, Fault}
-use Rattle.dill_stack.specs.Layers.{Placed, WsLayer}
+use Rattle.dill_stack.specs.Layers.{Placed, Ws, WsLayer}
 use Rattle.dill_stack.specs.WsReading.{Passed, passed, ws_front, Whole, Shown, shown, shown_by, close_met, message_of, is_data}
 use Rattle.dill_stack.specs.Passing.{AreFrames, AreFollowing, is_passing, joining_behind, pings_of, with_parts}
-use Rattle.dill_stack.specs.Read.{behind_passed, read_ws}
-use Rattle.dill_stack.specs.Joining.{JoinedStands, joined_outcome, is_no_close}
-use Rattle.dill_stack.proofs.OneMessage.{OpcodeAt, both_true, joining_is, data_behind, texts_behind}
+use Rattle.dill_stack.specs.Read.{Outcome, outcome, behind_passed, read_ws}
+use Rattle.dill_stack.specs.Joining.{HasPassed, JoinedStands, joined_outcome, is_no_close}
+use Rattle.dill_stack.proofs.OneMessage.{OpcodeAt, Open, is_some_part, first_opcode, both_true, joining_is, data_behind, texts_behind}
+use Rattle.dill_stack.proofs.PassedBehind.{data_append, state_is, passed_more}
 use Rattle.dill_stack.proofs.Following.{IsOpened, message_opened, data_follows, all_follow}
-use Rattle.dill_stack.proofs.PassedParts.{AtFront, size_of, joins_behind, last_read, passed_front}
+use Rattle.dill_stack.proofs.PassedParts.{AtFront, joins_behind, last_read, passed_front}
 
 -- some frames and the one behind them
 pub record IsSplit (peer : Side) (parts : List Part) (last : Part) (x : List ℕ) : Type 0 where
@@ -67,46 +68,93 @@ message_shown limit ended ws u m last used f d t e =
     (fine_text (unwrap_or ws.joining last.opcode) (ws.joined ++ last.payload) t)
     ∙ ap (λ x. let s : Shown = record { used = used; ws = record ws { joining = None; joined = [] }; said = Given (Bytes x) } in s) e
 
--- a layer before a message
-abbrev at_start : WsLayer → WsLayer
-at_start ws = record ws { joining = None; joined = []; met = false }
+-- the parts of one message behind some of them
+open_behind : (joining : Bool) (a b : List Part) → Open joining (a ++ b) → Open (joining || is_some_part a) b
+open_behind true [] b o = o
+open_behind false [] b o = o
+open_behind true (d ∷ a) b o = open_behind true a b o.2
+open_behind false (d ∷ a) b o = open_behind true a b o.2
 
--- the frames that were passed and what the last one shows
-read_shown : (limit : ℕ) (below : List Placed) (ws : WsLayer) (u x : List ℕ) (ended : Bool) (p : Passed) (s : Shown) → passed limit (at_start ws) u ≡ p → drop p.used u ≡ x → shown limit ended p.ws x ≡ s → read_ws below (at_start ws) u ended limit ≡ behind_passed below p s
-read_shown limit below ws u x ended p s e d f = ap (λ q. behind_passed below q (shown limit ended q.ws (drop q.used u))) e ∙ ap (λ y. behind_passed below p (shown limit ended p.ws y)) d ∙ ap (behind_passed below p) f
+-- what is read where no close frame was met: the frames that were passed, and what the last one shows
+read_shown : (limit : ℕ) (below : List Placed) (ws : WsLayer) (u x : List ℕ) (ended : Bool) (p : Passed) (s : Shown) → ws.met ≡ false → passed limit ws u ≡ p → drop p.used u ≡ x → shown limit ended p.ws x ≡ s → read_ws below ws u ended limit ≡ behind_passed below p s
+read_shown limit below ws u x ended p s met e d f =
+    unmet ws.met (outcome 0 (Ws ws ∷ below) (Fault Epipe)) (behind_passed below (passed limit ws u) (shown limit ended (passed limit ws u).ws (drop (passed limit ws u).used u))) met
+    ∙ ap (λ q. behind_passed below q (shown limit ended q.ws (drop q.used u))) e
+    ∙ ap (λ y. behind_passed below p (shown limit ended p.ws y)) d
+    ∙ ap (behind_passed below p) f
+  where
+    unmet : (b : Bool) (y z : Outcome) → b ≡ false → (if b then y else z) ≡ z
+    unmet true y z h = cc
+    unmet false y z h = refl
 
-reads_at : (laws : FrameLaws) (limit : ℕ) (below : List Placed) (ws : WsLayer) (u m : List ℕ) (n : ℕ) (ended : Bool) → (s : JoinedStands ws.side limit u m n) → read_ws below (at_start ws) u ended limit ≡ joined_outcome below (at_start ws) n s.before m
-reads_at laws limit below ws u m n ended s =
+-- the frames of a message that stand at the front, where some were passed before
+pub record StandsAt (limit : ℕ) (past : List Part) (ws : WsLayer) (u m : List ℕ) (before : List Part) (last : Part) (w v : List ℕ) : Type 0 where
+  pub front : AtFront limit ws before last w v
+  pub opcode : ℕ
+  pub opcode_is : first_opcode (data_parts (past ++ before)) last ≡ opcode
+  pub text : opcode ≡ 1 → IsUtf8 m
+  pub together : flat_map (λ p. p.payload) (data_parts (past ++ before)) ++ last.payload ≡ m
+  pub now : HasPassed (past ++ before) (with_parts before ws)
+
+stands_at : (limit : ℕ) (past : List Part) (ws : WsLayer) (u m : List ℕ) (n : ℕ) (w v : List ℕ) → HasPassed past ws → (s : JoinedStands ws.side past limit u m n) → AreFrames (peer_of ws.side) s.before w → Frame (peer_of ws.side) s.last.fin s.last.opcode s.last.payload v
+    → StandsAt limit past ws u m s.before s.last w v
+stands_at limit past ws u m n w v h s frames frame =
+    let all : List Part = past ++ s.before in
+    let joined : Joined (all ++ s.last ∷ []) s.opcode m = subst (λ (ps : List Part). Joined ps s.opcode m) (sym (append_assoc past s.before (s.last ∷ []))) s.joined in
+    let o : IsOpened (data_parts all) s.last s.opcode = message_opened all s.last s.opcode m s.ends joined in
+    let parts_open : Open (is_some_part (data_parts past)) (data_parts s.before) = open_behind false (data_parts past) (data_parts s.before) (subst (Open false) (data_append past s.before) o.open_parts) in
+    let state : is_some_part (data_parts past) ≡ is_some ws.joining = sym (joining_is false past h.passing) ∙ sym (state_is past ws h) in
+    let follow : AreFollowing (is_some ws.joining) s.before × (list_all is_passing s.before ≡ true) =
+    all_follow (peer_of ws.side) (is_some ws.joining) s.before w frames (subst (λ j. Open j (data_parts s.before)) state parts_open) (all_before s.before s.last s.unclosed) in
+    let now : HasPassed all (with_parts s.before ws) = passed_more past ws s.before h follow.0 follow.1 in
+    let text : flat_map (λ p. p.payload) (data_parts all) ++ s.last.payload ≡ m =
+    sym (texts_behind (data_parts all) s.last) ∙ ap (λ (x : List Part). flat_map (λ p. p.payload) x) (sym (data_behind all s.last s.ends)) ∙ joined.together in
+    let behind : is_some (with_parts s.before ws).joining ≡ joining_behind (is_some ws.joining) s.before = joins_behind ws s.before follow.1 in
+    let at : OpcodeAt (joining_behind (is_some ws.joining) s.before) s.last.opcode =
+    subst (λ b. OpcodeAt b s.last.opcode) (sym (joining_is false all now.passing) ∙ sym (state_is all (with_parts s.before ws) now) ∙ behind) o.last_opcode in
+    record {
+      front = record {
+        frames = frames;
+        frame = frame;
+        follows = follow.0;
+        passing = follow.1;
+        allowed = data_follows (joining_behind (is_some ws.joining) s.before) s.last.fin s.last.opcode (length s.last.payload) at;
+        is_part = s.ends;
+        ends = o.last_fin;
+        short = omega (arith, s.short, ap length text, length-append (flat_map (λ p. p.payload) (data_parts all)) s.last.payload, ap length now.joined, length-append ws.joined (flat_map (λ p. p.payload) (data_parts s.before)));
+      };
+      opcode = s.opcode;
+      opcode_is = o.opcode_is;
+      text = s.text;
+      together = text;
+      now = now;
+    }
+
+-- the last frame is read behind those that were passed
+front_behind : (laws : FrameLaws) (limit : ℕ) (ws : WsLayer) (before : List Part) (last : Part) (w v rest : List ℕ) → AtFront limit ws before last w v → ws_front limit (with_parts before ws) (v ++ rest) ≡ Whole last (length v)
+front_behind laws limit ws before last w v rest a = last_read laws limit (with_parts before ws) last v rest (record {
+  frames = refl;
+  frame = a.frame;
+  follows = tt;
+  passing = refl;
+  allowed = subst (λ b. may_follow b last.fin last.opcode (length last.payload) ≡ true) (sym (joins_behind ws before a.passing)) a.allowed;
+  is_part = a.is_part;
+  ends = a.ends;
+  short = omega (arith, a.short, length-append ws.joined (flat_map (λ p. p.payload) (data_parts before)));
+})
+
+pub joined_gives : (laws : FrameLaws) (limit : ℕ) (past : List Part) (below : List Placed) (ws : WsLayer) (u m : List ℕ) (n : ℕ) (ended : Bool) → HasPassed past ws → ws.met ≡ false → (stands : JoinedStands ws.side past limit u m n) → read_ws below ws u ended limit ≡ joined_outcome below ws n stands.before m
+joined_gives laws limit past below ws u m n ended h met s =
     let k : IsSplit (peer_of ws.side) s.before s.last (take n u) = frames_split (peer_of ws.side) s.before s.last (take n u) s.frames in
     let rest : List ℕ = drop n u in
     let whole : u ≡ k.first ++ (k.second ++ rest) = sym (take-append-drop n u) ∙ ap (λ x. x ++ rest) k.whole ∙ append_assoc k.first k.second rest in
-    let o : IsOpened (data_parts s.before) s.last s.opcode = message_opened s.before s.last s.opcode m s.ends s.joined in
-    let follow : AreFollowing false s.before × (list_all is_passing s.before ≡ true) = all_follow (peer_of ws.side) false s.before k.first k.frames o.open_parts (all_before s.before s.last s.unclosed) in
-    let text : flat_map (λ p. p.payload) (data_parts s.before) ++ s.last.payload ≡ m =
-    sym (texts_behind (data_parts s.before) s.last) ∙ ap (λ (x : List Part). flat_map (λ p. p.payload) x) (sym (data_behind s.before s.last s.ends)) ∙ s.joined.together in
-    let size : size_of s.before + length s.last.payload ≤ limit = omega (arith, s.short, ap length text, length-append (flat_map (λ p. p.payload) (data_parts s.before)) s.last.payload) in
-    let at : OpcodeAt (joining_behind false s.before) s.last.opcode = subst (λ b. OpcodeAt b s.last.opcode) (sym (joining_is false s.before follow.1)) o.last_opcode in
-    let allowed : may_follow (joining_behind false s.before) s.last.fin s.last.opcode (length s.last.payload) ≡ true = data_follows (joining_behind false s.before) s.last.fin s.last.opcode (length s.last.payload) at in
-    let a : AtFront limit (at_start ws) s.before s.last k.first k.second = record { frames = k.frames; frame = k.frame; follows = follow.0; passing = follow.1; allowed = allowed; is_part = s.ends; ends = o.last_fin; short = omega (arith, size) } in
-    let behind : WsLayer = with_parts s.before (at_start ws) in
-    let front : ws_front limit behind (k.second ++ rest) ≡ Whole s.last (length k.second) = last_read laws limit behind s.last k.second rest (record {
-      frames = refl;
-      frame = k.frame;
-      follows = tt;
-      passing = refl;
-      allowed = subst (λ b. may_follow b s.last.fin s.last.opcode (length s.last.payload) ≡ true) (sym (joins_behind (at_start ws) s.before follow.1)) allowed;
-      is_part = s.ends;
-      ends = o.last_fin;
-      short = omega (arith, size);
-    }) in
+    let a : StandsAt limit past ws u m s.before s.last k.first k.second = stands_at limit past ws u m n k.first k.second h s k.frames k.frame in
+    let behind : WsLayer = with_parts s.before ws in
+    let text : behind.joined ++ s.last.payload ≡ m = ap (λ x. x ++ s.last.payload) a.now.joined ∙ a.together in
+    let opcode : unwrap_or behind.joining s.last.opcode ≡ a.opcode = ap (λ x. unwrap_or x s.last.opcode) a.now.joining ∙ a.opcode_is in
     let answer : Shown = record { used = length k.second; ws = record behind { joining = None; joined = [] }; said = Given (Bytes m) } in
     let last_is : shown limit ended behind (k.second ++ rest) ≡ answer =
-    message_shown limit ended behind (k.second ++ rest) m s.last (length k.second) front s.ends (λ one. subst IsUtf8 (sym text) (s.text (sym o.opcode_is ∙ one))) text in
+    message_shown limit ended behind (k.second ++ rest) m s.last (length k.second) (front_behind laws limit ws s.before s.last k.first k.second rest a.front) s.ends (λ one. subst IsUtf8 (sym text) (a.text (sym opcode ∙ one))) text in
     let used : length k.first + length k.second ≡ n = omega (arith, sym (length-take-le n u s.there), ap length k.whole, length-append k.first k.second) in
-    read_shown limit below ws u (k.second ++ rest) ended (record { used = length k.first; ws = behind; pings = pings_of s.before }) answer (passed_front laws limit (at_start ws) s.before s.last u k.first k.second rest a whole) (ap (drop (length k.first)) whole ∙ drop-append_seam k.first (k.second ++ rest)) last_is
-    ∙ ap (λ x. joined_outcome below (at_start ws) x s.before m) used
-
-pub joined_gives : (laws : FrameLaws) (limit : ℕ) (below : List Placed) (ws : WsLayer) (u m : List ℕ) (n : ℕ) (ended : Bool) → ws.joining ≡ None → ws.joined ≡ [] → ws.met ≡ false → (stands : JoinedStands ws.side limit u m n) → read_ws below ws u ended limit ≡ joined_outcome below ws n stands.before m
-joined_gives laws limit below ws u m n ended j e t s =
-    let same : at_start ws ≡ ws = ap (λ x. record ws { joining = x; joined = []; met = false }) (sym j) ∙ ap (λ x. record ws { joined = x; met = false }) (sym e) ∙ ap (λ x. record ws { met = x }) (sym t) in
-    subst (λ (x : WsLayer). read_ws below x u ended limit ≡ joined_outcome below x n s.before m) same (reads_at laws limit below ws u m n ended s)
+    read_shown limit below ws u (k.second ++ rest) ended (record { used = length k.first; ws = behind; pings = pings_of s.before }) answer met (passed_front laws limit ws s.before s.last u k.first k.second rest a.front whole) (ap (drop (length k.first)) whole ∙ drop-append_seam k.first (k.second ++ rest)) last_is
+    ∙ ap (λ x. joined_outcome below ws x s.before m) used

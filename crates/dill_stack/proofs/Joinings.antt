@@ -1,5 +1,5 @@
 -- A message that is given is the frames of one message.
-use Rattle.std.proofs.Common.{◌≡◌, ◌≤◌, ◌+◌, [], ◌∷◌, ◌++◌, List, ℕ, length, take, drop, arith, sym, ap, ◌∙◌, refl, subst, Bool, true, false, not, ◌&&◌, ◌||◌, Some, None, length-append}
+use Rattle.std.proofs.Common.{◌≡◌, ◌≤◌, ◌+◌, [], ◌∷◌, ◌++◌, List, ℕ, length, take, drop, arith, sym, ap, ◌∙◌, refl, subst, Bool, true, false, not, ◌&&◌, ◌||◌, Some, None, length-append, append_assoc}
 use Rattle.std.specs.Prelude.{◌==◌, if◌then◌else◌, is_some, is_none, flat_map, IsUtf8}
 use Rattle.std.specs.List.{list_all}
 use Rattle.std.specs.Option.{unwrap_or}
@@ -16,9 +16,10 @@ use Rattle.dill_ws.specs.FrameLaws.{FrameLaws, AreBytes}
 use Rattle.dill_stack.specs.declared.want.ReadOut.TheVariants.{Given, Need, Fault}
 use Rattle.dill_stack.specs.Layers.{Placed, Ws, WsLayer}
 use Rattle.dill_stack.specs.WsReading.{Passed, passed, pass_by_front, pass_of, with_part, ws_front, WsFront, Whole, Short, Refused, Shown, shown, shown_by, message_of, close_met, is_data}
-use Rattle.dill_stack.specs.Passing.{AreFrames, is_passing, begun, IsPassed, AreFollowing, joining_behind}
+use Rattle.dill_stack.specs.Passing.{AreFrames, is_passing, IsPassed}
 use Rattle.dill_stack.specs.Read.{Outcome, outcome, behind_passed, read_ws}
-use Rattle.dill_stack.specs.Joining.{JoinedStands, is_no_close}
+use Rattle.dill_stack.specs.Joining.{HasPassed, JoinedStands, PassedOn, is_no_close}
+use Rattle.dill_stack.proofs.PassedBehind.{state_is, passed_more}
 use Rattle.dill_stack.proofs.Limits.{part_within}
 use Rattle.dill_stack.proofs.Passings.{frame_at, frame_of, follows_at, bytes_behind, passes_frames}
 use Rattle.dill_stack.proofs.OneMessage.{OpcodeAt, first_opcode, opcode_at, both_true, message_joined, frames_behind, data_is}
@@ -120,51 +121,97 @@ all_unclosed (part ∷ parts) last p e =
     rw (passing_unclosed part both.0) (all_unclosed parts last both.1 e)
 
 -- the frames that were passed, and the last one of a message
-message_stands : (laws : FrameLaws) (limit : ℕ) (ws : WsLayer) (u m : List ℕ) (p : Passed) (s : Shown) → AreBytes u → ws.joining ≡ None → ws.joined ≡ [] → IsPassed limit ws u p → LastFrame limit p.ws (drop p.used u) m s → JoinedStands ws.side limit u m (p.used + s.used)
-message_stands laws limit ws u m p s b j e i l =
+message_stands : (laws : FrameLaws) (limit : ℕ) (past : List Part) (ws : WsLayer) (u m : List ℕ) (p : Passed) (s : Shown) → AreBytes u → HasPassed past ws → IsPassed limit ws u p → LastFrame limit p.ws (drop p.used u) m s → JoinedStands ws.side past limit u m (p.used + s.used)
+message_stands laws limit past ws u m p s b h i l =
     let v : List ℕ = drop p.used u in
+    let all : List Part = past ++ i.parts in
     let bytes : AreBytes v = bytes_behind p.used u b in
     let side : p.ws.side ≡ ws.side = ap (λ (x : WsLayer). x.side) i.layer in
-    let first : p.ws.joining ≡ begun None (data_parts i.parts) = ap (λ (x : WsLayer). x.joining) i.layer ∙ ap (λ x. begun x (data_parts i.parts)) j in
-    let joined : p.ws.joined ≡ flat_map (λ q. q.payload) (data_parts i.parts) = ap (λ (x : WsLayer). x.joined) i.layer ∙ ap (λ x. x ++ flat_map (λ q. q.payload) (data_parts i.parts)) e in
+    let now : HasPassed all p.ws = subst (HasPassed all) (sym i.layer) (passed_more past ws i.parts h i.follows i.passing) in
     let frame : Frame (peer_of p.ws.side) l.last.fin l.last.opcode l.last.payload (take l.used v) × (l.used ≤ length v) = frame_of laws p.ws v l.last l.used bytes (frame_at limit p.ws v l.last l.used l.front) in
     let follows : may_follow (is_some p.ws.joining) l.last.fin l.last.opcode (length l.last.payload) ≡ true = follows_at laws p.ws v l.last l.used bytes (frame_at limit p.ws v l.last l.used l.front) in
     let not_passed : Unpassed l.last = unpassed p.ws l.last l.used (ap (pass_by_front p.ws) (sym l.front) ∙ i.last) in
     let part_is : is_data l.last.opcode ≡ true = data_is (is_some p.ws.joining) l.last.fin l.last.opcode (length l.last.payload) follows (eqb-false l.last.opcode 8 l.no_close) (eqb-false l.last.opcode 9 not_passed.no_ping) (eqb-false l.last.opcode 10 not_passed.no_pong) in
     let ends : l.last.fin ≡ true = ends_message (is_data l.last.opcode) l.last.fin part_is not_passed.no_part in
     let at : OpcodeAt (is_some p.ws.joining) l.last.opcode = opcode_at (is_some p.ws.joining) l.last.fin l.last.opcode (length l.last.payload) follows (leb-true l.last.opcode 2 part_is) in
-    let state : is_some p.ws.joining ≡ joining_behind false i.parts = i.joining ∙ ap (λ x. joining_behind (is_some x) i.parts) j in
-    let open_all : AreFollowing false i.parts = subst (λ x. AreFollowing (is_some x) i.parts) j i.follows in
-    let whole : Joined (i.parts ++ l.last ∷ []) (first_opcode (data_parts i.parts) l.last) (flat_map (λ q. q.payload) (data_parts i.parts) ++ l.last.payload) =
-    message_joined i.parts l.last open_all i.passing (subst (λ x. OpcodeAt x l.last.opcode) state at) part_is ends in
-    let text : m ≡ flat_map (λ q. q.payload) (data_parts i.parts) ++ l.last.payload = l.text ∙ ap (λ x. x ++ l.last.payload) joined in
+    let whole : Joined (all ++ l.last ∷ []) (first_opcode (data_parts all) l.last) (flat_map (λ q. q.payload) (data_parts all) ++ l.last.payload) =
+    message_joined all l.last now.follows now.passing (subst (λ x. OpcodeAt x l.last.opcode) (state_is all p.ws now) at) part_is ends in
+    let text : m ≡ flat_map (λ q. q.payload) (data_parts all) ++ l.last.payload = l.text ∙ ap (λ x. x ++ l.last.payload) now.joined in
     let used : p.used + s.used ≡ p.used + l.used = ap (λ x. p.used + x) l.used_is in
-    subst (JoinedStands ws.side limit u m) (sym used)
+    subst (JoinedStands ws.side past limit u m) (sym used)
     (record {
       before = i.parts;
       last = l.last;
-      opcode = first_opcode (data_parts i.parts) l.last;
+      opcode = first_opcode (data_parts all) l.last;
       there = omega (arith, i.there, frame.1, length-drop p.used u);
       frames = subst (AreFrames (peer_of ws.side) (i.parts ++ l.last ∷ [])) (sym (take-add p.used l.used u))
           (frames_behind (peer_of ws.side) i.parts l.last (take p.used u) (take l.used v) i.frames (subst (λ x. Frame (peer_of x) l.last.fin l.last.opcode l.last.payload (take l.used v)) side frame.0));
-      joined = subst (Joined (i.parts ++ l.last ∷ []) (first_opcode (data_parts i.parts) l.last)) (sym text) whole;
+      joined = subst (λ (ps : List Part). Joined ps (first_opcode (data_parts all) l.last) m) (append_assoc past i.parts (l.last ∷ [])) (subst (Joined (all ++ l.last ∷ []) (first_opcode (data_parts all) l.last)) (sym text) whole);
       unclosed = all_unclosed i.parts l.last i.passing (data_unclosed l.last part_is);
       ends = part_is;
       short = omega (arith, ap length l.text, length-append p.ws.joined l.last.payload, part_within limit p.ws v l.last l.used l.front part_is);
       text = λ one. subst IsUtf8 (sym l.text) (IsUtf8-from_is_utf8 (p.ws.joined ++ l.last.payload)
-          (utf8_where (unwrap_or p.ws.joining l.last.opcode == 1) (is_utf8 (p.ws.joined ++ l.last.payload)) l.fine (same_one (unwrap_or p.ws.joining l.last.opcode) (ap (λ x. unwrap_or x l.last.opcode) first ∙ one))));
+          (utf8_where (unwrap_or p.ws.joining l.last.opcode == 1) (is_utf8 (p.ws.joined ++ l.last.payload)) l.fine (same_one (unwrap_or p.ws.joining l.last.opcode) (ap (λ x. unwrap_or x l.last.opcode) now.joining ∙ one))));
     })
 
 -- the read of a layer, by whether its close frame was met
 abbrev read_by : Bool → List Placed → WsLayer → List ℕ → Bool → ℕ → Outcome
 read_by met below ws u ended limit = if met then outcome 0 (Ws ws ∷ below) (Fault Epipe) else behind_passed below (passed limit ws u) (shown limit ended (passed limit ws u).ws (drop (passed limit ws u).used u))
 
-by_met : (laws : FrameLaws) (limit : ℕ) (below : List Placed) (ws : WsLayer) (u m : List ℕ) (ended met : Bool) → AreBytes u → ws.joining ≡ None → ws.joined ≡ []
-    → (read_by met below ws u ended limit).said ≡ Given (Bytes m) → JoinedStands ws.side limit u m (read_by met below ws u ended limit).used
-by_met laws limit below ws u m ended true b j e g = cc
-by_met laws limit below ws u m ended false b j e g =
+by_met : (laws : FrameLaws) (limit : ℕ) (past : List Part) (below : List Placed) (ws : WsLayer) (u m : List ℕ) (ended met : Bool) → AreBytes u → HasPassed past ws
+    → (read_by met below ws u ended limit).said ≡ Given (Bytes m) → JoinedStands ws.side past limit u m (read_by met below ws u ended limit).used
+by_met laws limit past below ws u m ended true b h g = cc
+by_met laws limit past below ws u m ended false b h g =
     let p : Passed = passed limit ws u in
-    message_stands laws limit ws u m p (shown limit ended p.ws (drop p.used u)) b j e (passes_frames laws limit ws u b) (last_frame limit ended p.ws (drop p.used u) m g)
+    message_stands laws limit past ws u m p (shown limit ended p.ws (drop p.used u)) b h (passes_frames laws limit ws u b) (last_frame limit ended p.ws (drop p.used u) m g)
 
-pub gives_joined : (laws : FrameLaws) (limit : ℕ) (below : List Placed) (ws : WsLayer) (u m : List ℕ) (ended : Bool) → AreBytes u → ws.joining ≡ None → ws.joined ≡ [] → (read_ws below ws u ended limit).said ≡ Given (Bytes m) → JoinedStands ws.side limit u m (read_ws below ws u ended limit).used
-gives_joined laws limit below ws u m ended b j e g = by_met laws limit below ws u m ended ws.met b j e g
+pub gives_joined : (laws : FrameLaws) (limit : ℕ) (past : List Part) (below : List Placed) (ws : WsLayer) (u m : List ℕ) (ended : Bool) → AreBytes u → HasPassed past ws → (read_ws below ws u ended limit).said ≡ Given (Bytes m) → JoinedStands ws.side past limit u m (read_ws below ws u ended limit).used
+gives_joined laws limit past below ws u m ended b h g = by_met laws limit past below ws u m ended ws.met b h g
+
+-- what is shown where more bytes are awaited: nothing is used behind what was passed
+pub record IsWaiting (ws : WsLayer) (s : Shown) : Type 0 where
+  pub used_is : s.used ≡ 0
+  pub same : s.ws ≡ ws
+
+by_text : (ws : WsLayer) (last : Part) (used : ℕ) (bad : Bool) → (text_by bad ws last used).said ≡ Need → ⊥
+by_text ws last used true e = cc
+by_text ws last used false e = cc
+
+by_closed : (ws : WsLayer) (used : ℕ) (met : Bool) → (close_by met ws used).said ≡ Need → ⊥
+by_closed ws used true e = cc
+by_closed ws used false e = cc
+
+by_waiting : (ended : Bool) (ws : WsLayer) (v : List ℕ) (f : WsFront) → (shown_by ended ws v f).said ≡ Need → IsWaiting ws (shown_by ended ws v f)
+by_waiting ended ws v (Whole last used) e = by_kind (last.opcode == 8) e
+  where
+    by_kind : (c : Bool) → (frame_shown c ws last used).said ≡ Need → IsWaiting ws (frame_shown c ws last used)
+    by_kind true q = absurd (by_closed ws used (is_some (close_of last.payload)) q)
+    by_kind false q = absurd (by_text ws last used (unwrap_or ws.joining last.opcode == 1 && not (is_utf8 (ws.joined ++ last.payload))) q)
+by_waiting ended ws v Short e = record { used_is = refl; same = refl }
+by_waiting ended ws v (Refused x) e = cc
+
+waiting : (limit : ℕ) (ended : Bool) (ws : WsLayer) (v : List ℕ) → (shown limit ended ws v).said ≡ Need → IsWaiting ws (shown limit ended ws v)
+unfolding shown
+waiting limit ended ws v e = by_waiting ended ws v (ws_front limit ws v) e
+
+need_by : (laws : FrameLaws) (limit : ℕ) (past : List Part) (below : List Placed) (ws : WsLayer) (u : List ℕ) (ended met : Bool) → AreBytes u → HasPassed past ws
+    → (read_by met below ws u ended limit).said ≡ Need → PassedOn past below ws u (read_by met below ws u ended limit)
+need_by laws limit past below ws u ended true b h g = cc
+need_by laws limit past below ws u ended false b h g =
+    let p : Passed = passed limit ws u in
+    let i : IsPassed limit ws u p = passes_frames laws limit ws u b in
+    let s : Shown = shown limit ended p.ws (drop p.used u) in
+    let w : IsWaiting p.ws s = waiting limit ended p.ws (drop p.used u) g in
+    let used : p.used + s.used ≡ p.used = omega (arith, w.used_is) in
+    record {
+      parts = i.parts;
+      after = p.ws;
+      there = omega (arith, used, i.there);
+      frames = subst (λ n. AreFrames (peer_of ws.side) i.parts (take n u)) (sym used) i.frames;
+      layers = ap (λ x. Ws x ∷ below) w.same;
+      passed = subst (HasPassed (past ++ i.parts)) (sym i.layer) (passed_more past ws i.parts h i.follows i.passing);
+      pings = i.pings;
+    }
+
+pub needs_passed : (laws : FrameLaws) (limit : ℕ) (past : List Part) (below : List Placed) (ws : WsLayer) (u : List ℕ) (ended : Bool) → AreBytes u → HasPassed past ws → (read_ws below ws u ended limit).said ≡ Need → PassedOn past below ws u (read_ws below ws u ended limit)
+needs_passed laws limit past below ws u ended b h g = need_by laws limit past below ws u ended ws.met b h g

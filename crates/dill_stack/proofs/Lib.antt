@@ -8,6 +8,7 @@ pub mod MessageReads
 pub mod MessageTold
 pub mod MessageWaits
 pub mod OneMessage
+pub mod PassedBehind
 pub mod PassedParts
 pub mod Passings
 pub mod Spellings

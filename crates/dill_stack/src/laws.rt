@@ -31,7 +31,8 @@ pub fn message_laws()
     suffix_laws();
 }
 
-/// A WebSocket layer gives a message exactly where the frames of one message stand at the front, and just their bytes are used.
+/// A WebSocket layer gives a message exactly where its frames stand at the front, behind those that the layer has
+/// passed, and just their bytes are used.
 pub fn joining_laws()
     ensures { JoiningLaws }
 {
