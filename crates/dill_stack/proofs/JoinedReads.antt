@@ -1,5 +1,5 @@
 -- A message that stands at the front as frames is given.
-use Rattle.std.proofs.Common.{◌≡◌, ◌≤◌, ◌+◌, [], ◌∷◌, ◌++◌, List, ℕ, length, take, drop, arith, sym, ap, ◌∙◌, refl, subst, Bool, true, false, not, ◌&&◌, ◌||◌, None, append_assoc, append-nil, length-append}
+use Rattle.std.proofs.Common.{◌≡◌, ◌≤◌, ◌+◌, [], ◌∷◌, ◌++◌, List, ℕ, length, take, drop, arith, sym, ap, ◌∙◌, refl, subst, Bool, true, false, not, ◌&&◌, ◌||◌, None, append_assoc, append-nil, length-append, inr}
 use Rattle.std.specs.Prelude.{◌==◌, if◌then◌else◌, is_some, flat_map, IsUtf8}
 use Rattle.std.specs.List.{list_all}
 use Rattle.std.specs.Option.{unwrap_or}
@@ -15,14 +15,14 @@ use Rattle.dill_ws.specs.Frames.{Part, Frame, Joined, peer_of, data_parts, may_f
 use Rattle.dill_ws.specs.FrameLaws.{FrameLaws}
 use Rattle.dill_stack.specs.declared.want.ReadOut.TheVariants.{Given, Fault}
 use Rattle.dill_stack.specs.Layers.{Placed, Ws, WsLayer}
-use Rattle.dill_stack.specs.WsReading.{Passed, passed, ws_front, Whole, Shown, shown, shown_by, close_met, message_of, is_data}
-use Rattle.dill_stack.specs.Passing.{AreFrames, AreFollowing, is_passing, joining_behind, pings_of, with_parts}
+use Rattle.dill_stack.specs.WsReading.{Passed, passed, pass_by_front, ws_front, Whole, Shown, shown, shown_by, close_met, message_of, is_data}
+use Rattle.dill_stack.specs.Passing.{AreFrames, AreFollowing, is_passing, joined_size, pings_of, with_parts}
 use Rattle.dill_stack.specs.Read.{Outcome, outcome, behind_passed, read_ws}
 use Rattle.dill_stack.specs.Joining.{HasPassed, JoinedStands, joined_outcome, is_no_close}
 use Rattle.dill_stack.proofs.OneMessage.{OpcodeAt, Open, is_some_part, first_opcode, both_true, joining_is, data_behind, texts_behind}
 use Rattle.dill_stack.proofs.PassedBehind.{data_append, state_is, passed_more}
 use Rattle.dill_stack.proofs.Following.{IsOpened, message_opened, data_follows, all_follow}
-use Rattle.dill_stack.proofs.PassedParts.{AtFront, joins_behind, last_read, passed_front}
+use Rattle.dill_stack.proofs.PassedParts.{AtFront, front_whole, last_stays, passed_front}
 
 -- some frames and the one behind them
 pub record IsSplit (peer : Side) (parts : List Part) (last : Part) (x : List ℕ) : Type 0 where
@@ -88,17 +88,20 @@ read_shown limit below ws u x ended p s met e d f =
     unmet false y z h = refl
 
 -- the frames of a message that stand at the front, where some were passed before
-pub record StandsAt (limit : ℕ) (past : List Part) (ws : WsLayer) (u m : List ℕ) (before : List Part) (last : Part) (w v : List ℕ) : Type 0 where
-  pub front : AtFront limit ws before last w v
+pub record StandsAt (limit : ℕ) (past : List Part) (ws : WsLayer) (m : List ℕ) (before : List Part) (last : Part) : Type 0 where
+  pub follows : AreFollowing (is_some ws.joining) before
+  pub passing : list_all is_passing before ≡ true
+  pub short : length ws.joined + joined_size before + length last.payload ≤ limit
+  pub allowed : may_follow (is_some (with_parts before ws).joining) last.fin last.opcode (length last.payload) ≡ true
+  pub fin : last.fin ≡ true
   pub opcode : ℕ
   pub opcode_is : first_opcode (data_parts (past ++ before)) last ≡ opcode
   pub text : opcode ≡ 1 → IsUtf8 m
   pub together : flat_map (λ p. p.payload) (data_parts (past ++ before)) ++ last.payload ≡ m
   pub now : HasPassed (past ++ before) (with_parts before ws)
 
-stands_at : (limit : ℕ) (past : List Part) (ws : WsLayer) (u m : List ℕ) (n : ℕ) (w v : List ℕ) → HasPassed past ws → (s : JoinedStands ws.side past limit u m n) → AreFrames (peer_of ws.side) s.before w → Frame (peer_of ws.side) s.last.fin s.last.opcode s.last.payload v
-    → StandsAt limit past ws u m s.before s.last w v
-stands_at limit past ws u m n w v h s frames frame =
+stands_at : (limit : ℕ) (past : List Part) (ws : WsLayer) (u m : List ℕ) (n : ℕ) (w : List ℕ) → HasPassed past ws → (s : JoinedStands ws.side past limit u m n) → AreFrames (peer_of ws.side) s.before w → StandsAt limit past ws m s.before s.last
+stands_at limit past ws u m n w h s frames =
     let all : List Part = past ++ s.before in
     let joined : Joined (all ++ s.last ∷ []) s.opcode m = subst (λ (ps : List Part). Joined ps s.opcode m) (sym (append_assoc past s.before (s.last ∷ []))) s.joined in
     let o : IsOpened (data_parts all) s.last s.opcode = message_opened all s.last s.opcode m s.ends joined in
@@ -109,20 +112,14 @@ stands_at limit past ws u m n w v h s frames frame =
     let now : HasPassed all (with_parts s.before ws) = passed_more past ws s.before h follow.0 follow.1 in
     let text : flat_map (λ p. p.payload) (data_parts all) ++ s.last.payload ≡ m =
     sym (texts_behind (data_parts all) s.last) ∙ ap (λ (x : List Part). flat_map (λ p. p.payload) x) (sym (data_behind all s.last s.ends)) ∙ joined.together in
-    let behind : is_some (with_parts s.before ws).joining ≡ joining_behind (is_some ws.joining) s.before = joins_behind ws s.before follow.1 in
-    let at : OpcodeAt (joining_behind (is_some ws.joining) s.before) s.last.opcode =
-    subst (λ b. OpcodeAt b s.last.opcode) (sym (joining_is false all now.passing) ∙ sym (state_is all (with_parts s.before ws) now) ∙ behind) o.last_opcode in
+    let at : OpcodeAt (is_some (with_parts s.before ws).joining) s.last.opcode =
+    subst (λ b. OpcodeAt b s.last.opcode) (sym (joining_is false all now.passing) ∙ sym (state_is all (with_parts s.before ws) now)) o.last_opcode in
     record {
-      front = record {
-        frames = frames;
-        frame = frame;
-        follows = follow.0;
-        passing = follow.1;
-        allowed = data_follows (joining_behind (is_some ws.joining) s.before) s.last.fin s.last.opcode (length s.last.payload) at;
-        is_part = s.ends;
-        ends = o.last_fin;
-        short = omega (arith, s.short, ap length text, length-append (flat_map (λ p. p.payload) (data_parts all)) s.last.payload, ap length now.joined, length-append ws.joined (flat_map (λ p. p.payload) (data_parts s.before)));
-      };
+      follows = follow.0;
+      passing = follow.1;
+      short = omega (arith, s.short, ap length text, length-append (flat_map (λ p. p.payload) (data_parts all)) s.last.payload, ap length now.joined, length-append ws.joined (flat_map (λ p. p.payload) (data_parts s.before)));
+      allowed = data_follows (is_some (with_parts s.before ws).joining) s.last.fin s.last.opcode (length s.last.payload) at;
+      fin = o.last_fin;
       opcode = s.opcode;
       opcode_is = o.opcode_is;
       text = s.text;
@@ -130,31 +127,27 @@ stands_at limit past ws u m n w v h s frames frame =
       now = now;
     }
 
--- the last frame is read behind those that were passed
-front_behind : (laws : FrameLaws) (limit : ℕ) (ws : WsLayer) (before : List Part) (last : Part) (w v rest : List ℕ) → AtFront limit ws before last w v → ws_front limit (with_parts before ws) (v ++ rest) ≡ Whole last (length v)
-front_behind laws limit ws before last w v rest a = last_read laws limit (with_parts before ws) last v rest (record {
-  frames = refl;
-  frame = a.frame;
-  follows = tt;
-  passing = refl;
-  allowed = subst (λ b. may_follow b last.fin last.opcode (length last.payload) ≡ true) (sym (joins_behind ws before a.passing)) a.allowed;
-  is_part = a.is_part;
-  ends = a.ends;
-  short = omega (arith, a.short, length-append ws.joined (flat_map (λ p. p.payload) (data_parts before)));
-})
-
 pub joined_gives : (laws : FrameLaws) (limit : ℕ) (past : List Part) (below : List Placed) (ws : WsLayer) (u m : List ℕ) (n : ℕ) (ended : Bool) → HasPassed past ws → ws.met ≡ false → (stands : JoinedStands ws.side past limit u m n) → read_ws below ws u ended limit ≡ joined_outcome below ws n stands.before m
 joined_gives laws limit past below ws u m n ended h met s =
     let k : IsSplit (peer_of ws.side) s.before s.last (take n u) = frames_split (peer_of ws.side) s.before s.last (take n u) s.frames in
     let rest : List ℕ = drop n u in
     let whole : u ≡ k.first ++ (k.second ++ rest) = sym (take-append-drop n u) ∙ ap (λ x. x ++ rest) k.whole ∙ append_assoc k.first k.second rest in
-    let a : StandsAt limit past ws u m s.before s.last k.first k.second = stands_at limit past ws u m n k.first k.second h s k.frames k.frame in
+    let a : StandsAt limit past ws m s.before s.last = stands_at limit past ws u m n k.first h s k.frames in
     let behind : WsLayer = with_parts s.before ws in
     let text : behind.joined ++ s.last.payload ≡ m = ap (λ x. x ++ s.last.payload) a.now.joined ∙ a.together in
     let opcode : unwrap_or behind.joining s.last.opcode ≡ a.opcode = ap (λ x. unwrap_or x s.last.opcode) a.now.joining ∙ a.opcode_is in
+    let front : ws_front limit behind (k.second ++ rest) ≡ Whole s.last (length k.second) =
+    front_whole laws limit behind s.last k.second rest k.frame a.allowed (λ d. omega (arith, a.short, length-append ws.joined (flat_map (λ p. p.payload) (data_parts s.before)))) in
+    let at : AtFront limit ws s.before k.first (k.second ++ rest) = record {
+      frames = k.frames;
+      follows = a.follows;
+      passing = a.passing;
+      within = inr (omega (arith, a.short));
+      stops = ap (pass_by_front behind) front ∙ last_stays behind s.last (length k.second) s.ends a.fin;
+    } in
     let answer : Shown = record { used = length k.second; ws = record behind { joining = None; joined = [] }; said = Given (Bytes m) } in
     let last_is : shown limit ended behind (k.second ++ rest) ≡ answer =
-    message_shown limit ended behind (k.second ++ rest) m s.last (length k.second) (front_behind laws limit ws s.before s.last k.first k.second rest a.front) s.ends (λ one. subst IsUtf8 (sym text) (a.text (sym opcode ∙ one))) text in
+    message_shown limit ended behind (k.second ++ rest) m s.last (length k.second) front s.ends (λ one. subst IsUtf8 (sym text) (a.text (sym opcode ∙ one))) text in
     let used : length k.first + length k.second ≡ n = omega (arith, sym (length-take-le n u s.there), ap length k.whole, length-append k.first k.second) in
-    read_shown limit below ws u (k.second ++ rest) ended (record { used = length k.first; ws = behind; pings = pings_of s.before }) answer met (passed_front laws limit ws s.before s.last u k.first k.second rest a.front whole) (ap (drop (length k.first)) whole ∙ drop-append_seam k.first (k.second ++ rest)) last_is
+    read_shown limit below ws u (k.second ++ rest) ended (record { used = length k.first; ws = behind; pings = pings_of s.before }) answer met (passed_front laws limit ws s.before u k.first (k.second ++ rest) at whole) (ap (drop (length k.first)) whole ∙ drop-append_seam k.first (k.second ++ rest)) last_is
     ∙ ap (λ x. joined_outcome below ws x s.before m) used

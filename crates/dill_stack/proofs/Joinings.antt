@@ -20,8 +20,8 @@ use Rattle.dill_stack.specs.Passing.{AreFrames, is_passing, IsPassed}
 use Rattle.dill_stack.specs.Read.{Outcome, outcome, behind_passed, read_ws}
 use Rattle.dill_stack.specs.Joining.{HasPassed, JoinedStands, PassedOn, is_no_close}
 use Rattle.dill_stack.proofs.PassedBehind.{state_is, passed_more}
-use Rattle.dill_stack.proofs.Limits.{part_within}
-use Rattle.dill_stack.proofs.Passings.{frame_at, frame_of, follows_at, bytes_behind, passes_frames}
+use Rattle.dill_stack.proofs.Limits.{frame_at, part_within}
+use Rattle.dill_stack.proofs.Passings.{frame_of, follows_at, bytes_behind, passes_frames}
 use Rattle.dill_stack.proofs.OneMessage.{OpcodeAt, first_opcode, opcode_at, both_true, message_joined, frames_behind, data_is}
 
 -- no answer of bytes where the list ended

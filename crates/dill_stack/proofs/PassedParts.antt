@@ -1,19 +1,19 @@
 -- Frames that stand at the front are read, and those that don't end a message are passed.
 use Rattle.std.proofs.Common.{slice_index, ◌%◌, ◌≡◌, ◌≤◌, ◌+◌, [], ◌∷◌, ◌++◌, List, ℕ, zero, suc, length, take, drop, arith, sym, ap, ◌∙◌, refl, subst, Bool, true, false, not, ◌&&◌, ◌||◌, Some, None, append_assoc, length-append, le-ltb}
-use Rattle.std.specs.Prelude.{◌==◌, if◌then◌else◌, is_some, nat_lt, flat_map, cond}
+use Rattle.std.specs.Prelude.{◌==◌, if◌then◌else◌, is_some, nat_lt}
 use Rattle.std.specs.List.{list_all}
 use Rattle.std.proofs.lemmas.Bool.{leb-true, ne_eqb}
 use Rattle.std.proofs.lemmas.List.{length-take-le, length-drop}
 use Rattle.std.proofs.Math.Seq.{drop-append_seam}
 use Rattle.dill_base.specs.declared.errno.Errno.TheVariants.{Emsgsize}
 use Rattle.dill_ws.specs.declared.head.Head.{Head}
-use Rattle.dill_ws.specs.Frames.{Part, Frame, peer_of, data_parts, may_follow}
+use Rattle.dill_ws.specs.Frames.{Part, Frame, peer_of, may_follow}
 use Rattle.dill_ws.specs.FrameLaws.{FrameLaws, ReadsFrame, payload_at}
 use Rattle.dill_stack.specs.Layers.{WsLayer}
 use Rattle.dill_stack.specs.WsReading.{Passed, passed, passed_within, after_pass, then_passed, nothing_passed, pass_by_front, pass_of, ws_front, Whole, Short, Refused, judged, passes_limit, has_length, length_at, part_of, is_data, with_part}
-use Rattle.dill_stack.specs.Passing.{AreFrames, AreFollowing, is_passing, is_joining, joining_behind, pings_of, with_parts}
+use Rattle.dill_stack.specs.Passing.{AreFrames, AreFollowing, is_passing, is_joining, joining_behind, KeepsWithin, pings_of, with_parts}
 use Rattle.dill_stack.proofs.OneMessage.{both_true}
-use Rattle.dill_stack.proofs.Limits.{HeadShown, head_shown, length_masked}
+use Rattle.dill_stack.proofs.Limits.{HeadShown, head_shown, length_masked, within_first, within_less}
 use Rattle.dill_stack.proofs.Passings.{PassIs, pass_is, parts_more, pings_more, grows, unjoined}
 
 -- the payload behind a head has the length that the head tells
@@ -56,24 +56,6 @@ front_whole laws limit ws part w rest f m l =
     ∙ ap (λ n. Whole (part_of r.head u) n) r.used
     ∙ ap (λ p. Whole p (length w)) same
 
--- the bytes of the parts of messages among these
-abbrev pub size_of : List Part → ℕ
-size_of parts = length (flat_map (λ part. part.payload) (data_parts parts))
-
-size_more : (part : Part) (parts : List Part) → size_of (part ∷ parts) ≡ size_of (part ∷ []) + size_of parts
-size_more part parts = by_test (is_data part.opcode)
-  where
-    by_test : (b : Bool) → length (flat_map (λ p. p.payload) (cond b (part ∷ data_parts parts) (data_parts parts))) ≡ length (flat_map (λ p. p.payload) (cond b (part ∷ []) [])) + length (flat_map (λ p. p.payload) (data_parts parts))
-    by_test true = omega (arith, length-append part.payload (flat_map (λ p. p.payload) (data_parts parts)), length-append part.payload [])
-    by_test false = omega arith
-
-size_one : (part : Part) → is_data part.opcode ≡ true → size_of (part ∷ []) ≡ length part.payload
-size_one part d = by_test (is_data part.opcode) d
-  where
-    by_test : (b : Bool) → b ≡ true → length (flat_map (λ p. p.payload) (cond b (part ∷ []) [])) ≡ length part.payload
-    by_test true e = omega (arith, length-append part.payload [])
-    by_test false e = cc
-
 -- what is passed is some pass
 some_pass : (a b c : Bool) (x y z : Passed) → (a || b || c) ≡ true → (q : Passed) × ((if a then Some x else if b then Some y else if c then Some z else None) ≡ Some q)
 some_pass true b c x y z e = (x, refl)
@@ -99,7 +81,7 @@ none_pass false false true x y z e f g = cc
 none_pass false false false x y z e f g = refl
 
 -- the last frame of a message isn't passed
-last_stays : (ws : WsLayer) (last : Part) (used : ℕ) → is_data last.opcode ≡ true → last.fin ≡ true → pass_of ws last used ≡ None
+pub last_stays : (ws : WsLayer) (last : Part) (used : ℕ) → is_data last.opcode ≡ true → last.fin ≡ true → pass_of ws last used ≡ None
 last_stays ws last used d e =
     let l : last.opcode ≤ 2 = leb-true last.opcode 2 d in
     none_pass (last.opcode == 9) (last.opcode == 10) (is_data last.opcode && not last.fin) (record { used = used; ws = ws; pings = last.payload ∷ [] }) (record { used = used; ws = ws; pings = [] }) (record { used = used; ws = with_part last ws; pings = [] })
@@ -122,62 +104,51 @@ joins_behind ws (part ∷ parts) p =
 step_passed : (most limit : ℕ) (ws : WsLayer) (u x : List ℕ) (q r : Passed) → pass_by_front ws (ws_front limit ws u) ≡ Some q → drop q.used u ≡ x → passed_within most limit q.ws x ≡ r → passed_within (suc most) limit ws u ≡ then_passed q r
 step_passed most limit ws u x q r e d i = ap (after_pass (passed_within most limit) ws u) e ∙ ap (λ v. then_passed q (passed_within most limit q.ws v)) d ∙ ap (then_passed q) i
 
--- the frames that stand at the front before the last one of a message
-pub record AtFront (limit : ℕ) (ws : WsLayer) (parts : List Part) (last : Part) (w v : List ℕ) : Type 0 where
+-- frames that stand at the front, and behind them what isn't passed
+pub record AtFront (limit : ℕ) (ws : WsLayer) (parts : List Part) (w rest : List ℕ) : Type 0 where
   pub frames : AreFrames (peer_of ws.side) parts w
-  pub frame : Frame (peer_of ws.side) last.fin last.opcode last.payload v
   pub follows : AreFollowing (is_some ws.joining) parts
   pub passing : list_all is_passing parts ≡ true
-  pub allowed : may_follow (joining_behind (is_some ws.joining) parts) last.fin last.opcode (length last.payload) ≡ true
-  pub is_part : is_data last.opcode ≡ true
-  pub ends : last.fin ≡ true
-  pub short : length ws.joined + size_of parts + length last.payload ≤ limit
-
--- the last frame is read where it stands at the front
-pub last_read : (laws : FrameLaws) (limit : ℕ) (ws : WsLayer) (last : Part) (v rest : List ℕ) → AtFront limit ws [] last [] v → ws_front limit ws (v ++ rest) ≡ Whole last (length v)
-last_read laws limit ws last v rest a = front_whole laws limit ws last v rest a.frame a.allowed (λ d. omega (arith, a.short))
+  pub within : KeepsWithin limit ws parts
+  pub stops : pass_by_front (with_parts parts ws) (ws_front limit (with_parts parts ws) rest) ≡ None
 
 same_passed : (used n : ℕ) (ws x : WsLayer) (pings more : List (List ℕ)) → used ≡ n → ws ≡ x → pings ≡ more → let p : Passed = record { used = used; ws = ws; pings = pings } in let q : Passed = record { used = n; ws = x; pings = more } in p ≡ q
 same_passed used n ws x pings more e f g = cc
 
-passed_parts : (laws : FrameLaws) (most limit : ℕ) (ws : WsLayer) (parts : List Part) (last : Part) (w v rest : List ℕ) → AtFront limit ws parts last w v → length (w ++ (v ++ rest)) ≤ most
-    → passed_within most limit ws (w ++ (v ++ rest)) ≡ record { used = length w; ws = with_parts parts ws; pings = pings_of parts }
-passed_parts laws zero limit ws [] last w v rest a l = absurd (omega (arith, l, grows ws last v a.frame, length-append w (v ++ rest), length-append v rest))
-passed_parts laws (suc most) limit ws [] last w v rest a l =
-    let front : ws_front limit ws (v ++ rest) ≡ Whole last (length v) = last_read laws limit ws last v rest (record { frames = refl; frame = a.frame; follows = tt; passing = refl; allowed = a.allowed; is_part = a.is_part; ends = a.ends; short = a.short }) in
-    let none : pass_by_front ws (ws_front limit ws (v ++ rest)) ≡ None = ap (pass_by_front ws) front ∙ last_stays ws last (length v) a.is_part a.ends in
-    subst (λ (x : List ℕ). passed_within (suc most) limit ws (x ++ (v ++ rest)) ≡ record { used = length x; ws = with_parts [] ws; pings = [] }) (sym a.frames)
-    (ap (after_pass (passed_within most limit) ws (v ++ rest)) none ∙ ap nothing_passed (unjoined ws))
-passed_parts laws zero limit ws (part ∷ parts) last w v rest a l =
-    absurd (omega (arith, l, grows ws part a.frames.0 a.frames.2, ap length a.frames.3, length-append a.frames.0 a.frames.1, length-append w (v ++ rest)))
-passed_parts laws (suc most) limit ws (part ∷ parts) last w v rest a l =
+passed_parts : (laws : FrameLaws) (most limit : ℕ) (ws : WsLayer) (parts : List Part) (w rest : List ℕ) → AtFront limit ws parts w rest → length (w ++ rest) ≤ most
+    → passed_within most limit ws (w ++ rest) ≡ record { used = length w; ws = with_parts parts ws; pings = pings_of parts }
+passed_parts laws zero limit ws [] w rest a l =
+    subst (λ (x : List ℕ). nothing_passed ws ≡ record { used = length x; ws = with_parts [] ws; pings = [] }) (sym a.frames) (ap nothing_passed (unjoined ws))
+passed_parts laws (suc most) limit ws [] w rest a l =
+    let none : pass_by_front ws (ws_front limit ws rest) ≡ None = subst (λ (x : WsLayer). pass_by_front x (ws_front limit x rest) ≡ None) (sym (unjoined ws)) a.stops in
+    subst (λ (x : List ℕ). passed_within (suc most) limit ws (x ++ rest) ≡ record { used = length x; ws = with_parts [] ws; pings = [] }) (sym a.frames)
+    (ap (after_pass (passed_within most limit) ws rest) none ∙ ap nothing_passed (unjoined ws))
+passed_parts laws zero limit ws (part ∷ parts) w rest a l =
+    absurd (omega (arith, l, grows ws part a.frames.0 a.frames.2, ap length a.frames.3, length-append a.frames.0 a.frames.1, length-append w rest))
+passed_parts laws (suc most) limit ws (part ∷ parts) w rest a l =
     let f : List ℕ = a.frames.0 in
-    let x : List ℕ = a.frames.1 ++ (v ++ rest) in
+    let x : List ℕ = a.frames.1 ++ rest in
     let both : (is_passing part ≡ true) × (list_all is_passing parts ≡ true) = both_true (is_passing part) (list_all is_passing parts) a.passing in
     let p : Passes ws part (length f) = passes ws part (length f) both.0 in
     let behind : WsLayer = with_parts (part ∷ []) ws in
-    let front : ws_front limit ws (f ++ x) ≡ Whole part (length f) = front_whole laws limit ws part f x a.frames.2 a.follows.0 (λ d. omega (arith, a.short, size_more part parts, size_one part d)) in
-    let next : AtFront limit behind parts last a.frames.1 v = record {
+    let front : ws_front limit ws (f ++ x) ≡ Whole part (length f) = front_whole laws limit ws part f x a.frames.2 a.follows.0 (within_first limit ws part parts a.within) in
+    let next : AtFront limit behind parts a.frames.1 rest = record {
       frames = a.frames.4;
-      frame = a.frame;
       follows = subst (λ j. AreFollowing j parts) (sym p.joins) a.follows.1;
       passing = both.1;
-      allowed = subst (λ j. may_follow (joining_behind j parts) last.fin last.opcode (length last.payload) ≡ true) (sym p.joins) a.allowed;
-      is_part = a.is_part;
-      ends = a.ends;
-      short = omega (arith, a.short, size_more part parts, length-append ws.joined (flat_map (λ d. d.payload) (data_parts (part ∷ []))));
+      within = within_less limit ws part parts a.within;
+      stops = subst (λ (y : WsLayer). pass_by_front y (ws_front limit y rest) ≡ None) (parts_more part parts ws) a.stops;
     } in
-    let split : w ++ (v ++ rest) ≡ f ++ x = ap (λ y. y ++ (v ++ rest)) a.frames.3 ∙ append_assoc f a.frames.1 (v ++ rest) in
+    let split : w ++ rest ≡ f ++ x = ap (λ y. y ++ rest) a.frames.3 ∙ append_assoc f a.frames.1 rest in
     let again : passed_within most limit behind x ≡ record { used = length a.frames.1; ws = with_parts parts behind; pings = pings_of parts } =
-    passed_parts laws most limit behind parts last a.frames.1 v rest next (omega (arith, l, ap length split, length-append f x, grows ws part f a.frames.2)) in
+    passed_parts laws most limit behind parts a.frames.1 rest next (omega (arith, l, ap length split, length-append f x, grows ws part f a.frames.2)) in
     let step : passed_within (suc most) limit ws (f ++ x) ≡ then_passed (record { used = length f; ws = behind; pings = pings_of (part ∷ []) }) (record { used = length a.frames.1; ws = with_parts parts behind; pings = pings_of parts }) =
     step_passed most limit ws (f ++ x) x (record { used = length f; ws = behind; pings = pings_of (part ∷ []) }) (record { used = length a.frames.1; ws = with_parts parts behind; pings = pings_of parts }) (ap (pass_by_front ws) front ∙ p.pass) (drop-append_seam f x) again in
     ap (passed_within (suc most) limit ws) split
     ∙ step
     ∙ same_passed (length f + length a.frames.1) (length w) (with_parts parts behind) (with_parts (part ∷ parts) ws) (pings_of (part ∷ []) ++ pings_of parts) (pings_of (part ∷ parts)) (omega (arith, ap length a.frames.3, length-append f a.frames.1)) (sym (parts_more part parts ws)) (sym (pings_more part parts))
 
--- All frames before the last one of a message are passed.
-pub passed_front : (laws : FrameLaws) (limit : ℕ) (ws : WsLayer) (parts : List Part) (last : Part) (u w v rest : List ℕ) → AtFront limit ws parts last w v → u ≡ w ++ (v ++ rest) → passed limit ws u ≡ record { used = length w; ws = with_parts parts ws; pings = pings_of parts }
+-- All frames that may be passed are, where what stands behind them isn't.
+pub passed_front : (laws : FrameLaws) (limit : ℕ) (ws : WsLayer) (parts : List Part) (u w rest : List ℕ) → AtFront limit ws parts w rest → u ≡ w ++ rest → passed limit ws u ≡ record { used = length w; ws = with_parts parts ws; pings = pings_of parts }
 unfolding passed
-passed_front laws limit ws parts last u w v rest a e =
-    ap (λ x. passed_within (length x) limit ws x) e ∙ passed_parts laws (length (w ++ (v ++ rest))) limit ws parts last w v rest a (omega arith)
+passed_front laws limit ws parts u w rest a e = ap (λ x. passed_within (length x) limit ws x) e ∙ passed_parts laws (length (w ++ rest)) limit ws parts w rest a (omega arith)
