@@ -32,7 +32,7 @@ pub record IsSplit (peer : Side) (parts : List Part) (last : Part) (x : List ℕ
   pub frame : Frame peer last.fin last.opcode last.payload second
   pub whole : x ≡ first ++ second
 
-frames_split : (peer : Side) (parts : List Part) (last : Part) (x : List ℕ) → AreFrames peer (parts ++ last ∷ []) x → IsSplit peer parts last x
+pub frames_split : (peer : Side) (parts : List Part) (last : Part) (x : List ℕ) → AreFrames peer (parts ++ last ∷ []) x → IsSplit peer parts last x
 frames_split peer [] last x f = record { first = []; second = f.0; frames = refl; frame = f.2; whole = f.3 ∙ ap (λ r. f.0 ++ r) f.4 ∙ append-nil f.0 }
 frames_split peer (part ∷ parts) last x f =
     let r : IsSplit peer parts last f.1 = frames_split peer parts last f.1 f.4 in
@@ -76,7 +76,7 @@ open_behind true (d ∷ a) b o = open_behind true a b o.2
 open_behind false (d ∷ a) b o = open_behind true a b o.2
 
 -- what is read where no close frame was met: the frames that were passed, and what the last one shows
-read_shown : (limit : ℕ) (below : List Placed) (ws : WsLayer) (u x : List ℕ) (ended : Bool) (p : Passed) (s : Shown) → ws.met ≡ false → passed limit ws u ≡ p → drop p.used u ≡ x → shown limit ended p.ws x ≡ s → read_ws below ws u ended limit ≡ behind_passed below p s
+pub read_shown : (limit : ℕ) (below : List Placed) (ws : WsLayer) (u x : List ℕ) (ended : Bool) (p : Passed) (s : Shown) → ws.met ≡ false → passed limit ws u ≡ p → drop p.used u ≡ x → shown limit ended p.ws x ≡ s → read_ws below ws u ended limit ≡ behind_passed below p s
 read_shown limit below ws u x ended p s met e d f =
     unmet ws.met (outcome 0 (Ws ws ∷ below) (Fault Epipe)) (behind_passed below (passed limit ws u) (shown limit ended (passed limit ws u).ws (drop (passed limit ws u).used u))) met
     ∙ ap (λ q. behind_passed below q (shown limit ended q.ws (drop q.used u))) e

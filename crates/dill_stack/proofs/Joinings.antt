@@ -46,10 +46,10 @@ no_text ws = record { used = 0; ws = ws; said = Fault Eproto }
 abbrev whole_text : WsLayer → Part → ℕ → Shown
 whole_text ws last used = record { used = used; ws = record ws { joining = None; joined = [] }; said = Given (Bytes (ws.joined ++ last.payload)) }
 
-abbrev text_by : Bool → WsLayer → Part → ℕ → Shown
+abbrev pub text_by : Bool → WsLayer → Part → ℕ → Shown
 text_by bad ws last used = if bad then no_text ws else whole_text ws last used
 
-abbrev close_by : Bool → WsLayer → ℕ → Shown
+abbrev pub close_by : Bool → WsLayer → ℕ → Shown
 close_by met ws used = if met then record { used = used; ws = record ws { met = true }; said = Fault Epipe } else no_text ws
 
 by_message : (limit : ℕ) (ws : WsLayer) (v m : List ℕ) (last : Part) (used : ℕ) (bad : Bool) → ws_front limit ws v ≡ Whole last used → (last.opcode == 8) ≡ false
@@ -61,7 +61,7 @@ by_close : (ws : WsLayer) (m : List ℕ) (used : ℕ) (met : Bool) → (close_by
 by_close ws m used true e = cc
 by_close ws m used false e = cc
 
-abbrev frame_shown : Bool → WsLayer → Part → ℕ → Shown
+abbrev pub frame_shown : Bool → WsLayer → Part → ℕ → Shown
 frame_shown closes ws last used = if closes then close_met ws last used else message_of ws last used
 
 by_shown : (limit : ℕ) (ended : Bool) (ws : WsLayer) (v m : List ℕ) (f : WsFront) → ws_front limit ws v ≡ f → (shown_by ended ws v f).said ≡ Given (Bytes m) → LastFrame limit ws v m (shown_by ended ws v f)
@@ -155,7 +155,7 @@ message_stands laws limit past ws u m p s b h i l =
     })
 
 -- the read of a layer, by whether its close frame was met
-abbrev read_by : Bool → List Placed → WsLayer → List ℕ → Bool → ℕ → Outcome
+abbrev pub read_by : Bool → List Placed → WsLayer → List ℕ → Bool → ℕ → Outcome
 read_by met below ws u ended limit = if met then outcome 0 (Ws ws ∷ below) (Fault Epipe) else behind_passed below (passed limit ws u) (shown limit ended (passed limit ws u).ws (drop (passed limit ws u).used u))
 
 by_met : (laws : FrameLaws) (limit : ℕ) (past : List Part) (below : List Placed) (ws : WsLayer) (u m : List ℕ) (ended met : Bool) → AreBytes u → HasPassed past ws

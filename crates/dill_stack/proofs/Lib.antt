@@ -1,4 +1,6 @@
 pub mod Attachings
+pub mod EndReads
+pub mod EndTold
 pub mod Following
 pub mod Fronts
 pub mod JoinedReads

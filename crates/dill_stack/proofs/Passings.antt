@@ -167,7 +167,7 @@ pass_then limit ws u part used r l f m j p t i =
 nothing_is : (limit : ℕ) (ws : WsLayer) (u : List ℕ) → pass_by_front ws (ws_front limit ws u) ≡ None → IsPassed limit ws u (nothing_passed ws)
 nothing_is limit ws u e = record { parts = []; there = omega arith; frames = refl; follows = tt; joining = refl; passing = refl; within = inl refl; pings = refl; layer = unjoined ws; last = e }
 
-empty_front : (limit : ℕ) (ws : WsLayer) → pass_by_front ws (ws_front limit ws []) ≡ None
+pub empty_front : (limit : ℕ) (ws : WsLayer) → pass_by_front ws (ws_front limit ws []) ≡ None
 unfolding ws_front head_front
 empty_front limit ws = refl
 

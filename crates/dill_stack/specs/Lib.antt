@@ -17,6 +17,7 @@ pub mod Needs
 pub mod Spelling
 pub mod Messages
 pub mod Joining
+pub mod Ending
 pub mod Interface
 pub mod RowWords
 pub mod Rows

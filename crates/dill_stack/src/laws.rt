@@ -1,3 +1,4 @@
+ghost use Rattle.dill_stack.specs.Ending.{EndingLaws};
 ghost use Rattle.dill_stack.specs.Joining.{JoiningLaws};
 ghost use Rattle.dill_stack.specs.Messages.{MessageLaws};
 ghost use Rattle.dill_stack.specs.Passing.{PassesFrames};
@@ -35,6 +36,14 @@ pub fn message_laws()
 /// passed, and just their bytes are used.
 pub fn joining_laws()
     ensures { JoiningLaws }
+{
+    frame_laws();
+}
+
+/// A WebSocket layer is at its end exactly where the peer's close frame was met or stands behind what is passed, or the
+/// list ended between two messages.
+pub fn ending_laws()
+    ensures { EndingLaws }
 {
     frame_laws();
 }
