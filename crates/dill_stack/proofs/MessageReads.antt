@@ -15,12 +15,11 @@ use Rattle.dill_frames.specs.Prefix.{AreBytes, prefix_front, prefix_due, PrefixS
 use Rattle.dill_frames.specs.Suffix.{suffix_front, suffix_due, SuffixSpells, SuffixShows}
 use Rattle.dill_frames.specs.Laws.{PrefixLaws, SuffixLaws}
 use Rattle.dill_frames.specs.Judging.{LiesIn}
-use Rattle.dill_stack.specs.declared.want.ReadOut.{ReadOut}
 use Rattle.dill_stack.specs.declared.want.ReadOut.TheVariants.{Given, Need, Fault}
 use Rattle.dill_stack.specs.Layers.{Placed, Prefix, Suffix, Term, Http, Ws, TermLayer}
 use Rattle.dill_stack.specs.Refusals.{is_met}
 use Rattle.dill_stack.specs.Read.{Outcome, outcome, read_message, by_front, over_term, is_terminal}
-use Rattle.dill_stack.specs.Messages.{MessageStands, EndStands, RefusalStands, IsReadable}
+use Rattle.dill_stack.specs.Messages.{MessageStands, EndStands, after_end, RefusalStands, IsReadable}
 
 -- the message behind its length, where it stands at the front
 prefix_gives : (p : PrefixLaws) (form : PrefixForm) (limit : ℕ) (u m : List ℕ) (n : ℕ) (ended : Bool) → n ≤ length u → length m ≤ limit → PrefixSpells form m (take n u)
@@ -95,25 +94,14 @@ message_gives p s (Term term ∷ below) limit u m n ended r st =
 message_gives p s (Http http ∷ below) limit u m n ended r st = absurd r.framing
 message_gives p s (Ws ws ∷ below) limit u m n ended r st = absurd r.framing
 
-kept_fault : (t : TermLayer) (o : Outcome) (x : Errno) (k : ℕ) → (o.said ≡ Fault x) × (o.used ≡ k) → ((over_term t o).said ≡ Fault x) × ((over_term t o).used ≡ k)
-kept_fault t o x k h = by_said o.said h.0
-  where
-    by_said : (said : ReadOut) → said ≡ Fault x → ((over_term t (record o { said = said })).said ≡ Fault x) × ((over_term t (record o { said = said })).used ≡ k)
-    by_said (Fault y) e = (e, h.1)
-    by_said (Given answer) e = cc
-    by_said Need e = cc
-
-pub message_ends : (p : PrefixLaws) (s : SuffixLaws) (layers : List Placed) (limit : ℕ) (u : List ℕ) (n : ℕ) (ended : Bool) → IsReadable layers → EndStands layers limit u n → ((read_message layers u ended limit).said ≡ Fault Epipe) × ((read_message layers u ended limit).used ≡ n)
+pub message_ends : (p : PrefixLaws) (s : SuffixLaws) (layers : List Placed) (limit : ℕ) (u : List ℕ) (n : ℕ) (ended : Bool) → IsReadable layers → (stands : EndStands layers limit u n) → read_message layers u ended limit ≡ outcome n (after_end layers limit u n stands) (Fault Epipe)
 message_ends p s [] limit u n ended r e = absurd e
 message_ends p s (Prefix form ∷ below) limit u n ended r e = absurd e
 message_ends p s (Suffix end ∷ below) limit u n ended r e = absurd e
 message_ends p s (Term term ∷ below) limit u n ended r (inl st) =
     let again : read_message below u ended limit ≡ outcome n below (Given (Bytes term.terminal)) = message_gives p s below limit u term.terminal n ended (below_is term below r) st in
-    let whole : read_message (Term term ∷ below) u ended limit ≡ outcome n (Term (record term { met = true }) ∷ below) (Fault Epipe) = past term below limit u ended r ∙ ap (over_term term) again ∙ over_end term below n in
-    (ap (λ (o : Outcome). o.said) whole, ap (λ (o : Outcome). o.used) whole)
-message_ends p s (Term term ∷ below) limit u n ended r (inr e) =
-    let again : ((read_message below u ended limit).said ≡ Fault Epipe) × ((read_message below u ended limit).used ≡ n) = message_ends p s below limit u n ended (below_is term below r) e in
-    subst (λ (o : Outcome). (o.said ≡ Fault Epipe) × (o.used ≡ n)) (sym (past term below limit u ended r)) (kept_fault term (read_message below u ended limit) Epipe n again)
+    past term below limit u ended r ∙ ap (over_term term) again ∙ over_end term below n
+message_ends p s (Term term ∷ below) limit u n ended r (inr e) = past term below limit u ended r ∙ ap (over_term term) (message_ends p s below limit u n ended (below_is term below r) e)
 message_ends p s (Http http ∷ below) limit u n ended r e = absurd e
 message_ends p s (Ws ws ∷ below) limit u n ended r e = absurd e
 

@@ -1,4 +1,5 @@
 -- When a receive is given a message, meets an end or is refused, by what stands at the front of the unread list.
+use mathlib.Core.Logic.{inl, inr}
 use Rattle.std.specs.Prelude.{◌≡◌, ◌⊎◌, ◌≤◌, ℕ, List, [], ◌∷◌, Bool, true, false, length, take}
 use Rattle.dill_base.specs.declared.errno.Errno.{Errno}
 use Rattle.dill_base.specs.declared.errno.Errno.TheVariants.{Epipe, Eproto}
@@ -34,6 +35,12 @@ EndStands [] limit u n = ⊥
 EndStands (Term term ∷ below) limit u n = MessageStands below limit u term.terminal n ⊎ EndStands below limit u n
 EndStands (layer ∷ below) limit u n = ⊥
 
+-- the layers behind an end that was met: the layer whose terminal message stood there has met it
+abbrev pub after_end : (layers : List Placed) (limit : ℕ) (u : List ℕ) (n : ℕ) → EndStands layers limit u n → List Placed
+after_end (Term term ∷ below) limit u n (inl stands) = Term (record term { met = true }) ∷ below
+after_end (Term term ∷ below) limit u n (inr stands) = Term term ∷ after_end below limit u n stands
+after_end layers limit u n stands = layers
+
 -- A front of the list shows the refusal, in the framing on the link.
 abbrev pub RefusalStands : List Placed → ℕ → List ℕ → Errno → Type 0
 RefusalStands [] limit u e = ⊥
@@ -61,7 +68,7 @@ pub record MessageLaws : Type 0 where
   pub gives : (layers : List Placed) (limit : ℕ) (u m : List ℕ) (n : ℕ) (ended : Bool) → IsReadable layers → MessageStands layers limit u m n → read_message layers u ended limit ≡ outcome n layers (Given (Bytes m))
   pub given : (layers : List Placed) (limit : ℕ) (u m : List ℕ) (ended : Bool) → IsReadable layers → AreBytes u → (read_message layers u ended limit).said ≡ Given (Bytes m) → MessageStands layers limit u m (read_message layers u ended limit).used
   -- An end is met where it stands there, and just its bytes are used. Where EPIPE is answered an end stands there, or the list ended with nothing unread.
-  pub ends : (layers : List Placed) (limit : ℕ) (u : List ℕ) (n : ℕ) (ended : Bool) → IsReadable layers → EndStands layers limit u n → ((read_message layers u ended limit).said ≡ Fault Epipe) × ((read_message layers u ended limit).used ≡ n)
+  pub ends : (layers : List Placed) (limit : ℕ) (u : List ℕ) (n : ℕ) (ended : Bool) → IsReadable layers → (stands : EndStands layers limit u n) → read_message layers u ended limit ≡ outcome n (after_end layers limit u n stands) (Fault Epipe)
   pub over : (layers : List Placed) (limit : ℕ) → IsReadable layers → read_message layers [] true limit ≡ outcome 0 layers (Fault Epipe)
   pub ended : (layers : List Placed) (limit : ℕ) (u : List ℕ) (ended : Bool) → IsReadable layers → AreBytes u → (read_message layers u ended limit).said ≡ Fault Epipe → EndStands layers limit u (read_message layers u ended limit).used ⊎ ((ended ≡ true) × (u ≡ []))
   -- A refusal is answered exactly where it stands there, and nothing is used.
