@@ -1,6 +1,7 @@
--- What an attach leaves is formed.
+-- What an attach leaves is formed, and a handshake is refused as its head is.
 use Rattle.std.proofs.Common.{◌≡◌, ◌∷◌, List, length, refl, subst, Bool, true, false, not, ◌&&◌, Ok}
-use Rattle.std.specs.Prelude.{nat_le, nat_lt}
+use Rattle.std.specs.Prelude.{nat_le, nat_lt, if◌then◌else◌, Some, None, ℕ}
+use Rattle.dill_base.specs.declared.errno.Errno.TheVariants.{Einval, Emsgsize}
 use Rattle.std.proofs.lemmas.Bool.{leb-true}
 use Rattle.dill_stack.specs.declared.layer.Layer.{Layer}
 use Rattle.dill_stack.specs.declared.layer.Layer.TheVariants as layer
@@ -8,9 +9,12 @@ use Rattle.dill_stack.specs.Layers.{Placed, placed}
 use Rattle.dill_stack.specs.Formed.{IsFormed}
 use Rattle.dill_stack.specs.Held.{Held, is_broken}
 use Rattle.dill_stack.specs.Composed.{is_refused}
-use Rattle.dill_stack.specs.Refusals.{first_fault, is_allowed, attach_fault}
+use Rattle.dill_stack.specs.Refusals.{first_fault, is_done, is_allowed, attach_fault}
 use Rattle.dill_stack.specs.Sending.{unless}
-use Rattle.dill_stack.specs.Attaching.{attach}
+use Rattle.dill_stack.specs.Attaching.{attach, greet_fault}
+use Rattle.dill_stack.specs.Greeting.{offer_fault}
+use Rattle.dill_http.specs.Bytes.{is_resource}
+use Rattle.dill_ws.specs.Handshakes.{client_lines, any_key, are_too_long, head_fault_of}
 use Rattle.dill_stack.proofs.OneMessage.{both_true}
 
 was_false : (b : Bool) → not b ≡ true → b ≡ false
@@ -46,3 +50,15 @@ unfolding attach attach_fault
 attach_formed l s t e f =
     let a : (is_allowed l s.layers ≡ true) × (record s { layers = placed l ∷ s.layers } ≡ t) = allowed_by (is_allowed l s.layers) false false (is_broken s) false (record s { layers = placed l ∷ s.layers }) t e in
     subst (λ (x : Held). IsFormed x.layers) a.1 (allowed_formed l s.layers a.0 f)
+
+-- the refusal of a head has its place in the order
+offered_by : (right long done broken : Bool) → done ≡ false → broken ≡ false → first_fault (not right) false done broken long ≡ (if right then (if long then Some Emsgsize else None) else Some Einval)
+offered_by false long done broken d b = refl
+offered_by true long true broken d b = cc
+offered_by true long false true d b = cc
+offered_by true true false false d b = refl
+offered_by true false false false d b = refl
+
+pub head_offered : (resource host : List ℕ) (s : Held) → is_done s ≡ false → is_broken s ≡ false → offer_fault resource host s ≡ head_fault_of resource host
+unfolding greet_fault head_fault_of
+head_offered resource host s d b = offered_by (is_resource resource && is_resource host) (are_too_long (client_lines resource host any_key)) (is_done s) (is_broken s) d b

@@ -8,7 +8,8 @@ ghost use Rattle.dill_stack.specs.Spelling.{FramingLaws};
 use dill_frames::{prefix_laws, suffix_laws};
 use dill_ws::frame_laws;
 
-/// Attaches leave formed layers, and a message that isn't refused is sent in the spelling by each.
+/// A client's handshake is refused as its head is, attaches leave formed layers, and a message that isn't refused is
+/// sent in the spelling by each.
 pub fn framing_laws()
     ensures { FramingLaws }
 {
