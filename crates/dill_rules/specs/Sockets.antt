@@ -7,7 +7,7 @@ use Rattle.dill_calls.specs.CallTable.{word_of, named_by}
 use Rattle.dill_http.specs.Writing.{fault_of}
 use Rattle.dill_stack.specs.Interface.{Held, send_fault, line_fault, done_fault, read_fault, attach_fault, detach_fault}
 use Rattle.dill_stack.specs.Attaching.{greet_fault}
-use Rattle.dill_stack.specs.Greeting.{is_wrong_offer, is_long_offer}
+use Rattle.dill_stack.specs.Greeting.{offer_fault}
 use Rattle.dill_maps.specs.Maps.{if_some}
 use Rattle.dill_rules.specs.declared.thing.Thing.{Thing}
 use Rattle.dill_rules.specs.declared.thing.Thing.TheVariants as things
@@ -24,7 +24,7 @@ link_of thing = None
 
 -- what a stack refuses of a handshake: a head that can't be written, a direction that is done or broken
 abbrev pub handshake_fault : Call → Held → Option Errno
-handshake_fault (calls.WsAttachClient number text resource host deadline) s = greet_fault (is_wrong_offer resource host) (is_long_offer resource host) s
+handshake_fault (calls.WsAttachClient number text resource host deadline) s = offer_fault resource host s
 handshake_fault (calls.WsAttachServer number text deadline) s = greet_fault false false s
 handshake_fault call s = None
 

@@ -1,6 +1,16 @@
+pub mod Attachings
+pub mod EndReads
+pub mod EndTold
+pub mod Following
 pub mod Fronts
+pub mod JoinedReads
 pub mod Joinings
 pub mod Limits
 pub mod MessageReads
+pub mod MessageTold
+pub mod MessageWaits
+pub mod OneMessage
+pub mod PassedBehind
+pub mod PassedParts
 pub mod Passings
 pub mod Spellings

@@ -15,12 +15,11 @@ use Rattle.dill_frames.specs.Prefix.{AreBytes, prefix_front, prefix_due, PrefixS
 use Rattle.dill_frames.specs.Suffix.{suffix_front, suffix_due, SuffixSpells, SuffixShows}
 use Rattle.dill_frames.specs.Laws.{PrefixLaws, SuffixLaws}
 use Rattle.dill_frames.specs.Judging.{LiesIn}
-use Rattle.dill_stack.specs.declared.want.ReadOut.{ReadOut}
 use Rattle.dill_stack.specs.declared.want.ReadOut.TheVariants.{Given, Need, Fault}
 use Rattle.dill_stack.specs.Layers.{Placed, Prefix, Suffix, Term, Http, Ws, TermLayer}
 use Rattle.dill_stack.specs.Refusals.{is_met}
 use Rattle.dill_stack.specs.Read.{Outcome, outcome, read_message, by_front, over_term, is_terminal}
-use Rattle.dill_stack.specs.Messages.{MessageStands, EndStands, RefusalStands, IsReadable}
+use Rattle.dill_stack.specs.Messages.{MessageStands, EndStands, after_end, RefusalStands, IsReadable}
 
 -- the message behind its length, where it stands at the front
 prefix_gives : (p : PrefixLaws) (form : PrefixForm) (limit : ℕ) (u m : List ℕ) (n : ℕ) (ended : Bool) → n ≤ length u → length m ≤ limit → PrefixSpells form m (take n u)
@@ -46,7 +45,7 @@ suffix_gives s end limit u m n ended z l short spells =
     let bare : length m - 0 ≡ length m = omega arith in
     ap (by_front (Suffix end ∷ []) u ended) read ∙ ap (λ k. outcome n (Suffix end ∷ []) (Given (Bytes (take k u)))) bare ∙ ap (λ k. outcome n (Suffix end ∷ []) (Given (Bytes k))) text
 
-same_text : (m : List ℕ) (t : List ℕ) → (m ≡ t → ⊥) → bytes_eq m t ≡ false
+pub same_text : (m : List ℕ) (t : List ℕ) → (m ≡ t → ⊥) → bytes_eq m t ≡ false
 same_text m t n = by_test (bytes_eq m t) (bytes_eq-Decides m t)
   where
     by_test : (b : Bool) → Decides b (m ≡ t) → b ≡ false
@@ -61,8 +60,8 @@ unmet_top true b e = cc
 unmet_top false b e = (refl, e)
 
 -- the layers below an end by a terminal message are readable too
-below_is : (term : TermLayer) (below : List Placed) → IsReadable (Term term ∷ below) → IsReadable below
-below_is term below r = record { framing = r.framing; standing = r.standing.1; formed = r.formed; unmet = (unmet_top term.met (is_met below) r.unmet).1 }
+pub below_is : (term : TermLayer) (below : List Placed) → IsReadable (Term term ∷ below) → IsReadable below
+below_is term below r = record { framing = r.framing; standing = r.standing.1; formed = r.formed.2; unmet = (unmet_top term.met (is_met below) r.unmet).1 }
 
 unmet_is : (term : TermLayer) (below : List Placed) → IsReadable (Term term ∷ below) → term.met ≡ false
 unmet_is term below r = (unmet_top term.met (is_met below) r.unmet).0
@@ -72,7 +71,7 @@ not_taken true x y e = cc
 not_taken false x y e = refl
 
 -- an end that wasn't met is read past
-past : (term : TermLayer) (below : List Placed) (limit : ℕ) (u : List ℕ) (ended : Bool) → IsReadable (Term term ∷ below) → read_message (Term term ∷ below) u ended limit ≡ over_term term (read_message below u ended limit)
+pub past : (term : TermLayer) (below : List Placed) (limit : ℕ) (u : List ℕ) (ended : Bool) → IsReadable (Term term ∷ below) → read_message (Term term ∷ below) u ended limit ≡ over_term term (read_message below u ended limit)
 past term below limit u ended r = not_taken term.met (outcome 0 (Term term ∷ below) (Fault Epipe)) (over_term term (read_message below u ended limit)) (unmet_is term below r)
 
 over_message : (term : TermLayer) (below : List Placed) (n : ℕ) (m : List ℕ) → bytes_eq m term.terminal ≡ false → over_term term (outcome n below (Given (Bytes m))) ≡ outcome n (Term term ∷ below) (Given (Bytes m))
@@ -95,25 +94,14 @@ message_gives p s (Term term ∷ below) limit u m n ended r st =
 message_gives p s (Http http ∷ below) limit u m n ended r st = absurd r.framing
 message_gives p s (Ws ws ∷ below) limit u m n ended r st = absurd r.framing
 
-kept_fault : (t : TermLayer) (o : Outcome) (x : Errno) (k : ℕ) → (o.said ≡ Fault x) × (o.used ≡ k) → ((over_term t o).said ≡ Fault x) × ((over_term t o).used ≡ k)
-kept_fault t o x k h = by_said o.said h.0
-  where
-    by_said : (said : ReadOut) → said ≡ Fault x → ((over_term t (record o { said = said })).said ≡ Fault x) × ((over_term t (record o { said = said })).used ≡ k)
-    by_said (Fault y) e = (e, h.1)
-    by_said (Given answer) e = cc
-    by_said Need e = cc
-
-pub message_ends : (p : PrefixLaws) (s : SuffixLaws) (layers : List Placed) (limit : ℕ) (u : List ℕ) (n : ℕ) (ended : Bool) → IsReadable layers → EndStands layers limit u n → ((read_message layers u ended limit).said ≡ Fault Epipe) × ((read_message layers u ended limit).used ≡ n)
+pub message_ends : (p : PrefixLaws) (s : SuffixLaws) (layers : List Placed) (limit : ℕ) (u : List ℕ) (n : ℕ) (ended : Bool) → IsReadable layers → (stands : EndStands layers limit u n) → read_message layers u ended limit ≡ outcome n (after_end layers limit u n stands) (Fault Epipe)
 message_ends p s [] limit u n ended r e = absurd e
 message_ends p s (Prefix form ∷ below) limit u n ended r e = absurd e
 message_ends p s (Suffix end ∷ below) limit u n ended r e = absurd e
 message_ends p s (Term term ∷ below) limit u n ended r (inl st) =
     let again : read_message below u ended limit ≡ outcome n below (Given (Bytes term.terminal)) = message_gives p s below limit u term.terminal n ended (below_is term below r) st in
-    let whole : read_message (Term term ∷ below) u ended limit ≡ outcome n (Term (record term { met = true }) ∷ below) (Fault Epipe) = past term below limit u ended r ∙ ap (over_term term) again ∙ over_end term below n in
-    (ap (λ (o : Outcome). o.said) whole, ap (λ (o : Outcome). o.used) whole)
-message_ends p s (Term term ∷ below) limit u n ended r (inr e) =
-    let again : ((read_message below u ended limit).said ≡ Fault Epipe) × ((read_message below u ended limit).used ≡ n) = message_ends p s below limit u n ended (below_is term below r) e in
-    subst (λ (o : Outcome). (o.said ≡ Fault Epipe) × (o.used ≡ n)) (sym (past term below limit u ended r)) (kept_fault term (read_message below u ended limit) Epipe n again)
+    past term below limit u ended r ∙ ap (over_term term) again ∙ over_end term below n
+message_ends p s (Term term ∷ below) limit u n ended r (inr e) = past term below limit u ended r ∙ ap (over_term term) (message_ends p s below limit u n ended (below_is term below r) e)
 message_ends p s (Http http ∷ below) limit u n ended r e = absurd e
 message_ends p s (Ws ws ∷ below) limit u n ended r e = absurd e
 
@@ -123,14 +111,13 @@ prefix_refuses p form limit u e ended i = ap (by_front (Prefix form ∷ []) u en
 suffix_refuses : (s : SuffixLaws) (end : List ℕ) (limit : ℕ) (u : List ℕ) (e : Errno) (ended : Bool) → 0 < length end → IsShown (SuffixShows end limit) u e → by_front (Suffix end ∷ []) u ended (suffix_front end u limit) ≡ outcome 0 (Suffix end ∷ []) (Fault e)
 suffix_refuses s end limit u e ended z i = ap (by_front (Suffix end ∷ []) u ended) (ap (λ v. suffix_front end v limit) (sym (take-append-drop i.count u)) ∙ s.refused end e (take i.count u) (drop i.count u) limit z i.shown)
 
-pub message_refuses : (p : PrefixLaws) (s : SuffixLaws) (layers : List Placed) (limit : ℕ) (u : List ℕ) (e : Errno) (ended : Bool) → IsReadable layers → RefusalStands layers limit u e → ((read_message layers u ended limit).said ≡ Fault e) × ((read_message layers u ended limit).used ≡ 0)
+pub message_refuses : (p : PrefixLaws) (s : SuffixLaws) (layers : List Placed) (limit : ℕ) (u : List ℕ) (e : Errno) (ended : Bool) → IsReadable layers → RefusalStands layers limit u e → read_message layers u ended limit ≡ outcome 0 layers (Fault e)
 message_refuses p s [] limit u e ended r i = absurd i
-message_refuses p s (Prefix form ∷ []) limit u e ended r i = (ap (λ (o : Outcome). o.said) (prefix_refuses p form limit u e ended i), ap (λ (o : Outcome). o.used) (prefix_refuses p form limit u e ended i))
+message_refuses p s (Prefix form ∷ []) limit u e ended r i = prefix_refuses p form limit u e ended i
 message_refuses p s (Prefix form ∷ x ∷ below) limit u e ended r i = let h : x ∷ below ≡ [] = r.standing in cc
-message_refuses p s (Suffix end ∷ []) limit u e ended r i = (ap (λ (o : Outcome). o.said) (suffix_refuses s end limit u e ended r.formed.0 i), ap (λ (o : Outcome). o.used) (suffix_refuses s end limit u e ended r.formed.0 i))
+message_refuses p s (Suffix end ∷ []) limit u e ended r i = suffix_refuses s end limit u e ended r.formed.0 i
 message_refuses p s (Suffix end ∷ x ∷ below) limit u e ended r i = let h : x ∷ below ≡ [] = r.standing in cc
-message_refuses p s (Term term ∷ below) limit u e ended r i =
-    subst (λ (o : Outcome). (o.said ≡ Fault e) × (o.used ≡ 0)) (sym (past term below limit u ended r)) (kept_fault term (read_message below u ended limit) e 0 (message_refuses p s below limit u e ended (below_is term below r) i))
+message_refuses p s (Term term ∷ below) limit u e ended r i = past term below limit u ended r ∙ ap (over_term term) (message_refuses p s below limit u e ended (below_is term below r) i)
 message_refuses p s (Http http ∷ below) limit u e ended r i = absurd i
 message_refuses p s (Ws ws ∷ below) limit u e ended r i = absurd i
 
@@ -156,7 +143,7 @@ front_given layers u m ended (front.Fault x) e = cc
 text_within : (u m : List ℕ) (from to used limit : ℕ) → LiesIn u limit from to used → take (to - from) (drop from u) ≡ m → length m ≤ limit
 text_within u m from to used limit lies e = omega (arith, ap length (sym e), length-take (to - from) (drop from u), lies.short)
 
-prefix_given : (p : PrefixLaws) (form : PrefixForm) (limit : ℕ) (u m : List ℕ) (ended : Bool) → AreBytes u → (by_front (Prefix form ∷ []) u ended (prefix_front form u limit)).said ≡ Given (Bytes m)
+pub prefix_given : (p : PrefixLaws) (form : PrefixForm) (limit : ℕ) (u m : List ℕ) (ended : Bool) → AreBytes u → (by_front (Prefix form ∷ []) u ended (prefix_front form u limit)).said ≡ Given (Bytes m)
     → MessageStands (Prefix form ∷ []) limit u m (by_front (Prefix form ∷ []) u ended (prefix_front form u limit)).used
 prefix_given p form limit u m ended b e =
     let g : GivenBy u m (prefix_front form u limit) = front_given (Prefix form ∷ []) u m ended (prefix_front form u limit) e in
@@ -169,7 +156,7 @@ prefix_given p form limit u m ended b e =
     short_text : (g : GivenBy u m (prefix_front form u limit)) → LiesIn u limit g.from g.to g.used → length m ≤ limit
     short_text g lies = text_within u m g.from g.to g.used limit lies g.text
 
-suffix_given : (s : SuffixLaws) (end : List ℕ) (limit : ℕ) (u m : List ℕ) (ended : Bool) → 0 < length end → (by_front (Suffix end ∷ []) u ended (suffix_front end u limit)).said ≡ Given (Bytes m)
+pub suffix_given : (s : SuffixLaws) (end : List ℕ) (limit : ℕ) (u m : List ℕ) (ended : Bool) → 0 < length end → (by_front (Suffix end ∷ []) u ended (suffix_front end u limit)).said ≡ Given (Bytes m)
     → MessageStands (Suffix end ∷ []) limit u m (by_front (Suffix end ∷ []) u ended (suffix_front end u limit)).used
 suffix_given s end limit u m ended z e =
     let g : GivenBy u m (suffix_front end u limit) = front_given (Suffix end ∷ []) u m ended (suffix_front end u limit) e in
@@ -196,7 +183,7 @@ over_given term o m e =
     by_test true t q = cc
     by_test false t q = (q, t)
 
-differs : (m t : List ℕ) → bytes_eq m t ≡ false → m ≡ t → ⊥
+pub differs : (m t : List ℕ) → bytes_eq m t ≡ false → m ≡ t → ⊥
 differs m t e q = false≢true (sym e ∙ (bytes_eq-Decides m t).1 q)
 
 pub message_given : (p : PrefixLaws) (s : SuffixLaws) (layers : List Placed) (limit : ℕ) (u m : List ℕ) (ended : Bool) → IsReadable layers → AreBytes u → (read_message layers u ended limit).said ≡ Given (Bytes m) → MessageStands layers limit u m (read_message layers u ended limit).used

@@ -1,11 +1,11 @@
 -- What a WebSocket layer passes is whole frames.
-use Rattle.std.proofs.Common.{slice_index, leb, ltb, eqb, ◌%◌, ◌/◌, ◌≡◌, ◌<◌, ◌≤◌, ◌+◌, [], ◌∷◌, ◌++◌, List, ℕ, zero, suc, length, take, drop, arith, sym, ap, ◌∙◌, refl, subst, Bool, true, false, not, ◌&&◌, Some, None, Option, append_assoc, append-nil}
-use Rattle.std.specs.Prelude.{◌==◌, if◌then◌else◌, is_some, map, filter, flat_map, nat_lt, cond}
+use Rattle.std.proofs.Common.{slice_index, leb, ltb, eqb, ◌%◌, ◌/◌, ◌≡◌, ◌<◌, ◌≤◌, ◌+◌, [], ◌∷◌, ◌++◌, List, ℕ, zero, suc, length, take, drop, arith, sym, ap, ◌∙◌, refl, subst, Bool, true, false, not, ◌&&◌, Some, None, Option, append_assoc, append-nil, inl}
+use Rattle.std.specs.Prelude.{◌==◌, if◌then◌else◌, is_some, map, filter, flat_map, cond}
 use Rattle.std.specs.Option.{unwrap_or}
-use Rattle.std.proofs.lemmas.Bool.{eqb-true, ltb-false}
+use Rattle.std.proofs.lemmas.Bool.{eqb-true}
 use Rattle.std.proofs.lemmas.List.{get_or-drop, length-take-le, drop-drop, length-drop}
 use Rattle.std.proofs.Math.Seq.{take-add}
-use Rattle.dill_base.specs.declared.errno.Errno.TheVariants.{Eproto, Emsgsize}
+use Rattle.dill_base.specs.declared.errno.Errno.TheVariants.{Eproto}
 use Rattle.dill_ws.specs.declared.side.Side.{Side}
 use Rattle.dill_ws.specs.declared.head.Head.{Head}
 use Rattle.dill_ws.specs.declared.head.HeadFront.{HeadFront}
@@ -14,33 +14,9 @@ use Rattle.dill_ws.specs.Frames.{Part, Frame, peer_of, data_parts, may_follow}
 use Rattle.dill_ws.specs.FrameLaws.{FrameLaws, AreBytes, payload_at}
 use Rattle.dill_ws.specs.Fronts.{head_front, head_at, may_start, bits_of, length_size, told, is_least, key_size, mask_bit}
 use Rattle.dill_stack.specs.Layers.{WsLayer}
-use Rattle.dill_stack.specs.WsReading.{Passed, passed, passed_within, after_pass, then_passed, nothing_passed, pass_by_front, pass_of, with_part, ws_front, WsFront, Whole, Short, Refused, by_head, is_fault, passes_limit, part_of, is_data}
+use Rattle.dill_stack.specs.WsReading.{Passed, passed, passed_within, after_pass, then_passed, nothing_passed, pass_by_front, pass_of, with_part, ws_front, WsFront, Whole, Short, Refused, is_data}
+use Rattle.dill_stack.proofs.Limits.{FrameAt, frame_at, part_within, within_more}
 use Rattle.dill_stack.specs.Passing.{is_passing, pings_of, begun, with_parts, IsPassed, PassesFrames, is_joining, AreFollowing, joining_behind}
-
--- a whole frame at the front, by its head
-pub record FrameAt (ws : WsLayer) (u : List ℕ) (part : Part) (used : ℕ) : Type 0 where
-  pub h : Head
-  pub read : head_front ws.side (is_some ws.joining) u ≡ head.Whole h
-  pub there : h.start + h.length ≤ length u
-  pub part_is : part ≡ part_of h u
-  pub used_is : used ≡ h.start + h.length
-
-by_whole : (ws : WsLayer) (u : List ℕ) (part : Part) (used : ℕ) (h : Head) (short : Bool) → head_front ws.side (is_some ws.joining) u ≡ head.Whole h → nat_lt (length u) (h.start + h.length) ≡ short
-    → (if short then Short else Whole (part_of h u) (h.start + h.length)) ≡ Whole part used → FrameAt ws u part used
-by_whole ws u part used h true r l e = cc
-by_whole ws u part used h false r l e = record { h = h; read = r; there = ltb-false (length u) (h.start + h.length) l; part_is = cc; used_is = cc }
-
-by_front : (ws : WsLayer) (u : List ℕ) (part : Part) (used : ℕ) (f : HeadFront) (over : Bool) → head_front ws.side (is_some ws.joining) u ≡ f
-    → (if not (is_fault f) && over then Refused Emsgsize else by_head u f) ≡ Whole part used → FrameAt ws u part used
-by_front ws u part used (head.Whole h) true r e = cc
-by_front ws u part used (head.Whole h) false r e = by_whole ws u part used h (nat_lt (length u) (h.start + h.length)) r refl e
-by_front ws u part used head.Need true r e = cc
-by_front ws u part used head.Need false r e = cc
-by_front ws u part used (head.Fault x) over r e = cc
-
-pub frame_at : (limit : ℕ) (ws : WsLayer) (u : List ℕ) (part : Part) (used : ℕ) → ws_front limit ws u ≡ Whole part used → FrameAt ws u part used
-unfolding ws_front
-frame_at limit ws u part used e = by_front ws u part used (head_front ws.side (is_some ws.joining) u) (passes_limit limit ws u) refl e
 
 -- a head that was read may come here
 chain : (r : HeadFront) (a s b l k : Bool) (x y h : Head) → (if a then head.Need else if s then (if b then head.Need else if l then (if k then head.Need else head.Whole x) else head.Fault Eproto) else head.Fault Eproto) ≡ head.Whole h → (s ≡ true) × (x ≡ h)
@@ -90,7 +66,7 @@ pub record PassIs (ws : WsLayer) (part : Part) (used : ℕ) (q : Passed) : Type 
 abbrev part_with : Bool → ℕ → List ℕ → Part
 part_with fin opcode payload = record { fin = fin; opcode = opcode; payload = payload }
 
-unjoined : (ws : WsLayer) → ws ≡ record ws { joined = ws.joined ++ [] }
+pub unjoined : (ws : WsLayer) → ws ≡ record ws { joined = ws.joined ++ [] }
 unjoined ws = ap (λ j. record ws { joined = j }) (sym (append-nil ws.joined))
 
 nine : (ws : WsLayer) (used : ℕ) (fin : Bool) (payload : List ℕ) → PassIs ws (part_with fin 9 payload) used (record { used = used; ws = ws; pings = payload ∷ [] })
@@ -124,7 +100,7 @@ by_tests false false true ws part used q x y z e =
     subst (PassIs ws part used) same (data_is ws used part (is_data part.opcode) x y refl z)
 by_tests false false false ws part used q x y z e = cc
 
-pass_is : (ws : WsLayer) (part : Part) (used : ℕ) (q : Passed) → pass_of ws part used ≡ Some q → PassIs ws part used q
+pub pass_is : (ws : WsLayer) (part : Part) (used : ℕ) (q : Passed) → pass_of ws part used ≡ Some q → PassIs ws part used q
 pass_is ws part used q e = by_tests (part.opcode == 9) (part.opcode == 10) (is_data part.opcode && not part.fin) ws part used q refl refl refl e
 
 -- a pass at the front, by its frame
@@ -154,14 +130,14 @@ joined_more part ds ws =
     ap (λ j. record ws { joining = j; joined = ws.joined ++ (part.payload ++ text) }) (begun_more ws.joining part ds)
     ∙ ap (λ b. record ws { joining = begun (begun ws.joining (part ∷ [])) ds; joined = b }) bytes
 
-parts_more : (part : Part) (parts : List Part) (ws : WsLayer) → with_parts (part ∷ parts) ws ≡ with_parts parts (with_parts (part ∷ []) ws)
+pub parts_more : (part : Part) (parts : List Part) (ws : WsLayer) → with_parts (part ∷ parts) ws ≡ with_parts parts (with_parts (part ∷ []) ws)
 parts_more part parts ws = by_test (is_data part.opcode)
   where
     by_test : (b : Bool) → joined_with (cond b (part ∷ data_parts parts) (data_parts parts)) ws ≡ joined_with (data_parts parts) (joined_with (cond b (part ∷ []) []) ws)
     by_test true = joined_more part (data_parts parts) ws
     by_test false = ap (joined_with (data_parts parts)) (unjoined ws)
 
-pings_more : (part : Part) (parts : List Part) → pings_of (part ∷ parts) ≡ pings_of (part ∷ []) ++ pings_of parts
+pub pings_more : (part : Part) (parts : List Part) → pings_of (part ∷ parts) ≡ pings_of (part ∷ []) ++ pings_of parts
 pings_more part parts = by_test (part.opcode == 9)
   where
     by_test : (b : Bool) → map (λ p. p.payload) (cond b (part ∷ filter (λ p. p.opcode == 9) parts) (filter (λ p. p.opcode == 9) parts)) ≡ map (λ p. p.payload) (cond b (part ∷ []) []) ++ map (λ p. p.payload) (filter (λ p. p.opcode == 9) parts)
@@ -172,9 +148,9 @@ pub bytes_behind : (n : ℕ) (u : List ℕ) → AreBytes u → AreBytes (drop n 
 bytes_behind n u b k = subst (λ x. x < 256) (sym (get_or-drop n u k 0)) (b (n + k))
 
 -- a pass at the front and all passes behind it
-pass_then : (limit : ℕ) (ws : WsLayer) (u : List ℕ) (part : Part) (used : ℕ) (r : Passed) → used ≤ length u → Frame (peer_of ws.side) part.fin part.opcode part.payload (take used u) → may_follow (is_some ws.joining) part.fin part.opcode (length part.payload) ≡ true → is_some (with_parts (part ∷ []) ws).joining ≡ is_joining (is_some ws.joining) part → is_passing part ≡ true
+pass_then : (limit : ℕ) (ws : WsLayer) (u : List ℕ) (part : Part) (used : ℕ) (r : Passed) → used ≤ length u → Frame (peer_of ws.side) part.fin part.opcode part.payload (take used u) → may_follow (is_some ws.joining) part.fin part.opcode (length part.payload) ≡ true → is_some (with_parts (part ∷ []) ws).joining ≡ is_joining (is_some ws.joining) part → is_passing part ≡ true → (is_data part.opcode ≡ true → length ws.joined + length part.payload ≤ limit)
     → IsPassed limit (with_parts (part ∷ []) ws) (drop used u) r → IsPassed limit ws u (then_passed (record { used = used; ws = with_parts (part ∷ []) ws; pings = pings_of (part ∷ []) }) r)
-pass_then limit ws u part used r l f m j p i =
+pass_then limit ws u part used r l f m j p t i =
     record {
       parts = part ∷ i.parts;
       there = omega (arith, i.there, length-drop used u);
@@ -182,19 +158,20 @@ pass_then limit ws u part used r l f m j p i =
       follows = (m, subst (λ b. AreFollowing b i.parts) j i.follows);
       joining = i.joining ∙ ap (λ b. joining_behind b i.parts) j;
       passing = rw p i.passing;
+      within = within_more limit ws part i.parts t i.within;
       pings = ap (λ x. pings_of (part ∷ []) ++ x) i.pings ∙ sym (pings_more part i.parts);
       layer = i.layer ∙ sym (parts_more part i.parts ws);
       last = subst (λ v. pass_by_front r.ws (ws_front limit r.ws v) ≡ None) (drop-drop r.used used u) i.last;
     }
 
 nothing_is : (limit : ℕ) (ws : WsLayer) (u : List ℕ) → pass_by_front ws (ws_front limit ws u) ≡ None → IsPassed limit ws u (nothing_passed ws)
-nothing_is limit ws u e = record { parts = []; there = omega arith; frames = refl; follows = tt; joining = refl; passing = refl; pings = refl; layer = unjoined ws; last = e }
+nothing_is limit ws u e = record { parts = []; there = omega arith; frames = refl; follows = tt; joining = refl; passing = refl; within = inl refl; pings = refl; layer = unjoined ws; last = e }
 
-empty_front : (limit : ℕ) (ws : WsLayer) → pass_by_front ws (ws_front limit ws []) ≡ None
+pub empty_front : (limit : ℕ) (ws : WsLayer) → pass_by_front ws (ws_front limit ws []) ≡ None
 unfolding ws_front head_front
 empty_front limit ws = refl
 
-grows : (ws : WsLayer) (part : Part) (w : List ℕ) → Frame (peer_of ws.side) part.fin part.opcode part.payload w → 1 ≤ length w
+pub grows : (ws : WsLayer) (part : Part) (w : List ℕ) → Frame (peer_of ws.side) part.fin part.opcode part.payload w → 1 ≤ length w
 grows ws part w f = omega (arith, ap length f.whole)
 
 -- the frame at the front
@@ -219,7 +196,7 @@ passed_all laws (suc most) limit ws u b l = by_pass (pass_by_front ws (ws_front 
         let next : IsPassed limit (with_parts (a.part ∷ []) ws) (drop a.used u) (passed_within most limit (with_parts (a.part ∷ []) ws) (drop a.used u)) =
         again (with_parts (a.part ∷ []) ws) (drop a.used u) (bytes_behind a.used u b) (omega (arith, l, some, size, f.1, length-drop a.used u)) in
         subst (λ (p : Passed). IsPassed limit ws u (then_passed p (passed_within most limit p.ws (drop p.used u)))) (sym a.is.whole)
-        (pass_then limit ws u a.part a.used (passed_within most limit (with_parts (a.part ∷ []) ws) (drop a.used u)) f.1 f.0 (follows_at laws ws u a.part a.used b (frame_at limit ws u a.part a.used a.whole)) a.is.joins a.is.passing next)
+        (pass_then limit ws u a.part a.used (passed_within most limit (with_parts (a.part ∷ []) ws) (drop a.used u)) f.1 f.0 (follows_at laws ws u a.part a.used b (frame_at limit ws u a.part a.used a.whole)) a.is.joins a.is.passing (part_within limit ws u a.part a.used a.whole) next)
 
     by_pass : (o : Option Passed) → pass_by_front ws (ws_front limit ws u) ≡ o → ((ws' : WsLayer) (v : List ℕ) → AreBytes v → length v ≤ most → IsPassed limit ws' v (passed_within most limit ws' v)) → IsPassed limit ws u (after_pass (passed_within most limit) ws u o)
     by_pass None e again = nothing_is limit ws u e

@@ -14,7 +14,8 @@ use Rattle.dill_frames.specs.Laws.{PrefixLaws, SuffixLaws}
 use Rattle.dill_ws.specs.declared.side.Side.{Side}
 use Rattle.dill_ws.specs.declared.side.Side.TheVariants.{Client, Server}
 use Rattle.dill_ws.specs.Frames.{Frame, HasKeyOf, may_follow}
-use Rattle.dill_stack.specs.Layers.{Placed, Prefix, Suffix, Term, Http, Ws, WsLayer, IsStanding, IsFormed}
+use Rattle.dill_stack.specs.Layers.{Placed, Prefix, Suffix, Term, Http, Ws, WsLayer, IsStanding}
+use Rattle.dill_stack.specs.Formed.{IsFormed}
 use Rattle.dill_stack.specs.Held.{Held}
 use Rattle.dill_stack.specs.Composed.{composed, spelled, with_words, words_after, drawn_key, and_then, data_frame, key_of, is_refused_with, is_any, is_refused, is_too_long, is_invalid, message_limit}
 use Rattle.dill_stack.specs.Refusals.{send_fault, first_fault, is_done}
@@ -125,7 +126,7 @@ spelled_by p s key (Prefix form ∷ []) m w k i f l e = (w, p.written form m w (
 spelled_by p s key (Prefix form ∷ x ∷ below) m w k i f l e = cc
 spelled_by p s key (Suffix end ∷ []) m w k i f l e = (w, s.written end m w f.0 (ok_bottom key (suffix_due end m) w e), refl)
 spelled_by p s key (Suffix end ∷ x ∷ below) m w k i f l e = cc
-spelled_by p s key (Term term ∷ below) m w k i f l e = by_test (bytes_eq m term.terminal) (bytes_eq-Decides m term.terminal) e (λ h. spelled_by p s key below m w k i.1 f l h)
+spelled_by p s key (Term term ∷ below) m w k i f l e = by_test (bytes_eq m term.terminal) (bytes_eq-Decides m term.terminal) e (λ h. spelled_by p s key below m w k i.1 f.2 l h)
   where
     by_test : (b : Bool) → Decides b (m ≡ term.terminal) → (if b then Err Einval else spelled key below m) ≡ Ok w → (spelled key below m ≡ Ok w → SpelledBy below m w) → (m ≡ term.terminal → ⊥) × SpelledBy below m w
     by_test true d h again = cc

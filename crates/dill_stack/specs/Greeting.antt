@@ -1,6 +1,5 @@
 -- Handshakes, by which a WebSocket layer comes on a stack of bytes (RFC 6455, section 4).
-use Rattle.std.specs.Prelude.{ℕ, List, [], ◌∷◌, ◌++◌, Bool, true, not, ◌&&◌, ◌||◌, length, drop, nat_lt, codes, replicate, if◌then◌else◌, Result, Ok}
-use Rattle.std.specs.List.{list_any}
+use Rattle.std.specs.Prelude.{ℕ, List, ◌∷◌, ◌++◌, Bool, true, not, ◌&&◌, drop, if◌then◌else◌, Option, Result, Ok}
 use Rattle.rand_core.specs.Stream.{Stream}
 use Rattle.base64.specs.GeneralPurpose.{encode_of}
 use Rattle.base64.specs.Engines.{standard}
@@ -9,12 +8,10 @@ use Rattle.dill_base.specs.declared.errno.Front.{Front}
 use Rattle.dill_base.specs.declared.errno.Front.TheVariants as front
 use Rattle.dill_calls.specs.declared.answer.Answer.TheVariants.{Number}
 use Rattle.dill_http.specs.Bytes.{is_resource}
-use Rattle.dill_http.specs.Lines.{line_limit, crlf}
 use Rattle.dill_ws.specs.declared.request.Asked.{Asked}
 use Rattle.dill_ws.specs.declared.request.Asked.TheVariants as asked
 use Rattle.dill_ws.specs.declared.side.Side.TheVariants.{Client}
-use Rattle.dill_ws.specs.HeadLines.{head_limit, lines_text}
-use Rattle.dill_ws.specs.Handshakes.{accept_text, server_head_of, client_front, server_front}
+use Rattle.dill_ws.specs.Handshakes.{accept_text, client_lines, head_of_lines, any_key, are_too_long, server_head_of, client_front, server_front}
 use Rattle.dill_stack.specs.declared.want.ReadOut.{ReadOut}
 use Rattle.dill_stack.specs.declared.want.ReadOut.TheVariants.{Given, Need, Fault}
 use Rattle.dill_stack.specs.Layers.{fresh_ws, Ws}
@@ -24,30 +21,9 @@ use Rattle.dill_stack.specs.Sending.{unless, is_sent, queued}
 use Rattle.dill_stack.specs.Read.{no_more}
 use Rattle.dill_stack.specs.Attaching.{greet_fault}
 
--- the lines of a client's head
-abbrev pub client_lines : (resource host key : List ℕ) → List (List ℕ)
-client_lines resource host key =
-    (codes "GET " ++ resource ++ codes " HTTP/1.1")
-    ∷ (codes "Host: " ++ host)
-    ∷ codes "Upgrade: websocket"
-    ∷ codes "Connection: Upgrade"
-    ∷ (codes "Sec-WebSocket-Key: " ++ key)
-    ∷ codes "Sec-WebSocket-Version: 13"
-    ∷ []
-
--- the head, which an empty line ends
-abbrev pub client_head_of : (resource host key : List ℕ) → List ℕ
-client_head_of resource host key = lines_text (client_lines resource host key) ++ crlf
-
--- Resource and host are one or more bytes that are seen, in ASCII.
-abbrev pub is_wrong_offer : (resource host : List ℕ) → Bool
-is_wrong_offer resource host = not (is_resource resource && is_resource host)
-
--- A line, or the whole head, is over its limit; every key has 24 bytes.
-abbrev pub is_long_offer : (resource host : List ℕ) → Bool
-is_long_offer resource host =
-    let key = replicate 24 0 in
-    list_any (λ line. nat_lt line_limit (length line)) (client_lines resource host key) || nat_lt head_limit (length (client_head_of resource host key))
+-- The refusal of a client's handshake: its resource and host have to be one or more bytes that are seen, and its lines within their limits, whatever the key.
+abbrev pub offer_fault : (resource host : List ℕ) → Held → Option Errno
+offer_fault resource host s = greet_fault (not (is_resource resource && is_resource host)) (are_too_long (client_lines resource host any_key)) s
 
 -- sixteen bytes of four random words, and the words that are left
 abbrev pub nonce : Stream → List ℕ × Stream
@@ -65,12 +41,12 @@ key_text words = encode_of standard (nonce words).0
 -- A client's layer stands on top from now on, its head is queued, and the server's is waited for.
 abbrev pub greeting : Bool → (resource host key : List ℕ) → Held → Held
 greeting text resource host key s =
-    record (queued Plain (client_head_of resource host key) s) { layers = Ws (fresh_ws Client text) ∷ s.layers; task = Greets (accept_text key) }
+    record (queued Plain (head_of_lines (client_lines resource host key)) s) { layers = Ws (fresh_ws Client text) ∷ s.layers; task = Greets (accept_text key) }
 
 -- the handshake of a client begins
 unfoldable pub greet : Bool → (resource host : List ℕ) → Stream → Held → Result (Held × Stream) Errno
 greet text resource host words s =
-    unless (greet_fault (is_wrong_offer resource host) (is_long_offer resource host) s)
+    unless (offer_fault resource host s)
     (Ok (greeting text resource host (key_text words) s, (nonce words).1))
 
 -- a stack after a look at its handshake, and what was answered

@@ -74,7 +74,7 @@ ended s = record s { receiving = record s.receiving { done = true } }
 abbrev pub broken_off : Held → Held
 broken_off s = record s { sending = record s.sending { broken = true }; queue = [] }
 
--- The link failed: both directions are broken, and nothing is taken back.
+-- The link failed: both directions are broken and what is queued is dropped. No layer and no mark of an end is taken back. Where the link's own end was pending and its `shut` failed, the machine takes the mark back besides when it answers, as `withdraw` does: a send is then ECONNRESET, and not EPIPE.
 abbrev pub broke : Held → Held
 broke s = record (broken_off s) { receiving = record s.receiving { broken = true } }
 

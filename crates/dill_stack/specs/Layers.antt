@@ -1,5 +1,5 @@
 -- The layers of a stack, with the state of each.
-use Rattle.std.specs.Prelude.{◌≡◌, ◌<◌, ◌≤◌, ℕ, length, List, [], ◌∷◌, Bool, true, false, Option, None}
+use Rattle.std.specs.Prelude.{◌≡◌, ℕ, List, [], ◌∷◌, Bool, true, false, Option, None}
 use Rattle.dill_frames.specs.declared.prefix.PrefixForm.{PrefixForm}
 use Rattle.dill_ws.specs.declared.side.Side.{Side}
 use Rattle.dill_stack.specs.declared.layer.Layer.{Layer}
@@ -83,10 +83,3 @@ abbrev pub IsStanding : List Placed → Type 0
 IsStanding [] = Unit {0}
 IsStanding (Term term ∷ below) = HasMessages below × IsStanding below
 IsStanding (layer ∷ below) = below ≡ []
-
--- a form of 1 to 8 bytes, a terminator of 1 to 32
-abbrev pub IsFormed : List Placed → Type 0
-IsFormed [] = Unit {0}
-IsFormed (Prefix form ∷ below) = (1 ≤ form.size) × (form.size ≤ 8) × IsFormed below
-IsFormed (Suffix end ∷ below) = (0 < length end) × (length end ≤ 32) × IsFormed below
-IsFormed (layer ∷ below) = IsFormed below

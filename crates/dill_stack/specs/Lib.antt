@@ -1,6 +1,7 @@
 pub mod Layers
 pub mod Held
 pub mod Composed
+pub mod Formed
 pub mod Refusals
 pub mod Sending
 pub mod WsReading
@@ -16,6 +17,7 @@ pub mod Needs
 pub mod Spelling
 pub mod Messages
 pub mod Joining
+pub mod Ending
 pub mod Interface
 pub mod RowWords
 pub mod Rows

@@ -1,5 +1,5 @@
 -- The frames that a WebSocket layer passes before it gives a message, as a relation (RFC 6455, sections 5.4 and 5.5).
-use Rattle.std.specs.Prelude.{◌≡◌, ◌≤◌, ℕ, List, [], ◌∷◌, ◌++◌, Bool, true, not, ◌==◌, ◌&&◌, ◌||◌, length, take, drop, map, filter, flat_map, is_some, if◌then◌else◌, Option, Some, None}
+use Rattle.std.specs.Prelude.{◌≡◌, ◌⊎◌, ◌≤◌, ◌+◌, ℕ, List, [], ◌∷◌, ◌++◌, Bool, true, not, ◌==◌, ◌&&◌, ◌||◌, length, take, drop, map, filter, flat_map, is_some, if◌then◌else◌, Option, Some, None}
 use Rattle.std.specs.List.{list_all}
 use Rattle.std.specs.Option.{unwrap_or}
 use Rattle.dill_ws.specs.declared.side.Side.{Side}
@@ -44,6 +44,14 @@ begun joining (part ∷ parts) = Some (unwrap_or joining part.opcode)
 abbrev pub with_parts : List Part → WsLayer → WsLayer
 with_parts parts ws = record ws { joining = begun ws.joining (data_parts parts); joined = ws.joined ++ flat_map (λ part. part.payload) (data_parts parts) }
 
+-- the bytes of the parts of messages among these
+abbrev pub joined_size : List Part → ℕ
+joined_size parts = length (flat_map (λ part. part.payload) (data_parts parts))
+
+-- No part of a message is among these, or they keep within the limit together with what was joined before.
+abbrev pub KeepsWithin : ℕ → WsLayer → List Part → Type 0
+KeepsWithin limit ws parts = (data_parts parts ≡ []) ⊎ (length ws.joined + joined_size parts ≤ limit)
+
 -- What is passed is whole frames of the peer that don't end a message; what stands behind them is passed no more.
 pub record IsPassed (limit : ℕ) (ws : WsLayer) (u : List ℕ) (p : Passed) : Type 0 where
   pub parts : List Part
@@ -52,6 +60,7 @@ pub record IsPassed (limit : ℕ) (ws : WsLayer) (u : List ℕ) (p : Passed) : T
   pub follows : AreFollowing (is_some ws.joining) parts
   pub joining : is_some p.ws.joining ≡ joining_behind (is_some ws.joining) parts
   pub passing : list_all is_passing parts ≡ true
+  pub within : KeepsWithin limit ws parts
   pub pings : p.pings ≡ pings_of parts
   pub layer : p.ws ≡ with_parts parts ws
   pub last : pass_by_front p.ws (ws_front limit p.ws (drop p.used u)) ≡ None

@@ -7,7 +7,7 @@ use Rattle.dill_stack.specs.declared.want.Want.TheVariants.{Exact, Message}
 use Rattle.dill_stack.specs.declared.want.ReadOut.{ReadOut}
 use Rattle.dill_stack.specs.declared.want.ReadOut.TheVariants.{Need, Fault}
 use Rattle.dill_stack.specs.declared.parting.Parting.TheVariants as parting
-use Rattle.dill_stack.specs.Held.{Held, opening, broke, top}
+use Rattle.dill_stack.specs.Held.{Held, whole, opening, broke, top}
 use Rattle.dill_stack.specs.Refusals.{attach_fault, send_fault, done_fault, read_fault}
 use Rattle.dill_stack.specs.Sending.{offered, took, withdraw, is_sent}
 use Rattle.dill_http.specs.Lines.{crlf}
@@ -70,9 +70,15 @@ pub record StackRows : Type 0 where
   pub half : offered midway ≡ codes "cdef"
   pub half_left : send_fault (codes "g") false (withdraw midway) ≡ Some Econnreset
   pub half_dropped : offered (withdraw midway) ≡ []
+  pub half_sending : (withdraw midway).sending ≡ record { done = false; broken = true }
+  pub half_receiving : (withdraw midway).receiving ≡ whole
   pub unbegun_left : withdraw (sends (codes "abcdef") opening) ≡ opening
   pub end_taken_back : withdraw (ends opening) ≡ opening
   pub end_kept : done_fault false (broke (ends opening)) ≡ Some Epipe
+  -- an end of the link's direction that is given up after the link failed
+  pub end_withdrawn : send_fault (codes "g") false (withdraw (broke (ends opening))) ≡ Some Econnreset
+  pub end_broken : withdraw (broke (ends opening)) ≡ broke opening
+  -- no bytes are nothing to send
   pub no_bytes : is_sent (sends [] opening) ≡ true
   -- an end inside a message, and what comes after it
   pub cut : said (Message 9) (framed_end (0 ∷ 5 ∷ 104 ∷ [])) ≡ Fault Eproto

@@ -4,10 +4,15 @@ use Rattle.rand_core.specs.Stream.{Stream}
 use Rattle.dill_frames.specs.Prefix.{PrefixSpells}
 use Rattle.dill_frames.specs.Suffix.{SuffixSpells}
 use Rattle.dill_ws.specs.Frames.{Frame}
-use Rattle.dill_stack.specs.Layers.{Placed, Prefix, Suffix, Term, Http, Ws, IsStanding, IsFormed}
-use Rattle.dill_stack.specs.Held.{Held}
+use Rattle.dill_ws.specs.Handshakes.{head_fault_of}
+use Rattle.dill_stack.specs.declared.layer.Layer.{Layer}
+use Rattle.dill_stack.specs.Layers.{Placed, Prefix, Suffix, Term, Http, Ws, IsStanding}
+use Rattle.dill_stack.specs.Formed.{IsFormed}
+use Rattle.dill_stack.specs.Held.{Held, is_broken}
 use Rattle.dill_stack.specs.Composed.{message_limit, composed, words_after}
-use Rattle.dill_stack.specs.Refusals.{send_fault}
+use Rattle.dill_stack.specs.Refusals.{send_fault, is_done}
+use Rattle.dill_stack.specs.Attaching.{attach}
+use Rattle.dill_stack.specs.Greeting.{offer_fault}
 
 -- w is the spelling of m by the top layer, spelled again by each layer below. A WebSocket layer in text mode sends UTF-8 alone.
 abbrev pub SpelledBy : List Placed → List ℕ → List ℕ → Type 0
@@ -18,8 +23,12 @@ SpelledBy (Term term ∷ below) m w = (m ≡ term.terminal → ⊥) × SpelledBy
 SpelledBy (Http http ∷ below) m w = ⊥
 SpelledBy (Ws ws ∷ below) m w = (v : List ℕ) × (ws.text ≡ true → IsUtf8 m) × Frame ws.side true (if ws.text then 1 else 2) m v × SpelledBy below v w
 
--- what is sent for a message
+-- what is attached, and what is sent for a message
 pub record FramingLaws : Type 0 where
+  -- where both directions are whole, a handshake is refused as the client's head is
+  pub offered : (resource host : List ℕ) (s : Held) → is_done s ≡ false → is_broken s ≡ false → offer_fault resource host s ≡ head_fault_of resource host
+  -- an attach that isn't refused keeps the layers formed
+  pub formed : (l : Layer) (s t : Held) → attach l s ≡ Ok t → IsFormed s.layers → IsFormed t.layers
   -- a message that isn't refused has a composed framing, which takes the words that its layers draw
   pub taken : (s : Held) (m : List ℕ) (words : Stream) → IsStanding s.layers → send_fault m false s ≡ None → (w : List ℕ) × (composed s.layers m words ≡ Ok (w, words_after s.layers words))
   -- what is composed is the spelling

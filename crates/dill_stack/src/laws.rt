@@ -1,4 +1,5 @@
-ghost use Rattle.dill_stack.specs.Joining.{GivesJoined};
+ghost use Rattle.dill_stack.specs.Ending.{EndingLaws};
+ghost use Rattle.dill_stack.specs.Joining.{JoiningLaws};
 ghost use Rattle.dill_stack.specs.Messages.{MessageLaws};
 ghost use Rattle.dill_stack.specs.Passing.{PassesFrames};
 ghost use Rattle.dill_stack.specs.Staying.{FrontStays};
@@ -7,7 +8,8 @@ ghost use Rattle.dill_stack.specs.Spelling.{FramingLaws};
 use dill_frames::{prefix_laws, suffix_laws};
 use dill_ws::frame_laws;
 
-/// A message that isn't refused is sent in the spelling by each layer.
+/// A client's handshake is refused as its head is, attaches leave formed layers, and a message that isn't refused is
+/// sent in the spelling by each.
 pub fn framing_laws()
     ensures { FramingLaws }
 {
@@ -22,7 +24,8 @@ pub fn passing_laws()
     frame_laws();
 }
 
-/// A message is given exactly where its spelling stands at the front of what came, and just its bytes are used.
+/// A receive over a framing is answered by what stands at the front of what came: a message exactly where its spelling
+/// stands there, and each errno and each wait exactly where its cause does.
 pub fn message_laws()
     ensures { MessageLaws }
 {
@@ -30,9 +33,18 @@ pub fn message_laws()
     suffix_laws();
 }
 
-/// What a WebSocket layer gives as one message stands at the front as the frames of one message.
+/// A WebSocket layer gives a message exactly where its frames stand at the front, behind those that the layer has
+/// passed, and just their bytes are used.
 pub fn joining_laws()
-    ensures { GivesJoined }
+    ensures { JoiningLaws }
+{
+    frame_laws();
+}
+
+/// A WebSocket layer is at its end exactly where the peer's close frame was met or stands behind what is passed, or the
+/// list ended between two messages.
+pub fn ending_laws()
+    ensures { EndingLaws }
 {
     frame_laws();
 }

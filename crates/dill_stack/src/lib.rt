@@ -10,7 +10,7 @@ mod want;
 mod worked;
 
 pub use fault::StackFault;
-pub use laws::{framing_laws, front_laws, joining_laws, message_laws, passing_laws};
+pub use laws::{ending_laws, framing_laws, front_laws, joining_laws, message_laws, passing_laws};
 pub use layer::{Layer, Top};
 pub use parting::Parting;
 pub use want::{ReadOut, Want};
