@@ -10,6 +10,7 @@ pub mod Looped
 pub mod Readings
 pub mod Lacks
 pub mod Limits
+pub mod Full
 pub mod InUse
 pub mod Session
 pub mod Words

@@ -10,6 +10,7 @@ ghost use Rattle.dill_rows.specs.Looped.{LoadCounts, LoopedDetach, LoopedWait};
 ghost use Rattle.dill_rows.specs.Readings.{Occupied, DeadClause, GiveUps, CancelledTakers, DoneAndBroken, GivenBack};
 ghost use Rattle.dill_rows.specs.Lacks.{LacksChangeNothing};
 ghost use Rattle.dill_rows.specs.Limits.{LimitsAreExact};
+ghost use Rattle.dill_rows.specs.Full.{HandlesRunOut, NumbersRunOut, LastHandle};
 ghost use Rattle.dill_rows.specs.InUse.{HandshakeKinds, LeavingOccupies, EndsAreSends, HeadsInUse};
 ghost use Rattle.dill_rows.specs.Stops.{RootClosingNotes, QueuedPongs, RefusedHeatsNothing, RepliesUsedUp, AllWaitersTold, ClosedBeforeStuck};
 ghost use Rattle.dill_rows.specs.Bounds.{BoundsOfLayers, BoundsOfChannels};
@@ -202,6 +203,14 @@ pub fn lacks_change_nothing()
 /// The last handle, the last number and the last link can be had, and no more.
 pub fn limits_are_exact()
     ensures { LimitsAreExact }
+{}
+
+/// A state that is nearly full: each call that draws a number, or needs a link or a coroutine, has the last one and is
+/// refused the next.
+pub fn no_room_is_refused()
+    ensures handles { HandlesRunOut }
+    ensures numbers { NumbersRunOut }
+    ensures run { LastHandle }
 {}
 
 /// A WebSocket server over one connection, up to a frame that it refuses.
