@@ -16,6 +16,8 @@ pub mod Session
 pub mod Words
 pub mod Relay
 pub mod Stories
+pub mod Failing
+pub mod Asked
 pub mod Stops
 pub mod Ends
 pub mod Orders

@@ -28,6 +28,8 @@ ghost use Rattle.dill_rows.specs.Handshakes.{ClientSession, RefusedHead};
 ghost use Rattle.dill_rows.specs.Leaving.{RequestThenBody, ClosedInOrder, GivenUpShut, CancelledLeavers};
 ghost use Rattle.dill_rows.specs.Relay.{RelayToWebsocket, LoadOfFour};
 ghost use Rattle.dill_rows.specs.Stories.{WorkedStories};
+ghost use Rattle.dill_rows.specs.Failing.{OutputFails};
+ghost use Rattle.dill_rows.specs.Asked.{AsksCarry};
 ghost use Rattle.dill_rows.specs.SameStories.{SameStories};
 
 /// Three deadlines at one moment pass in the order of the coroutines.
@@ -241,6 +243,16 @@ pub fn load_of_four()
 /// The story of a run over the rules: its bytes and its asks.
 pub fn worked_stories()
     ensures { WorkedStories }
+{}
+
+/// Output that fails at a line: exactly the lines before it are there.
+pub fn output_that_fails()
+    ensures { OutputFails }
+{}
+
+/// What the asks of a run carry.
+pub fn asks_carry()
+    ensures { AsksCarry }
 {}
 
 /// While a handshake is pending what needs a byte socket isn't supported, and all else is busy.
