@@ -18,6 +18,7 @@ pub mod Relay
 pub mod Stories
 pub mod Failing
 pub mod Asked
+pub mod Scripted
 pub mod Stops
 pub mod Ends
 pub mod Orders

@@ -30,6 +30,7 @@ ghost use Rattle.dill_rows.specs.Relay.{RelayToWebsocket, LoadOfFour};
 ghost use Rattle.dill_rows.specs.Stories.{WorkedStories};
 ghost use Rattle.dill_rows.specs.Failing.{OutputFails};
 ghost use Rattle.dill_rows.specs.Asked.{AsksCarry};
+ghost use Rattle.dill_rows.specs.Scripted.{ScriptsRun, ScriptsPlay, ScriptsOverLinks};
 ghost use Rattle.dill_rows.specs.SameStories.{SameStories};
 
 /// Three deadlines at one moment pass in the order of the coroutines.
@@ -253,6 +254,13 @@ pub fn output_that_fails()
 /// What the asks of a run carry.
 pub fn asks_carry()
     ensures { AsksCarry }
+{}
+
+/// Scripts from their text to what they print.
+pub fn scripts_run()
+    ensures prints { ScriptsRun }
+    ensures plays { ScriptsPlay }
+    ensures links { ScriptsOverLinks }
 {}
 
 /// While a handshake is pending what needs a byte socket isn't supported, and all else is busy.
