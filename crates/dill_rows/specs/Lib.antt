@@ -19,6 +19,8 @@ pub mod Stories
 pub mod Failing
 pub mod Asked
 pub mod Scripted
+pub mod LongInput
+pub mod Settled
 pub mod Stops
 pub mod Ends
 pub mod Orders

@@ -10,6 +10,8 @@ ghost use Rattle.dill_rows.specs.Looped.{LoadCounts, LoopedDetach, LoopedWait};
 ghost use Rattle.dill_rows.specs.Readings.{Occupied, DeadClause, GiveUps, CancelledTakers, DoneAndBroken, GivenBack};
 ghost use Rattle.dill_rows.specs.Lacks.{LacksChangeNothing};
 ghost use Rattle.dill_rows.specs.Limits.{LimitsAreExact};
+ghost use Rattle.dill_rows.specs.Settled.{CloseFrameMet, HeadsWithoutCase, AnothersStack, MovedFirst, TakesAwaited};
+ghost use Rattle.dill_rows.specs.LongInput.{LongLines, LongMessages, LongHeads};
 ghost use Rattle.dill_rows.specs.Full.{HandlesRunOut, NumbersRunOut, LastHandle};
 ghost use Rattle.dill_rows.specs.InUse.{HandshakeKinds, LeavingOccupies, EndsAreSends, HeadsInUse};
 ghost use Rattle.dill_rows.specs.Stops.{RootClosingNotes, QueuedPongs, RefusedHeatsNothing, RepliesUsedUp, AllWaitersTold, ClosedBeforeStuck};
@@ -214,6 +216,22 @@ pub fn no_room_is_refused()
     ensures handles { HandlesRunOut }
     ensures numbers { NumbersRunOut }
     ensures run { LastHandle }
+{}
+
+/// Places that could be read in two ways.
+pub fn settled_places()
+    ensures close_frame { CloseFrameMet }
+    ensures heads { HeadsWithoutCase }
+    ensures stacks { AnothersStack }
+    ensures notes { MovedFirst }
+    ensures awaited { TakesAwaited }
+{}
+
+/// Lines, messages and heads at their limits, and one byte beyond.
+pub fn long_input()
+    ensures lines { LongLines }
+    ensures messages { LongMessages }
+    ensures heads { LongHeads }
 {}
 
 /// A WebSocket server over one connection, up to a frame that it refuses.
