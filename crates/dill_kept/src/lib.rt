@@ -1,0 +1,2 @@
+//! What a core keeps of the machine's state, and that its steps are the machine's. Definitions and laws; it holds no code.
+#![tactic(auto)]
