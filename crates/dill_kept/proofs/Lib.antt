@@ -1,1 +1,5 @@
 mod Blind
+mod Settles
+mod Lists
+mod Plainly
+mod Steps
