@@ -3,3 +3,4 @@ mod Settles
 mod Lists
 mod Plainly
 mod Steps
+mod Turns
