@@ -4,3 +4,5 @@ mod Lists
 mod Plainly
 mod Steps
 mod Turns
+mod Evolving
+mod Answered
