@@ -6,3 +6,5 @@ mod Steps
 mod Turns
 mod Evolving
 mod Answered
+mod Crew
+mod Walking

@@ -80,7 +80,7 @@ module _ {V : Type 0} where
   due_at w c None rest x e f g = g e
   due_at w c (Some y) rest x e f g = f e
 
-  first_waits : (w : World V) (cs : List (Coroutine V)) (x : ℕ × Call × Answer) → list_all waits_plainly cs ≡ true → first_some (answer_due w) cs ≡ Some x → may_wait x.1 ≡ true
+  pub first_waits : (w : World V) (cs : List (Coroutine V)) (x : ℕ × Call × Answer) → list_all waits_plainly cs ≡ true → first_some (answer_due w) cs ≡ Some x → may_wait x.1 ≡ true
   first_waits w [] x e f = cc
   first_waits w (c ∷ cs) x e f =
       let h = both (waits_plainly c) (list_all waits_plainly cs) e in
@@ -121,7 +121,7 @@ module _ {V : Type 0} where
       let bare = fold_plain release (reverse (handles.numbers_of (free_all w c.number).handles c.number)) (free_all w c.number) (λ v n e. release_plain v n e) freed in
       leave_plain (release_all (free_all w c.number) c.number) c bare
 
-  settle_one_plain : (w : World V) → IsPlain w → IsPlain (settle_one w)
+  pub settle_one_plain : (w : World V) → IsPlain w → IsPlain (settle_one w)
   settle_one_plain w plain = some_plain_or (find (can_finish w) w.coroutines)
     where
       some_plain_or : (o : Option (Coroutine V)) → IsPlain (if_some o (give_first w) (finish w))
@@ -131,7 +131,7 @@ module _ {V : Type 0} where
   settle_one_blind : (w : World V) → IsPlain w → settle_one (wordless w) ≡ wordless (settle_one w)
   settle_one_blind w plain = some_blind (find (can_finish w) w.coroutines) (give_first (wordless w)) (give_first w) (finish (wordless w)) (finish w) (give_first_blind w plain) (finish_blind w)
 
-  within_plain : (n : ℕ) (w : World V) → IsPlain w → IsPlain (settle_within n w)
+  pub within_plain : (n : ℕ) (w : World V) → IsPlain w → IsPlain (settle_within n w)
   within_plain zero w plain = plain
   within_plain (suc n) w plain = within_plain n (settle_one w) (settle_one_plain w plain)
 
