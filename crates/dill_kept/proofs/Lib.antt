@@ -8,3 +8,4 @@ mod Evolving
 mod Answered
 mod Crew
 mod Walking
+mod Stepping

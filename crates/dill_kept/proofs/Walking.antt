@@ -85,7 +85,7 @@ module _ {V : Type 0} (p : Program V) where
       at false f rest = rest f
 
   -- a new coroutine begins, and then the caller is answered
-  bear_reply : (w v : World V) (who : ℕ) (view : V) (home : ℕ) (word : Word) (answer : Answer) → SameCrew w v → Begins p view → Runs w who → Leads p w (reply (bear v view home) who word answer)
+  pub bear_reply : (w v : World V) (who : ℕ) (view : V) (home : ℕ) (word : Word) (answer : Answer) → SameCrew w v → Begins p view → Runs w who → Leads p w (reply (bear v view home) who word answer)
   bear_reply w v who view home word answer same b r =
       let here = runs_crew w v who same r in
       let new = record { number = v.last_coroutine + 1; body = view; mode = modes.Fresh words.Start (Number 0) } ∷ [] in
@@ -93,7 +93,7 @@ module _ {V : Type 0} (p : Program V) where
       leads_then w v (reply (bear v view home) who word answer) (crew_leads w v same)
       (leads_then v (bear v view home) (reply (bear v view home) who word answer) (begins view b) (reply_leads (bear v view home) who word answer there))
 
-told_length : (next : ℕ) (args : List Arg) → length (told next args) ≡ length args
+pub told_length : (next : ℕ) (args : List Arg) → length (told next args) ≡ length args
 told_length next [] = refl
 told_length next (Show number ∷ args) = ap suc (told_length next args)
 told_length next (Give number ∷ args) = ap suc (told_length (next + 1) args)
