@@ -1,9 +1,9 @@
 -- As the coroutines change from step to step, those who may go on still may, and those who have an answer stay the same.
-use Rattle.std.proofs.Common.{◌≡◌, ◌∙◌, ℕ, zero, suc, ◌+◌, ◌<◌, ◌≤◌, ◌==◌, List, [], ◌∷◌, ◌++◌, length, find, Bool, true, false, cond, Option, Some, None, refl, sym, ap, subst, arith, eq-eqb}
+use Rattle.std.proofs.Common.{◌≡◌, ◌∙◌, ℕ, ◌+◌, ◌<◌, ◌≤◌, ◌==◌, List, [], ◌∷◌, ◌++◌, find, Bool, true, false, cond, Option, Some, None, refl, sym, ap, subst, arith}
 use Rattle.std.proofs.lemmas.Bool.Decides.{nat_tests}
 use Rattle.dill_calls.specs.declared.answer.Answer.TheVariants.{Number}
 use Rattle.dill_calls.specs.declared.word.Word.TheVariants.{Start}
-use Rattle.dill_calls.specs.Program.{Program, Begins}
+use Rattle.dill_calls.specs.Program.{Program}
 use Rattle.dill_maps.specs.Maps.{if_some, change, without}
 use Rattle.dill_rules.specs.declared.coroutine.Coroutine.{Coroutine}
 use Rattle.dill_rules.specs.declared.coroutine.Mode.{Mode}
@@ -12,10 +12,10 @@ use Rattle.dill_rules.specs.World.{is_coroutine, with_mode, is_answered}
 use Rattle.dill_kept.specs.Well.{has_more, IsAlive, Lives, Numbered, bit, is_at, counts}
 use Rattle.dill_kept.proofs.Evolving.{Evolves, stays, turns, leaves, begins, goes_on, evolves_numbered}
 
-some_same : {X : Type 0} (x y : X) → ◌≡◌ {A = Option X} (Some x) (Some y) → x ≡ y
+pub some_same : {X : Type 0} (x y : X) → ◌≡◌ {A = Option X} (Some x) (Some y) → x ≡ y
 some_same x y e = cc
 
-number_of : (a b : ℕ) → (a == b) ≡ true → a ≡ b
+pub number_of : (a b : ℕ) → (a == b) ≡ true → a ≡ b
 number_of a b e = grind (arith, nat_tests)
 
 above_other : (a b n : ℕ) → a < b → n ≤ a → (b == n) ≡ false

@@ -1,20 +1,12 @@
 -- What plain calls do without looking at random words.
-use Rattle.std.proofs.Common.{◌≡◌, ◌∙◌, ◌+◌, ℕ, zero, suc, List, [], ◌∷◌, fold, filter, reverse, find, Bool, true, false, ◌&&◌, Option, Some, None, if◌then◌else◌, refl, sym, ap}
-use Rattle.std.specs.List.{list_all}
-use Rattle.dill_calls.specs.declared.answer.Answer.{Answer}
-use Rattle.dill_calls.specs.declared.call.Call.{Call}
-use Rattle.dill_calls.specs.declared.call.Call.TheVariants as calls
+use Rattle.std.proofs.Common.{◌≡◌, ◌∙◌, ◌+◌, ℕ, List, [], ◌∷◌, fold, Bool, true, false, Option, Some, None, if◌then◌else◌, refl, ap}
 use Rattle.dill_calls.specs.declared.lists.Arg.{Arg}
 use Rattle.dill_calls.specs.declared.ran.Note.TheVariants.{Moved, Freed}
-use Rattle.dill_calls.specs.declared.word.Word.{Word}
 use Rattle.dill_calls.specs.declared.word.Word.TheVariants as words
 use Rattle.dill_calls.specs.declared.answer.Answer.TheVariants.{Number}
 use Rattle.dill_calls.specs.Program.{Program}
 use Rattle.dill_handles.specs.Handles as handles
-use Rattle.dill_handles.specs.declared.entry.Entry.{Entry}
-use Rattle.dill_maps.specs.Maps.{if_some, first_some}
-use Rattle.dill_rules.specs.declared.coroutine.Closing.{Closing}
-use Rattle.dill_rules.specs.declared.coroutine.Coroutine.{Coroutine}
+use Rattle.dill_maps.specs.Maps.{if_some}
 use Rattle.dill_rules.specs.declared.thing.Thing.{Thing}
 use Rattle.dill_rules.specs.declared.thing.Thing.TheVariants as things
 use Rattle.dill_rules.specs.World.{World, reply, note}

@@ -1,10 +1,8 @@
 -- Effects that leave the coroutines as they are.
-use Rattle.std.proofs.Common.{◌≡◌, ◌∙◌, ◌+◌, ◌==◌, ℕ, List, [], ◌∷◌, fold, filter, reverse, find, Bool, true, false, Option, Some, None, if◌then◌else◌, refl, sym, ap}
+use Rattle.std.proofs.Common.{◌≡◌, ◌∙◌, ◌==◌, ℕ, List, [], ◌∷◌, fold, filter, reverse, find, Bool, true, false, Option, Some, None, if◌then◌else◌, refl}
 use Rattle.dill_calls.specs.declared.ran.Note.TheVariants.{Moved, Freed}
 use Rattle.dill_handles.specs.Handles as handles
-use Rattle.dill_handles.specs.declared.entry.Entry.{Entry}
 use Rattle.dill_maps.specs.Maps.{if_some}
-use Rattle.dill_rules.specs.declared.coroutine.Closing.{Closing}
 use Rattle.dill_rules.specs.declared.coroutine.Coroutine.{Coroutine}
 use Rattle.dill_rules.specs.declared.thing.Thing.{Thing}
 use Rattle.dill_rules.specs.declared.thing.Thing.TheVariants as things

@@ -1,16 +1,15 @@
 -- How the coroutines of a world change from step to step, and what stays of them.
-use Rattle.std.proofs.Common.{◌≡◌, ◌∙◌, ◌⊎◌, inl, inr, ℕ, zero, suc, ◌+◌, ◌<◌, ◌≤◌, ◌==◌, List, [], ◌∷◌, ◌++◌, length, find, Bool, true, false, cond, Option, Some, None, refl, sym, ap, subst, arith, eq-eqb}
-use Rattle.std.specs.Prelude.{count_by}
+use Rattle.std.proofs.Common.{◌≡◌, ℕ, ◌+◌, ◌<◌, ◌≤◌, ◌==◌, List, [], ◌∷◌, ◌++◌, find, Bool, true, false, cond, Some, arith, eq-eqb}
 use Rattle.std.proofs.lemmas.Bool.Decides.{nat_tests}
 use Rattle.dill_calls.specs.declared.answer.Answer.TheVariants.{Number}
 use Rattle.dill_calls.specs.declared.word.Word.TheVariants.{Start}
 use Rattle.dill_calls.specs.Program.{Program, Begins}
-use Rattle.dill_maps.specs.Maps.{if_some, change, without}
+use Rattle.dill_maps.specs.Maps.{change, without}
 use Rattle.dill_rules.specs.declared.coroutine.Coroutine.{Coroutine}
 use Rattle.dill_rules.specs.declared.coroutine.Mode.{Mode}
 use Rattle.dill_rules.specs.declared.coroutine.Mode.TheVariants as modes
-use Rattle.dill_rules.specs.World.{is_coroutine, with_mode, is_answered, is_ending}
-use Rattle.dill_kept.specs.Well.{has_more, IsAlive, Lives, Numbered, bit, is_at}
+use Rattle.dill_rules.specs.World.{is_coroutine, with_mode, is_answered}
+use Rattle.dill_kept.specs.Well.{has_more, Numbered}
 
 -- The coroutines and the last number before, and after. Nobody has an answer taken, nor gets one with a place in the queue.
 pub data Evolves {V : Type 0} (p : Program V) : List (Coroutine V) → ℕ → List (Coroutine V) → ℕ → Type 0 where

@@ -9,3 +9,6 @@ mod Answered
 mod Crew
 mod Walking
 mod Stepping
+mod Lining
+mod Resuming
+mod Keeping

@@ -1,7 +1,7 @@
 -- Tests that hold of all of a list, and what is changed in it.
-use Rattle.std.proofs.Common.{◌≡◌, ◌∙◌, List, [], ◌∷◌, ◌++◌, map, filter, find, Bool, true, false, ◌&&◌, cond, Option, Some, None, refl, sym, ap}
+use Rattle.std.proofs.Common.{◌≡◌, ◌∙◌, List, [], ◌∷◌, ◌++◌, map, find, Bool, true, false, ◌&&◌, cond, Option, Some, refl, sym, ap}
 use Rattle.std.specs.List.{list_all}
-use Rattle.dill_maps.specs.Maps.{if_some, change, without}
+use Rattle.dill_maps.specs.Maps.{change, without}
 use Rattle.dill_kept.proofs.Settles.{both}
 
 pub join : (a b : Bool) → a ≡ true → b ≡ true → (a && b) ≡ true

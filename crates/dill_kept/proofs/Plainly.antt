@@ -1,11 +1,9 @@
 -- What keeps a world plain.
-use Rattle.std.proofs.Common.{◌≡◌, ◌∙◌, ◌+◌, ◌==◌, ℕ, zero, suc, List, [], ◌∷◌, ◌++◌, length, fold, filter, find, map, reverse, Bool, true, false, ◌&&◌, Option, Some, None, if◌then◌else◌, refl, sym, ap}
+use Rattle.std.proofs.Common.{◌≡◌, ◌∙◌, ◌+◌, ℕ, List, [], ◌∷◌, fold, true, Option, Some, None, refl, ap}
 use Rattle.std.specs.List.{list_all}
-use Rattle.dill_base.specs.declared.errno.Errno.{Errno}
 use Rattle.dill_calls.specs.declared.answer.Answer.{Answer}
 use Rattle.dill_calls.specs.declared.answer.Answer.TheVariants.{Number}
 use Rattle.dill_calls.specs.declared.call.Call.{Call}
-use Rattle.dill_calls.specs.declared.call.Call.TheVariants as calls
 use Rattle.dill_calls.specs.declared.ran.Note.{Note}
 use Rattle.dill_calls.specs.declared.ran.Note.TheVariants.{Moved, Freed}
 use Rattle.dill_calls.specs.declared.word.Word.{Word}
@@ -20,12 +18,11 @@ use Rattle.dill_rules.specs.declared.coroutine.Mode.{Mode}
 use Rattle.dill_rules.specs.declared.coroutine.Mode.TheVariants as modes
 use Rattle.dill_rules.specs.declared.thing.Thing.{Thing}
 use Rattle.dill_rules.specs.declared.thing.Thing.TheVariants as things
-use Rattle.dill_rules.specs.Links as links
-use Rattle.dill_rules.specs.World.{World, at_start, is_coroutine, set_mode, with_mode, reply, pend, note, from_start, begin, pending_call}
+use Rattle.dill_rules.specs.World.{World, is_coroutine, set_mode, with_mode, reply, pend, note, begin, pending_call}
 use Rattle.dill_rules.specs.Owning.{entry_of, take_thing, move, drop, release, close_bundle, free_bundle}
 use Rattle.dill_rules.specs.Effects.{make, add_bundle, bear, give_all}
 use Rattle.dill_kept.specs.Plain.{may_wait, waits_plainly, is_plain_thing, is_plain_entry, IsPlain}
-use Rattle.dill_kept.proofs.Lists.{join, all_append, all_without, all_change, all_map, all_found}
+use Rattle.dill_kept.proofs.Lists.{join, all_append, all_without, all_change, all_found}
 
 module _ {V : Type 0} where
   -- a step that touches neither channels nor links
@@ -98,8 +95,8 @@ module _ {V : Type 0} where
       let it = thing_plain w number x plain e in
       let less : World V = record w { handles = handles.renumber w.handles number x.thing owner } in
       let moved : IsPlain less = plain_with w less refl refl refl refl
-          (λ h. all_append is_plain_entry (without (handles.is_entry number) w.handles.entries) (record { number = handles.next_number w.handles; thing = x.thing; owner = owner } ∷ []) (all_without is_plain_entry (handles.is_entry number) w.handles.entries h) (join (is_plain_thing x.thing) true it refl))
-          (λ h. h) plain in
+      (λ h. all_append is_plain_entry (without (handles.is_entry number) w.handles.entries) (record { number = handles.next_number w.handles; thing = x.thing; owner = owner } ∷ []) (all_without is_plain_entry (handles.is_entry number) w.handles.entries h) (join (is_plain_thing x.thing) true it refl))
+      (λ h. h) plain in
       note_plain (take_thing less x.thing owner) (Moved number (handles.next_number w.handles)) (take_thing_plain less x.thing owner moved))
 
   drop_plain : (w : World V) (thing : Thing) → is_plain_thing thing ≡ true → IsPlain w → IsPlain (drop w thing)

@@ -1,5 +1,5 @@
 -- What settling and expiring do without looking at random words, in a plain world.
-use Rattle.std.proofs.Common.{◌≡◌, ◌∙◌, ◌+◌, ◌==◌, ℕ, zero, suc, List, [], ◌∷◌, length, fold, filter, reverse, find, Bool, true, false, ◌&&◌, Option, Some, None, if◌then◌else◌, refl, sym, ap}
+use Rattle.std.proofs.Common.{◌≡◌, ◌∙◌, ◌==◌, ℕ, List, [], ◌∷◌, filter, reverse, find, Bool, true, false, ◌&&◌, Option, Some, None, refl, ap}
 use Rattle.std.specs.List.{list_all}
 use Rattle.std.specs.Option.{option_or}
 use Rattle.dill_calls.specs.declared.answer.Answer.{Answer}
@@ -9,15 +9,14 @@ use Rattle.dill_calls.specs.declared.word.Word.TheVariants as words
 use Rattle.dill_handles.specs.Handles as handles
 use Rattle.dill_handles.specs.declared.entry.Entry.{Entry}
 use Rattle.dill_maps.specs.Maps.{if_some, first_some}
-use Rattle.dill_rules.specs.declared.coroutine.Closing.{Closing}
 use Rattle.dill_rules.specs.declared.coroutine.Coroutine.{Coroutine}
 use Rattle.dill_rules.specs.declared.thing.Thing.{Thing}
-use Rattle.dill_rules.specs.World.{World, reply, pending_call, from_start, is_ending}
+use Rattle.dill_rules.specs.World.{World, reply, pending_call, from_start}
 use Rattle.dill_rules.specs.Owning.{free_bundle, release, close_bundle, is_dead_as}
 use Rattle.dill_rules.specs.Taking.{bundle_of}
 use Rattle.dill_rules.specs.Answers.{answer_of}
-use Rattle.dill_rules.specs.Giving.{give, give_close}
-use Rattle.dill_rules.specs.Settling.{close_owned, close_all, can_finish, highest_first, is_owned_by, free_all, release_all, outcome_of, keep_end, leave, finish, answer_due, give_first, settle_one, settle_within, pass_one, pass_all, settle}
+use Rattle.dill_rules.specs.Giving.{give}
+use Rattle.dill_rules.specs.Settling.{close_owned, close_all, highest_first, is_owned_by, free_all, release_all, outcome_of, leave, finish, answer_due}
 use Rattle.dill_kept.specs.Plain.{wordless, may_wait, waits_plainly}
 use Rattle.dill_kept.proofs.Blind.{some_blind, if_blind, fold_blind, release_blind}
 

@@ -1,5 +1,5 @@
 -- Calls, settling, turns and expiries change the coroutines only as told.
-use Rattle.std.proofs.Common.{◌≡◌, ◌∙◌, ◌+◌, ◌==◌, ◌<◌, ◌≤◌, ℕ, zero, suc, List, [], ◌∷◌, ◌++◌, length, fold, filter, reverse, find, Bool, true, false, not, ◌&&◌, cond, Option, Some, None, if◌then◌else◌, refl, sym, ap, subst, arith, eq-eqb}
+use Rattle.std.proofs.Common.{◌≡◌, ◌∙◌, ◌+◌, ◌==◌, ◌<◌, ℕ, zero, suc, List, [], ◌∷◌, length, find, Bool, true, false, ◌&&◌, cond, Option, Some, None, if◌then◌else◌, refl, sym, ap, subst, arith, eq-eqb}
 use Rattle.std.specs.Option.{option_or}
 use Rattle.std.proofs.lemmas.Bool.Decides.{nat_tests}
 use Rattle.dill_base.specs.declared.errno.Errno.{Errno}
@@ -9,39 +9,37 @@ use Rattle.dill_calls.specs.declared.answer.Answer.TheVariants.{Number, Fault}
 use Rattle.dill_calls.specs.declared.call.Call.{Call}
 use Rattle.dill_calls.specs.declared.call.Call.TheVariants as calls
 use Rattle.dill_calls.specs.declared.lists.Arg.{Arg}
-use Rattle.dill_calls.specs.declared.ran.LackPlace.{LackPlace}
-use Rattle.dill_calls.specs.declared.word.Word.{Word}
 use Rattle.dill_calls.specs.declared.word.Word.TheVariants as words
 use Rattle.dill_calls.specs.CallTable.{word_of, takes_memory}
-use Rattle.dill_calls.specs.Program.{Program, Move, Calls, Ends, IsLawful, Begins}
-use Rattle.dill_maps.specs.Maps.{if_some, first_some, change, without}
-use Rattle.dill_plain.specs.Plain.{is_plain, MovesPlain}
+use Rattle.dill_calls.specs.Program.{Program, IsLawful, Begins}
+use Rattle.dill_maps.specs.Maps.{if_some, first_some, without}
+use Rattle.dill_plain.specs.Plain.{is_plain}
 use Rattle.dill_rules.specs.declared.coroutine.Coroutine.{Coroutine}
 use Rattle.dill_rules.specs.declared.coroutine.Mode.{Mode}
 use Rattle.dill_rules.specs.declared.coroutine.Mode.TheVariants as modes
 use Rattle.dill_rules.specs.declared.thing.Thing.{Thing}
 use Rattle.dill_rules.specs.declared.thing.Thing.TheVariants as things
-use Rattle.dill_rules.specs.World.{World, is_coroutine, coroutine_of, call_of, reply, pend, set_mode, with_mode, pending_call, is_answered, is_ending}
+use Rattle.dill_rules.specs.World.{World, is_coroutine, coroutine_of, call_of, reply, pending_call, is_answered, is_ending}
 use Rattle.dill_rules.specs.Naming.{gifts_of}
 use Rattle.dill_rules.specs.Kinds.{value_of}
 use Rattle.dill_rules.specs.Owning.{entry_of, move, close_bundle, release, is_dead_as, free_bundle}
 use Rattle.dill_rules.specs.Taking.{bundle_named}
 use Rattle.dill_rules.specs.Answers.{answer_of}
 use Rattle.dill_rules.specs.Refusals.{refuse}
-use Rattle.dill_rules.specs.Effects.{make, make_value, make_bundle, add_bundle, query, own, close, close_thing, start, go, bundle_go, give_all, told, next_number, passed_answer, bear}
-use Rattle.dill_rules.specs.Entering.{entered, keep_for, perform, is_too_late, late_answer, meet_deadline, done, enter, lack_fault}
+use Rattle.dill_rules.specs.Effects.{make, add_bundle, close_thing, start, give_all, told, next_number, passed_answer}
+use Rattle.dill_rules.specs.Entering.{keep_for, perform, is_too_late, late_answer, meet_deadline, done, enter}
 use Rattle.dill_rules.specs.Expiring.{expire_one}
 use Rattle.dill_rules.specs.Giving.{give}
-use Rattle.dill_rules.specs.Settling.{close_all, end, can_finish, is_clear, free_all, release_all, keep_end, leave, finish, answer_due, give_first, settle_one, settle_within, pass_all, settle}
-use Rattle.dill_kept.specs.Plain.{may_wait, waits_plainly, IsPlain}
+use Rattle.dill_rules.specs.Settling.{close_all, end, can_finish, is_clear, free_all, release_all, finish, answer_due, give_first, settle_one, settle_within, settle}
+use Rattle.dill_kept.specs.Plain.{may_wait, IsPlain}
 use Rattle.dill_kept.specs.Well.{has_more, IsAlive, Lives, Numbered}
 use Rattle.dill_kept.proofs.Answered.{evolves_lives}
-use Rattle.dill_kept.proofs.Crew.{SameCrew, no_change, crew_then, move_crew, release_crew, free_dead_crew, close_all_crew, give_all_crew, bare_crew, keep_end_last}
-use Rattle.dill_kept.proofs.Evolving.{Evolves, stays, turns, leaves, begins, goes_on, evolves_numbered}
+use Rattle.dill_kept.proofs.Crew.{crew_then, move_crew, release_crew, free_dead_crew, close_all_crew, give_all_crew, bare_crew, keep_end_last}
+use Rattle.dill_kept.proofs.Evolving.{Evolves, stays, turns, leaves, evolves_numbered}
 use Rattle.dill_kept.proofs.Steps.{call_waits, settle_one_plain, first_waits, pass_plain, within_plain}
 use Rattle.dill_kept.proofs.Walking.{Leads, crew_leads, leads_then, Runs, runs_crew, reply_leads, pend_leads, reply_behind, bear_reply, told_length, Known, unrefused_known}
 
-equal_number : (a b : ℕ) → a ≡ b → (a == b) ≡ true
+pub equal_number : (a b : ℕ) → a ≡ b → (a == b) ≡ true
 equal_number a b e = eq-eqb a b e
 
 module _ {V : Type 0} (p : Program V) (law : IsLawful p) where
@@ -162,6 +160,7 @@ module _ {V : Type 0} (p : Program V) (law : IsLawful p) where
       lack : (b : Bool) → Known p view call → Leads p w (if b then reply w who (word_of call) (Fault Enomem) else done p w who view call)
       lack true k = reply_leads p w who (word_of call) (Fault Enomem) r
       lack false k = done_leads w who view call e t k l r
+
       at : (o : Option Errno) → refuse p w who view call ≡ o → Leads p w (if_some o (if lacks && takes_memory (word_of call) then reply w who (word_of call) (Fault Enomem) else done p w who view call) (λ e. reply w who (word_of call) (Fault e)))
       at None f = lack (lacks && takes_memory (word_of call)) (unrefused_known p w who view call e f)
       at (Some g) f = reply_leads p w who (word_of call) (Fault g) r

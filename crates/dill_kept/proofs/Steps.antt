@@ -1,47 +1,24 @@
 -- The steps of a plain world look at no random word, and leave it plain.
-use Rattle.std.proofs.Common.{◌≡◌, ◌∙◌, ◌+◌, ◌==◌, ℕ, zero, suc, List, [], ◌∷◌, length, fold, filter, reverse, find, Bool, true, false, not, ◌&&◌, Option, Some, None, if◌then◌else◌, refl, sym, ap, subst}
+use Rattle.std.proofs.Common.{◌≡◌, ◌∙◌, ◌==◌, ℕ, zero, suc, List, [], ◌∷◌, length, fold, filter, reverse, find, Bool, true, false, Option, Some, None, if◌then◌else◌, refl, sym, ap, subst}
 use Rattle.std.specs.List.{list_all}
 use Rattle.std.specs.Option.{option_or}
-use Rattle.dill_base.specs.declared.errno.Errno.{Errno}
-use Rattle.dill_base.specs.declared.errno.Errno.TheVariants.{Enomem}
 use Rattle.dill_calls.specs.declared.answer.Answer.{Answer}
-use Rattle.dill_calls.specs.declared.answer.Answer.TheVariants.{Number, Fault}
 use Rattle.dill_calls.specs.declared.call.Call.{Call}
 use Rattle.dill_calls.specs.declared.call.Call.TheVariants as calls
-use Rattle.dill_calls.specs.declared.lists.Arg.{Arg}
-use Rattle.dill_calls.specs.declared.ran.LackPlace.{LackPlace}
-use Rattle.dill_calls.specs.declared.word.Word.{Word}
 use Rattle.dill_calls.specs.declared.word.Word.TheVariants as words
-use Rattle.dill_calls.specs.CallTable.{word_of, takes_memory}
-use Rattle.dill_calls.specs.Program.{Program, Move, Calls, Ends}
 use Rattle.dill_handles.specs.Handles as handles
-use Rattle.dill_handles.specs.declared.entry.Entry.{Entry}
-use Rattle.dill_maps.specs.Maps.{if_some, first_some, change}
-use Rattle.dill_plain.specs.Plain.{is_plain, MovesPlain}
-use Rattle.dill_rules.specs.declared.coroutine.Closing.{Closing}
+use Rattle.dill_maps.specs.Maps.{if_some, first_some}
 use Rattle.dill_rules.specs.declared.coroutine.Coroutine.{Coroutine}
-use Rattle.dill_rules.specs.declared.coroutine.Mode.{Mode}
-use Rattle.dill_rules.specs.declared.coroutine.Mode.TheVariants as modes
-use Rattle.dill_rules.specs.declared.thing.Thing.{Thing}
-use Rattle.dill_rules.specs.declared.thing.Thing.TheVariants as things
-use Rattle.dill_rules.specs.World.{World, is_coroutine, coroutine_of, call_of, reply, pend, pending_call, from_start, is_ending, begin, set_mode}
-use Rattle.dill_rules.specs.Naming.{gifts_of}
-use Rattle.dill_rules.specs.Kinds.{value_of}
-use Rattle.dill_rules.specs.Owning.{entry_of, free_bundle, release, close_bundle, is_dead_as}
-use Rattle.dill_rules.specs.Taking.{bundle_of, bundle_named}
+use Rattle.dill_rules.specs.World.{World, is_coroutine, coroutine_of, call_of, pending_call, from_start}
+use Rattle.dill_rules.specs.Owning.{free_bundle, release, is_dead_as}
 use Rattle.dill_rules.specs.Answers.{answer_of}
-use Rattle.dill_rules.specs.Refusals.{refuse}
-use Rattle.dill_rules.specs.Effects.{make_value, make_bundle, add_bundle, query, own, close, close_thing, start, go, bundle_go, give_all, told, next_number}
-use Rattle.dill_rules.specs.Entering.{entered, keep_for, perform, is_too_late, late_answer, meet_deadline, done, enter, lack_fault}
-use Rattle.dill_rules.specs.Expiring.{expire_one}
-use Rattle.dill_rules.specs.Giving.{give, give_close}
-use Rattle.dill_rules.specs.Settling.{close_owned, close_all, end, can_finish, highest_first, is_owned_by, free_all, release_all, outcome_of, keep_end, leave, finish, answer_due, give_first, settle_one, settle_within, pass_one, pass_all, settle}
-use Rattle.dill_rules.specs.Turning.{is_build, is_entry, as_running, may_lack_build, resume, answer_given, move_of, make_move, lack_move, go_on, turn}
+use Rattle.dill_rules.specs.Giving.{give}
+use Rattle.dill_rules.specs.Settling.{can_finish, highest_first, is_owned_by, free_all, release_all, outcome_of, keep_end, leave, finish, answer_due, give_first, settle_one, settle_within, pass_one, pass_all, settle}
 use Rattle.dill_kept.specs.Plain.{wordless, may_wait, waits_plainly, IsPlain}
-use Rattle.dill_kept.proofs.Blind.{some_blind, if_blind, fold_blind, move_blind, release_blind, query_blind, own_blind, close_blind, go_blind, bundle_go_blind}
-use Rattle.dill_kept.proofs.Lists.{all_change, all_without, all_found}
-use Rattle.dill_kept.proofs.Plainly.{plain_with, set_mode_plain, reply_plain, pend_plain, begin_plain, make_plain, add_bundle_plain, move_plain, release_plain, close_bundle_plain, free_bundle_plain, fold_plain, give_all_plain, bear_plain}
-use Rattle.dill_kept.proofs.Settles.{both, answer_blind, first_blind, give_blind, finish_blind, close_all_blind}
+use Rattle.dill_kept.proofs.Blind.{some_blind}
+use Rattle.dill_kept.proofs.Lists.{all_without, all_found}
+use Rattle.dill_kept.proofs.Plainly.{plain_with, reply_plain, release_plain, free_bundle_plain, fold_plain}
+use Rattle.dill_kept.proofs.Settles.{both, first_blind, give_blind, finish_blind}
 
 pub some_blind_at : {V A : Type 0} (o : Option A) (n w : World V) (g f : A → World V) → n ≡ wordless w → ((a : A) → o ≡ Some a → g a ≡ wordless (f a)) → if_some o n g ≡ wordless (if_some o w f)
 some_blind_at None n w g f e h = e

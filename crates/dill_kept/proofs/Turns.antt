@@ -1,36 +1,30 @@
 -- A turn of a program that makes plain calls, an expiry and a closing look at no random word, and leave the world plain.
-use Rattle.std.proofs.Common.{◌≡◌, ◌∙◌, ◌+◌, ◌==◌, ℕ, zero, suc, List, [], ◌∷◌, length, fold, filter, find, Bool, true, false, not, ◌&&◌, Option, Some, None, if◌then◌else◌, refl, sym, ap, subst}
-use Rattle.std.specs.List.{list_all}
+use Rattle.std.proofs.Common.{◌≡◌, ◌∙◌, ◌+◌, ℕ, List, filter, Bool, true, ◌&&◌, Option, Some, None, if◌then◌else◌, refl, ap}
 use Rattle.dill_base.specs.declared.errno.Errno.{Errno}
 use Rattle.dill_base.specs.declared.errno.Errno.TheVariants.{Enomem}
-use Rattle.dill_calls.specs.declared.answer.Answer.{Answer}
 use Rattle.dill_calls.specs.declared.answer.Answer.TheVariants.{Number, Fault}
 use Rattle.dill_calls.specs.declared.call.Call.{Call}
 use Rattle.dill_calls.specs.declared.call.Call.TheVariants as calls
 use Rattle.dill_calls.specs.declared.lists.Arg.{Arg}
 use Rattle.dill_calls.specs.declared.ran.LackPlace.{LackPlace}
-use Rattle.dill_calls.specs.declared.word.Word.{Word}
 use Rattle.dill_calls.specs.declared.word.Word.TheVariants as words
 use Rattle.dill_calls.specs.CallTable.{word_of, takes_memory}
 use Rattle.dill_calls.specs.Program.{Program, Move, Calls, Ends}
 use Rattle.dill_handles.specs.Handles as handles
-use Rattle.dill_handles.specs.declared.entry.Entry.{Entry}
 use Rattle.dill_scope.specs.Scopes as scopes
-use Rattle.dill_kernel.specs.declared.ready.Ready.{Ready}
-use Rattle.dill_maps.specs.Maps.{if_some, change}
+use Rattle.dill_maps.specs.Maps.{if_some}
 use Rattle.dill_plain.specs.Plain.{is_plain, MovesPlain}
 use Rattle.dill_rules.specs.declared.coroutine.Coroutine.{Coroutine}
-use Rattle.dill_rules.specs.declared.coroutine.Mode.{Mode}
 use Rattle.dill_rules.specs.declared.coroutine.Mode.TheVariants as modes
 use Rattle.dill_rules.specs.declared.thing.Thing.{Thing}
 use Rattle.dill_rules.specs.declared.thing.Thing.TheVariants as things
-use Rattle.dill_rules.specs.World.{World, is_coroutine, coroutine_of, call_of, reply, pend, from_start, begin, set_mode}
+use Rattle.dill_rules.specs.World.{World, is_coroutine, coroutine_of, call_of, reply, from_start, begin, set_mode}
 use Rattle.dill_rules.specs.Naming.{gifts_of}
 use Rattle.dill_rules.specs.Kinds.{value_of}
 use Rattle.dill_rules.specs.Owning.{entry_of, close_bundle, release}
 use Rattle.dill_rules.specs.Taking.{bundle_of, bundle_named}
 use Rattle.dill_rules.specs.Refusals.{refuse}
-use Rattle.dill_rules.specs.Effects.{make, make_value, make_bundle, add_bundle, query, own, close, close_thing, start, go, bundle_go, give_all, told, next_number, passed_answer, bear}
+use Rattle.dill_rules.specs.Effects.{make, add_bundle, close_thing, start, give_all, told, next_number, passed_answer}
 use Rattle.dill_rules.specs.Entering.{entered, keep_for, perform, is_too_late, late_answer, meet_deadline, done, enter, lack_fault}
 use Rattle.dill_rules.specs.Expiring.{expire_one}
 use Rattle.dill_rules.specs.Settling.{close_owned, close_all, end, settle}
@@ -39,7 +33,7 @@ use Rattle.dill_kept.specs.Plain.{wordless, may_wait, waits_plainly, IsPlain}
 use Rattle.dill_kept.proofs.Blind.{if_blind, query_blind, own_blind, close_blind, go_blind, bundle_go_blind}
 use Rattle.dill_kept.proofs.Lists.{all_change}
 use Rattle.dill_kept.proofs.Plainly.{plain_with, set_mode_plain, reply_plain, pend_plain, begin_plain, make_plain, add_bundle_plain, move_plain, release_plain, close_bundle_plain, fold_plain, give_all_plain, bear_plain}
-use Rattle.dill_kept.proofs.Settles.{answer_blind, give_blind, close_all_blind}
+use Rattle.dill_kept.proofs.Settles.{give_blind, close_all_blind}
 use Rattle.dill_kept.proofs.Steps.{some_blind_at, some_plain_at, if_plain, call_waits, give_plain, settle_plain, settle_blind}
 
 -- a deadline from its entry on makes no call another
@@ -181,7 +175,7 @@ module _ {V : Type 0} (p : Program V) where
   lack_blind w who (Ends outcome) = refl
 
   -- the move of a coroutine that may go on is plain
-  go_on_plain : (lack : Option LackPlace) (w : World V) (who : ℕ) (view : V) → MovesPlain (move_of p w who view) → IsPlain w → IsPlain (go_on p lack w who view)
+  pub go_on_plain : (lack : Option LackPlace) (w : World V) (who : ℕ) (view : V) → MovesPlain (move_of p w who view) → IsPlain w → IsPlain (go_on p lack w who view)
   go_on_plain lack w who view e plain =
       if_plain (is_build lack && may_lack_build (move_of p w who view).1)
       (lack_move (resume w who (p.short view (answer_given w who).1)) who (move_of p w who view).1)

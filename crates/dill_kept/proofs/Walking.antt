@@ -1,46 +1,25 @@
 -- Every plain step changes the coroutines as told: one that has no answer stands elsewhere or is gone, or a new one begins.
-use Rattle.std.proofs.Common.{◌≡◌, ◌∙◌, ◌+◌, ◌==◌, ◌<◌, ◌≤◌, ℕ, zero, suc, List, [], ◌∷◌, ◌++◌, length, fold, filter, reverse, find, Bool, true, false, not, ◌&&◌, ◌||◌, cond, Option, Some, None, if◌then◌else◌, refl, sym, ap, subst, arith, eq-eqb}
-use Rattle.std.specs.List.{list_all, list_any}
-use Rattle.std.specs.Option.{option_or}
-use Rattle.std.proofs.lemmas.Bool.Decides.{nat_tests}
+use Rattle.std.proofs.Common.{◌≡◌, ◌∙◌, ◌+◌, ◌≤◌, ℕ, suc, List, [], ◌∷◌, ◌++◌, length, find, Bool, true, false, not, ◌&&◌, ◌||◌, cond, Option, Some, None, refl, sym, ap, subst}
 use Rattle.dill_base.specs.declared.errno.Errno.{Errno}
 use Rattle.dill_base.specs.declared.errno.Errno.TheVariants as errnos
 use Rattle.dill_calls.specs.declared.answer.Answer.{Answer}
-use Rattle.dill_calls.specs.declared.answer.Answer.TheVariants.{Number, Fault}
+use Rattle.dill_calls.specs.declared.answer.Answer.TheVariants.{Number}
 use Rattle.dill_calls.specs.declared.call.Call.{Call}
 use Rattle.dill_calls.specs.declared.call.Call.TheVariants as calls
 use Rattle.dill_calls.specs.declared.lists.Arg.{Arg}
 use Rattle.dill_calls.specs.declared.lists.Arg.TheVariants.{Show, Give}
-use Rattle.dill_calls.specs.declared.ran.LackPlace.{LackPlace}
 use Rattle.dill_calls.specs.declared.word.Word.{Word}
 use Rattle.dill_calls.specs.declared.word.Word.TheVariants as words
-use Rattle.dill_calls.specs.CallTable.{word_of, takes_memory}
-use Rattle.dill_calls.specs.Program.{Program, Move, Calls, Ends, IsLawful, Moves, Begins}
-use Rattle.dill_maps.specs.Maps.{if_some, first_some, change, without}
-use Rattle.dill_plain.specs.Plain.{is_plain, MovesPlain}
+use Rattle.dill_calls.specs.Program.{Program, Begins}
+use Rattle.dill_plain.specs.Plain.{is_plain}
 use Rattle.dill_rules.specs.declared.coroutine.Coroutine.{Coroutine}
-use Rattle.dill_rules.specs.declared.coroutine.Mode.{Mode}
 use Rattle.dill_rules.specs.declared.coroutine.Mode.TheVariants as modes
-use Rattle.dill_rules.specs.declared.thing.Thing.{Thing}
-use Rattle.dill_rules.specs.declared.thing.Thing.TheVariants as things
-use Rattle.dill_rules.specs.World.{World, is_coroutine, coroutine_of, call_of, reply, pend, begin, set_mode, with_mode, pending_call, is_answered, is_ending}
+use Rattle.dill_rules.specs.World.{World, is_coroutine, coroutine_of, reply, pend, is_answered}
 use Rattle.dill_rules.specs.Naming.{gifts_of}
-use Rattle.dill_rules.specs.Kinds.{value_of}
-use Rattle.dill_rules.specs.Owning.{entry_of, move, close_bundle, release, is_dead_as, free_bundle}
-use Rattle.dill_rules.specs.Taking.{bundle_named}
-use Rattle.dill_rules.specs.Answers.{answer_of}
-use Rattle.dill_rules.specs.Refusals.{refuse, can_bear, has_twice, holds, is_invalid, is_refused_by_stack}
-use Rattle.dill_rules.specs.Effects.{make, make_value, make_bundle, add_bundle, query, own, close, close_thing, start, go, bundle_go, give_all, told, next_number, passed_answer, bear}
-use Rattle.dill_rules.specs.Entering.{entered, keep_for, perform, is_too_late, late_answer, meet_deadline, done, enter, lack_fault}
-use Rattle.dill_rules.specs.Expiring.{expire_one}
-use Rattle.dill_rules.specs.Giving.{give}
-use Rattle.dill_rules.specs.Settling.{close_all, end, can_finish, free_all, release_all, leave, finish, answer_due, give_first, settle_one, settle_within, pass_all, settle}
-use Rattle.dill_kept.specs.Plain.{may_wait, waits_plainly, IsPlain}
-use Rattle.dill_kept.specs.Well.{has_more, IsAlive, Lives, Numbered}
-use Rattle.dill_kept.proofs.Answered.{evolves_lives}
-use Rattle.dill_kept.proofs.Crew.{SameCrew, no_change, crew_then, move_crew, release_crew, free_dead_crew, close_all_crew, give_all_crew, bare_crew, keep_end_last}
-use Rattle.dill_kept.proofs.Evolving.{Evolves, stays, turns, leaves, begins, goes_on, evolves_numbered}
-use Rattle.dill_kept.proofs.Steps.{call_waits, settle_one_plain, first_waits, pass_plain, within_plain}
+use Rattle.dill_rules.specs.Refusals.{refuse, has_twice, holds, is_invalid, is_refused_by_stack}
+use Rattle.dill_rules.specs.Effects.{told, bear}
+use Rattle.dill_kept.proofs.Crew.{SameCrew}
+use Rattle.dill_kept.proofs.Evolving.{Evolves, stays, turns, begins, goes_on}
 
 -- the coroutines of one world evolve to those of the other
 abbrev pub Leads : {V : Type 0} → Program V → World V → World V → Type 0

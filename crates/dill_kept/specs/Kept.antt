@@ -1,5 +1,5 @@
 -- What a core keeps of a state: the world, and the order of the answers in place of their stamps. Each step of a state, as a step of what is kept.
-use Rattle.std.specs.Prelude.{ℕ, ◌-◌, List, [], ◌∷◌, ◌++◌, length, map, fold, Bool, true, false, not, ◌&&◌, ◌||◌, Option, Some, None, if◌then◌else◌, is_none, nat_lt, max}
+use Rattle.std.specs.Prelude.{ℕ, ◌-◌, List, [], ◌∷◌, ◌++◌, length, map, fold, Bool, true, false, not, ◌&&◌, ◌||◌, Option, if◌then◌else◌, is_none, nat_lt, max}
 use Rattle.dill_calls.specs.declared.ran.LackPlace.{LackPlace}
 use Rattle.dill_calls.specs.declared.ran.Ran.{Ran}
 use Rattle.dill_calls.specs.Program.{Program}

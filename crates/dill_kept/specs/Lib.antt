@@ -2,3 +2,4 @@ pub mod Plain
 pub mod Kept
 pub mod Stands
 pub mod Well
+pub mod Laws

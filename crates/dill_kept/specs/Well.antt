@@ -5,7 +5,7 @@ use Rattle.dill_maps.specs.Maps.{if_some}
 use Rattle.dill_rules.specs.declared.coroutine.Coroutine.{Coroutine}
 use Rattle.dill_rules.specs.declared.coroutine.Mode.{Mode}
 use Rattle.dill_rules.specs.declared.coroutine.Mode.TheVariants as modes
-use Rattle.dill_rules.specs.World.{World, is_coroutine, is_answered}
+use Rattle.dill_rules.specs.World.{is_coroutine, is_answered}
 use Rattle.dill_kept.specs.Kept.{Kept}
 use Rattle.dill_kept.specs.Plain.{IsPlain}
 
