@@ -6,6 +6,7 @@ use Rattle.dill_calls.specs.declared.answer.Answer.{Answer}
 use Rattle.dill_calls.specs.declared.call.Call.{Call}
 use Rattle.dill_calls.specs.declared.call.Call.TheVariants as calls
 use Rattle.dill_calls.specs.declared.word.Word.TheVariants as words
+use Rattle.rand_core.specs.Stream.{Stream}
 use Rattle.dill_handles.specs.Handles as handles
 use Rattle.dill_maps.specs.Maps.{if_some, first_some}
 use Rattle.dill_rules.specs.declared.coroutine.Coroutine.{Coroutine}
@@ -14,15 +15,15 @@ use Rattle.dill_rules.specs.Owning.{free_bundle, release, is_dead_as}
 use Rattle.dill_rules.specs.Answers.{answer_of}
 use Rattle.dill_rules.specs.Giving.{give}
 use Rattle.dill_rules.specs.Settling.{can_finish, highest_first, is_owned_by, free_all, release_all, outcome_of, keep_end, leave, finish, answer_due, give_first, settle_one, settle_within, pass_one, pass_all, settle}
-use Rattle.dill_kept.specs.Plain.{wordless, may_wait, waits_plainly, IsPlain}
+use Rattle.dill_kept.specs.Plain.{lent, may_wait, waits_plainly, IsPlain}
 use Rattle.dill_kept.proofs.Blind.{some_blind}
 use Rattle.dill_kept.proofs.Lists.{all_without, all_found}
 use Rattle.dill_kept.proofs.Plainly.{plain_with, reply_plain, release_plain, free_bundle_plain, fold_plain}
 use Rattle.dill_kept.proofs.Settles.{both, first_blind, give_blind, finish_blind}
 
-pub some_blind_at : {V A : Type 0} (o : Option A) (n w : World V) (g f : A → World V) → n ≡ wordless w → ((a : A) → o ≡ Some a → g a ≡ wordless (f a)) → if_some o n g ≡ wordless (if_some o w f)
-some_blind_at None n w g f e h = e
-some_blind_at (Some a) n w g f e h = h a refl
+pub some_blind_at : {V A : Type 0} (u : Stream) (o : Option A) (n w : World V) (g f : A → World V) → n ≡ (lent u) w → ((a : A) → o ≡ Some a → g a ≡ (lent u) (f a)) → if_some o n g ≡ (lent u) (if_some o w f)
+some_blind_at u None n w g f e h = e
+some_blind_at u (Some a) n w g f e h = h a refl
 
 pub some_plain_at : {V A : Type 0} (o : Option A) (w : World V) (f : A → World V) → IsPlain w → ((a : A) → o ≡ Some a → IsPlain (f a)) → IsPlain (if_some o w f)
 some_plain_at None w f e h = e
@@ -73,10 +74,10 @@ module _ {V : Type 0} where
   give_first_plain : (w : World V) → IsPlain w → IsPlain (give_first w)
   give_first_plain w plain = some_plain_at (first_some (answer_due w) w.coroutines) w (λ x. give w x.0 x.1 x.2) plain (λ x e. give_plain w x.0 x.1 x.2 (first_waits w w.coroutines x plain.calls e) plain)
 
-  give_first_blind : (w : World V) → IsPlain w → give_first (wordless w) ≡ wordless (give_first w)
-  give_first_blind w plain =
-      ap (λ o. if_some o (wordless w) (λ x. give (wordless w) x.0 x.1 x.2)) (first_blind w w.coroutines plain.calls)
-      ∙ some_blind_at (first_some (answer_due w) w.coroutines) (wordless w) w (λ x. give (wordless w) x.0 x.1 x.2) (λ x. give w x.0 x.1 x.2) refl (λ x e. give_blind w x.0 x.1 x.2 (first_waits w w.coroutines x plain.calls e))
+  give_first_blind : (u : Stream) (w : World V) → IsPlain w → give_first ((lent u) w) ≡ (lent u) (give_first w)
+  give_first_blind u w plain =
+      ap (λ o. if_some o ((lent u) w) (λ x. give ((lent u) w) x.0 x.1 x.2)) ((first_blind u) w w.coroutines plain.calls)
+      ∙ (some_blind_at u) (first_some (answer_due w) w.coroutines) ((lent u) w) w (λ x. give ((lent u) w) x.0 x.1 x.2) (λ x. give w x.0 x.1 x.2) refl (λ x e. (give_blind u) w x.0 x.1 x.2 (first_waits w w.coroutines x plain.calls e))
 
   keep_end_plain : (w : World V) (c : Coroutine V) → IsPlain w → IsPlain (keep_end w c)
   keep_end_plain w c plain =
@@ -105,16 +106,16 @@ module _ {V : Type 0} where
       some_plain_or None = give_first_plain w plain
       some_plain_or (Some c) = finish_plain w c plain
 
-  settle_one_blind : (w : World V) → IsPlain w → settle_one (wordless w) ≡ wordless (settle_one w)
-  settle_one_blind w plain = some_blind (find (can_finish w) w.coroutines) (give_first (wordless w)) (give_first w) (finish (wordless w)) (finish w) (give_first_blind w plain) (finish_blind w)
+  settle_one_blind : (u : Stream) (w : World V) → IsPlain w → settle_one ((lent u) w) ≡ (lent u) (settle_one w)
+  settle_one_blind u w plain = (some_blind u) (find (can_finish w) w.coroutines) (give_first ((lent u) w)) (give_first w) (finish ((lent u) w)) (finish w) ((give_first_blind u) w plain) ((finish_blind u) w)
 
   pub within_plain : (n : ℕ) (w : World V) → IsPlain w → IsPlain (settle_within n w)
   within_plain zero w plain = plain
   within_plain (suc n) w plain = within_plain n (settle_one w) (settle_one_plain w plain)
 
-  within_blind : (n : ℕ) (w : World V) → IsPlain w → settle_within n (wordless w) ≡ wordless (settle_within n w)
-  within_blind zero w plain = refl
-  within_blind (suc n) w plain = ap (settle_within n) (settle_one_blind w plain) ∙ within_blind n (settle_one w) (settle_one_plain w plain)
+  within_blind : (u : Stream) (n : ℕ) (w : World V) → IsPlain w → settle_within n ((lent u) w) ≡ (lent u) (settle_within n w)
+  within_blind u zero w plain = refl
+  within_blind u (suc n) w plain = ap (settle_within n) ((settle_one_blind u) w plain) ∙ (within_blind u) n (settle_one w) (settle_one_plain w plain)
 
   pass_call : (w : World V) (o : Option Call) (c : Coroutine V) → pending_call c.mode ≡ o → if_some o true may_wait ≡ true → pass_one w c ≡ w
   pass_call w None c e h = rw e refl
@@ -138,9 +139,9 @@ module _ {V : Type 0} where
       let kept = within_plain (length w.coroutines) w plain in
       subst IsPlain (sym (pass_plain (settle_within (length w.coroutines) w) kept)) kept
 
-  pub settle_blind : (w : World V) → IsPlain w → settle (wordless w) ≡ wordless (settle w)
-  settle_blind w plain =
+  pub settle_blind : (u : Stream) (w : World V) → IsPlain w → settle ((lent u) w) ≡ (lent u) (settle w)
+  settle_blind u w plain =
       let kept = within_plain (length w.coroutines) w plain in
       let done = settle_within (length w.coroutines) w in
-      let same : IsPlain (wordless done) = plain_with done (wordless done) refl refl refl refl (λ h. h) (λ h. h) kept in
-      ap pass_all (within_blind (length w.coroutines) w plain) ∙ pass_plain (wordless done) same ∙ ap wordless (sym (pass_plain done kept))
+      let same : IsPlain ((lent u) done) = plain_with done ((lent u) done) refl refl refl refl (λ h. h) (λ h. h) kept in
+      ap pass_all ((within_blind u) (length w.coroutines) w plain) ∙ pass_plain ((lent u) done) same ∙ ap (lent u) (sym (pass_plain done kept))

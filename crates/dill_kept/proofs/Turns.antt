@@ -10,6 +10,7 @@ use Rattle.dill_calls.specs.declared.ran.LackPlace.{LackPlace}
 use Rattle.dill_calls.specs.declared.word.Word.TheVariants as words
 use Rattle.dill_calls.specs.CallTable.{word_of, takes_memory}
 use Rattle.dill_calls.specs.Program.{Program, Move, Calls, Ends}
+use Rattle.rand_core.specs.Stream.{Stream}
 use Rattle.dill_handles.specs.Handles as handles
 use Rattle.dill_scope.specs.Scopes as scopes
 use Rattle.dill_maps.specs.Maps.{if_some}
@@ -29,7 +30,7 @@ use Rattle.dill_rules.specs.Entering.{entered, keep_for, perform, is_too_late, l
 use Rattle.dill_rules.specs.Expiring.{expire_one}
 use Rattle.dill_rules.specs.Settling.{close_owned, close_all, end, settle}
 use Rattle.dill_rules.specs.Turning.{is_build, is_entry, as_running, may_lack_build, resume, answer_given, move_of, make_move, lack_move, go_on, turn}
-use Rattle.dill_kept.specs.Plain.{wordless, may_wait, waits_plainly, IsPlain}
+use Rattle.dill_kept.specs.Plain.{lent, may_wait, waits_plainly, IsPlain}
 use Rattle.dill_kept.proofs.Blind.{if_blind, query_blind, own_blind, close_blind, go_blind, bundle_go_blind}
 use Rattle.dill_kept.proofs.Lists.{all_change}
 use Rattle.dill_kept.proofs.Plainly.{plain_with, set_mode_plain, reply_plain, pend_plain, begin_plain, make_plain, add_bundle_plain, move_plain, release_plain, close_bundle_plain, fold_plain, give_all_plain, bear_plain}
@@ -54,21 +55,21 @@ entered_plain moment (calls.Pass word fault) e = refl
 entered_plain moment _ e = cc
 
 module _ {V : Type 0} (p : Program V) where
-  perform_blind : (w : World V) (who : ℕ) (view : V) (call : Call) → is_plain call ≡ true → perform p (wordless w) who view call ≡ wordless (perform p w who view call)
-  perform_blind w who view (calls.Print text) e = refl
-  perform_blind w who view calls.Now e = refl
-  perform_blind w who view calls.Yield e = refl
-  perform_blind w who view (calls.Msleep deadline) e = refl
-  perform_blind w who view (calls.Hmake kind value) e = refl
-  perform_blind w who view (calls.Hquery number kind) e = query_blind w who number
-  perform_blind w who view (calls.Hown number) e = own_blind w who number
-  perform_blind w who view (calls.Hclose number) e = close_blind w who number
-  perform_blind w who view calls.Bundle e = refl
-  perform_blind w who view (calls.Go program args) e = go_blind p w who view program args
-  perform_blind w who view (calls.BundleGo number program args) e = bundle_go_blind p w who view number program args
-  perform_blind w who view (calls.BundleWait number deadline) e = refl
-  perform_blind w who view (calls.Pass word fault) e = refl
-  perform_blind w who view _ e = cc
+  perform_blind : (u : Stream) (w : World V) (who : ℕ) (view : V) (call : Call) → is_plain call ≡ true → perform p ((lent u) w) who view call ≡ (lent u) (perform p w who view call)
+  perform_blind u w who view (calls.Print text) e = refl
+  perform_blind u w who view calls.Now e = refl
+  perform_blind u w who view calls.Yield e = refl
+  perform_blind u w who view (calls.Msleep deadline) e = refl
+  perform_blind u w who view (calls.Hmake kind value) e = refl
+  perform_blind u w who view (calls.Hquery number kind) e = (query_blind u) w who number
+  perform_blind u w who view (calls.Hown number) e = (own_blind u) w who number
+  perform_blind u w who view (calls.Hclose number) e = (close_blind u) w who number
+  perform_blind u w who view calls.Bundle e = refl
+  perform_blind u w who view (calls.Go program args) e = (go_blind u) p w who view program args
+  perform_blind u w who view (calls.BundleGo number program args) e = (bundle_go_blind u) p w who view number program args
+  perform_blind u w who view (calls.BundleWait number deadline) e = refl
+  perform_blind u w who view (calls.Pass word fault) e = refl
+  perform_blind u w who view _ e = cc
 
   start_plain : (w : World V) (view : V) (home program : ℕ) (args : List Arg) → IsPlain w → IsPlain (start p w view home program args)
   start_plain w view home program args plain =
@@ -102,20 +103,20 @@ module _ {V : Type 0} (p : Program V) where
   perform_plain w who view (calls.Pass word fault) e plain = reply_plain w who word (passed_answer fault) plain
   perform_plain w who view _ e plain = cc
 
-  late_blind : (w : World V) (who : ℕ) (call : Call) → may_wait call ≡ true → is_too_late (wordless w) who call ≡ is_too_late w who call
-  late_blind w who (calls.Msleep deadline) e = refl
-  late_blind w who (calls.Hclose number) e = refl
-  late_blind w who (calls.BundleWait number deadline) e = refl
-  late_blind w who _ e = cc
+  late_blind : (u : Stream) (w : World V) (who : ℕ) (call : Call) → may_wait call ≡ true → is_too_late ((lent u) w) who call ≡ is_too_late w who call
+  late_blind u w who (calls.Msleep deadline) e = refl
+  late_blind u w who (calls.Hclose number) e = refl
+  late_blind u w who (calls.BundleWait number deadline) e = refl
+  late_blind u w who _ e = cc
 
-  meet_blind : (w : World V) (who : ℕ) → IsPlain w → meet_deadline (wordless w) who ≡ wordless (meet_deadline w who)
-  meet_blind w who plain =
-      some_blind_at (call_of w who) (wordless w) w
-      (λ call. if is_too_late (wordless w) who call then reply (wordless w) who (word_of call) (late_answer call) else wordless w)
+  meet_blind : (u : Stream) (w : World V) (who : ℕ) → IsPlain w → meet_deadline ((lent u) w) who ≡ (lent u) (meet_deadline w who)
+  meet_blind u w who plain =
+      (some_blind_at u) (call_of w who) ((lent u) w) w
+      (λ call. if is_too_late ((lent u) w) who call then reply ((lent u) w) who (word_of call) (late_answer call) else (lent u) w)
       (λ call. if is_too_late w who call then reply w who (word_of call) (late_answer call) else w)
       refl (λ call e.
-      ap (λ b. if b then reply (wordless w) who (word_of call) (late_answer call) else wordless w) (late_blind w who call (call_waits w who call plain e))
-      ∙ if_blind (is_too_late w who call) (reply (wordless w) who (word_of call) (late_answer call)) (wordless w) (reply w who (word_of call) (late_answer call)) w refl refl)
+      ap (λ b. if b then reply ((lent u) w) who (word_of call) (late_answer call) else (lent u) w) ((late_blind u) w who call (call_waits w who call plain e))
+      ∙ (if_blind u) (is_too_late w who call) (reply ((lent u) w) who (word_of call) (late_answer call)) ((lent u) w) (reply w who (word_of call) (late_answer call)) w refl refl)
 
   meet_plain : (w : World V) (who : ℕ) → IsPlain w → IsPlain (meet_deadline w who)
   meet_plain w who plain =
@@ -128,10 +129,10 @@ module _ {V : Type 0} (p : Program V) where
   done_plain : (w : World V) (who : ℕ) (view : V) (call : Call) → is_plain call ≡ true → IsPlain w → IsPlain (done p w who view call)
   done_plain w who view call e plain = meet_plain (perform p (keep_for w call) who view call) who (perform_plain (keep_for w call) who view call e (keep_plain w call plain))
 
-  done_blind : (w : World V) (who : ℕ) (view : V) (call : Call) → is_plain call ≡ true → IsPlain w → done p (wordless w) who view call ≡ wordless (done p w who view call)
-  done_blind w who view call e plain =
-      ap (λ v. meet_deadline v who) (perform_blind (keep_for w call) who view call e)
-      ∙ meet_blind (perform p (keep_for w call) who view call) who (perform_plain (keep_for w call) who view call e (keep_plain w call plain))
+  done_blind : (u : Stream) (w : World V) (who : ℕ) (view : V) (call : Call) → is_plain call ≡ true → IsPlain w → done p ((lent u) w) who view call ≡ (lent u) (done p w who view call)
+  done_blind u w who view call e plain =
+      ap (λ v. meet_deadline v who) ((perform_blind u) (keep_for w call) who view call e)
+      ∙ (meet_blind u) (perform p (keep_for w call) who view call) who (perform_plain (keep_for w call) who view call e (keep_plain w call plain))
 
   enter_plain : (lacks : Bool) (w : World V) (who : ℕ) (view : V) (call : Call) → is_plain call ≡ true → IsPlain w → IsPlain (enter p lacks w who view call)
   enter_plain lacks w who view call e plain = of_refusal (refuse p w who view call)
@@ -140,14 +141,14 @@ module _ {V : Type 0} (p : Program V) where
       of_refusal None = if_plain (lacks && takes_memory (word_of call)) (reply w who (word_of call) (Fault Enomem)) (done p w who view call) (reply_plain w who (word_of call) (Fault Enomem) plain) (done_plain w who view call e plain)
       of_refusal (Some f) = reply_plain w who (word_of call) (Fault f) plain
 
-  refuse_blind : (w : World V) (who : ℕ) (view : V) (call : Call) → refuse p (wordless w) who view call ≡ refuse p w who view call
-  refuse_blind w who view call = refl
+  refuse_blind : (u : Stream) (w : World V) (who : ℕ) (view : V) (call : Call) → refuse p ((lent u) w) who view call ≡ refuse p w who view call
+  refuse_blind u w who view call = refl
 
-  enter_blind : (lacks : Bool) (w : World V) (who : ℕ) (view : V) (call : Call) → is_plain call ≡ true → IsPlain w → enter p lacks (wordless w) who view call ≡ wordless (enter p lacks w who view call)
-  enter_blind lacks w who view call e plain = of_refusal (refuse p w who view call)
+  enter_blind : (u : Stream) (lacks : Bool) (w : World V) (who : ℕ) (view : V) (call : Call) → is_plain call ≡ true → IsPlain w → enter p lacks ((lent u) w) who view call ≡ (lent u) (enter p lacks w who view call)
+  enter_blind u lacks w who view call e plain = of_refusal (refuse p w who view call)
     where
-      of_refusal : (o : Option Errno) → if_some o (if lacks && takes_memory (word_of call) then reply (wordless w) who (word_of call) (Fault Enomem) else done p (wordless w) who view call) (λ e. reply (wordless w) who (word_of call) (Fault e)) ≡ wordless (if_some o (if lacks && takes_memory (word_of call) then reply w who (word_of call) (Fault Enomem) else done p w who view call) (λ e. reply w who (word_of call) (Fault e)))
-      of_refusal None = if_blind (lacks && takes_memory (word_of call)) (reply (wordless w) who (word_of call) (Fault Enomem)) (done p (wordless w) who view call) (reply w who (word_of call) (Fault Enomem)) (done p w who view call) refl (done_blind w who view call e plain)
+      of_refusal : (o : Option Errno) → if_some o (if lacks && takes_memory (word_of call) then reply ((lent u) w) who (word_of call) (Fault Enomem) else done p ((lent u) w) who view call) (λ e. reply ((lent u) w) who (word_of call) (Fault e)) ≡ (lent u) (if_some o (if lacks && takes_memory (word_of call) then reply w who (word_of call) (Fault Enomem) else done p w who view call) (λ e. reply w who (word_of call) (Fault e)))
+      of_refusal None = (if_blind u) (lacks && takes_memory (word_of call)) (reply ((lent u) w) who (word_of call) (Fault Enomem)) (done p ((lent u) w) who view call) (reply w who (word_of call) (Fault Enomem)) (done p w who view call) refl ((done_blind u) w who view call e plain)
       of_refusal (Some f) = refl
 
   end_plain : (w : World V) (who : ℕ) (outcome : Option Errno) → IsPlain w → IsPlain (end w who outcome)
@@ -162,17 +163,17 @@ module _ {V : Type 0} (p : Program V) where
   make_move_plain lacks w who view (Calls call) e plain = enter_plain lacks w who view (entered w.moment call) (entered_plain w.moment call e) plain
   make_move_plain lacks w who view (Ends outcome) e plain = end_plain w who outcome plain
 
-  make_move_blind : (lacks : Bool) (w : World V) (who : ℕ) (view : V) (move : Move) → MovesPlain (view, move) → IsPlain w → make_move p lacks (wordless w) who view move ≡ wordless (make_move p lacks w who view move)
-  make_move_blind lacks w who view (Calls call) e plain = enter_blind lacks w who view (entered w.moment call) (entered_plain w.moment call e) plain
-  make_move_blind lacks w who view (Ends outcome) e plain = ap (λ v. set_mode v who (modes.Ending outcome)) (close_all_blind w who)
+  make_move_blind : (u : Stream) (lacks : Bool) (w : World V) (who : ℕ) (view : V) (move : Move) → MovesPlain (view, move) → IsPlain w → make_move p lacks ((lent u) w) who view move ≡ (lent u) (make_move p lacks w who view move)
+  make_move_blind u lacks w who view (Calls call) e plain = (enter_blind u) lacks w who view (entered w.moment call) (entered_plain w.moment call e) plain
+  make_move_blind u lacks w who view (Ends outcome) e plain = ap (λ v. set_mode v who (modes.Ending outcome)) ((close_all_blind u) w who)
 
   lack_plain : (w : World V) (who : ℕ) (move : Move) → IsPlain w → IsPlain (lack_move w who move)
   lack_plain w who (Calls call) plain = reply_plain w who (word_of call) (Fault (lack_fault w who (word_of call))) plain
   lack_plain w who (Ends outcome) plain = plain
 
-  lack_blind : (w : World V) (who : ℕ) (move : Move) → lack_move (wordless w) who move ≡ wordless (lack_move w who move)
-  lack_blind w who (Calls call) = refl
-  lack_blind w who (Ends outcome) = refl
+  lack_blind : (u : Stream) (w : World V) (who : ℕ) (move : Move) → lack_move ((lent u) w) who move ≡ (lent u) (lack_move w who move)
+  lack_blind u w who (Calls call) = refl
+  lack_blind u w who (Ends outcome) = refl
 
   -- the move of a coroutine that may go on is plain
   pub go_on_plain : (lack : Option LackPlace) (w : World V) (who : ℕ) (view : V) → MovesPlain (move_of p w who view) → IsPlain w → IsPlain (go_on p lack w who view)
@@ -183,15 +184,15 @@ module _ {V : Type 0} (p : Program V) where
       (lack_plain (resume w who (p.short view (answer_given w who).1)) who (move_of p w who view).1 (resume_plain w who (p.short view (answer_given w who).1) plain))
       (make_move_plain (is_entry lack) (resume w who (move_of p w who view).0) who (move_of p w who view).0 (move_of p w who view).1 e (resume_plain w who (move_of p w who view).0 plain))
 
-  go_on_blind : (lack : Option LackPlace) (w : World V) (who : ℕ) (view : V) → MovesPlain (move_of p w who view) → IsPlain w → go_on p lack (wordless w) who view ≡ wordless (go_on p lack w who view)
-  go_on_blind lack w who view e plain =
-      if_blind (is_build lack && may_lack_build (move_of p w who view).1)
-      (lack_move (wordless (resume w who (p.short view (answer_given w who).1))) who (move_of p w who view).1)
-      (make_move p (is_entry lack) (wordless (resume w who (move_of p w who view).0)) who (move_of p w who view).0 (move_of p w who view).1)
+  go_on_blind : (u : Stream) (lack : Option LackPlace) (w : World V) (who : ℕ) (view : V) → MovesPlain (move_of p w who view) → IsPlain w → go_on p lack ((lent u) w) who view ≡ (lent u) (go_on p lack w who view)
+  go_on_blind u lack w who view e plain =
+      (if_blind u) (is_build lack && may_lack_build (move_of p w who view).1)
+      (lack_move ((lent u) (resume w who (p.short view (answer_given w who).1))) who (move_of p w who view).1)
+      (make_move p (is_entry lack) ((lent u) (resume w who (move_of p w who view).0)) who (move_of p w who view).0 (move_of p w who view).1)
       (lack_move (resume w who (p.short view (answer_given w who).1)) who (move_of p w who view).1)
       (make_move p (is_entry lack) (resume w who (move_of p w who view).0) who (move_of p w who view).0 (move_of p w who view).1)
-      (lack_blind (resume w who (p.short view (answer_given w who).1)) who (move_of p w who view).1)
-      (make_move_blind (is_entry lack) (resume w who (move_of p w who view).0) who (move_of p w who view).0 (move_of p w who view).1 e (resume_plain w who (move_of p w who view).0 plain))
+      ((lack_blind u) (resume w who (p.short view (answer_given w who).1)) who (move_of p w who view).1)
+      ((make_move_blind u) (is_entry lack) (resume w who (move_of p w who view).0) who (move_of p w who view).0 (move_of p w who view).1 e (resume_plain w who (move_of p w who view).0 plain))
 
   -- the coroutine that has a turn goes on by a plain call, or ends
   abbrev pub GoesPlainly : World V → ℕ → Type 0
@@ -202,19 +203,19 @@ module _ {V : Type 0} (p : Program V) where
       some_plain_at (coroutine_of w who) w (λ c. settle (go_on p lack (begin w) who c.body)) plain
       (λ c e. settle_plain (go_on p lack (begin w) who c.body) (go_on_plain lack (begin w) who c.body (goes c e) (begin_plain w plain)))
 
-  pub turn_blind : (lack : Option LackPlace) (w : World V) (who : ℕ) → GoesPlainly w who → IsPlain w → turn p lack (wordless w) who ≡ wordless (turn p lack w who)
-  turn_blind lack w who goes plain =
-      some_blind_at (coroutine_of w who) (wordless w) w (λ c. settle (go_on p lack (wordless (begin w)) who c.body)) (λ c. settle (go_on p lack (begin w) who c.body)) refl
+  pub turn_blind : (u : Stream) (lack : Option LackPlace) (w : World V) (who : ℕ) → GoesPlainly w who → IsPlain w → turn p lack ((lent u) w) who ≡ (lent u) (turn p lack w who)
+  turn_blind u lack w who goes plain =
+      (some_blind_at u) (coroutine_of w who) ((lent u) w) w (λ c. settle (go_on p lack ((lent u) (begin w)) who c.body)) (λ c. settle (go_on p lack (begin w) who c.body)) refl
       (λ c e.
-      ap settle (go_on_blind lack (begin w) who c.body (goes c e) (begin_plain w plain))
-      ∙ settle_blind (go_on p lack (begin w) who c.body) (go_on_plain lack (begin w) who c.body (goes c e) (begin_plain w plain)))
+      ap settle ((go_on_blind u) lack (begin w) who c.body (goes c e) (begin_plain w plain))
+      ∙ (settle_blind u) (go_on p lack (begin w) who c.body) (go_on_plain lack (begin w) who c.body (goes c e) (begin_plain w plain)))
 
 module _ {V : Type 0} where
   pub expire_one_plain : (w : World V) (who : ℕ) → IsPlain w → IsPlain (expire_one w who)
   expire_one_plain w who plain = some_plain_at (call_of w who) w (λ call. _) plain (λ call e. give_plain w who call (late_answer call) (call_waits w who call plain e) plain)
 
-  pub expire_one_blind : (w : World V) (who : ℕ) → IsPlain w → expire_one (wordless w) who ≡ wordless (expire_one w who)
-  expire_one_blind w who plain = some_blind_at (call_of w who) (wordless w) w _ _ refl (λ call e. give_blind w who call (late_answer call) (call_waits w who call plain e))
+  pub expire_one_blind : (u : Stream) (w : World V) (who : ℕ) → IsPlain w → expire_one ((lent u) w) who ≡ (lent u) (expire_one w who)
+  expire_one_blind u w who plain = (some_blind_at u) (call_of w who) ((lent u) w) w _ _ refl (λ call e. (give_blind u) w who call (late_answer call) (call_waits w who call plain e))
 
   -- the world at whose settling the root closes
   abbrev pub root_closed : World V → World V
@@ -223,5 +224,5 @@ module _ {V : Type 0} where
   pub closed_plain : (w : World V) → IsPlain w → IsPlain (root_closed w)
   closed_plain w plain = record { channels = plain.channels; links = plain.links; place = refl; wrote = refl; things = plain.things; calls = plain.calls }
 
-  pub shut_blind : (w : World V) → IsPlain w → settle (root_closed (wordless w)) ≡ wordless (settle (root_closed w))
-  shut_blind w plain = settle_blind (root_closed w) (closed_plain w plain)
+  pub shut_blind : (u : Stream) (w : World V) → IsPlain w → settle (root_closed ((lent u) w)) ≡ (lent u) (settle (root_closed w))
+  shut_blind u w plain = (settle_blind u) (root_closed w) (closed_plain w plain)

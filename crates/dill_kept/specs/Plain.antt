@@ -46,6 +46,10 @@ pub record IsPlain {V : Type 0} (w : World V) : Type 0 where
 abbrev pub no_words : Stream
 no_words = record { u32_after = λ asked. 0; u64_after = λ asked. 0; bytes_after = λ asked count. [] }
 
+-- a world whose random words are others
+abbrev pub lent : {V : Type 0} → Stream → World V → World V
+lent words w = record w { words = words }
+
 -- a world but for its random words
 abbrev pub wordless : {V : Type 0} → World V → World V
-wordless w = record w { words = no_words }
+wordless w = lent no_words w
