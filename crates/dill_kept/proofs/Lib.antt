@@ -12,3 +12,4 @@ mod Stepping
 mod Lining
 mod Resuming
 mod Keeping
+mod Following

@@ -2,6 +2,7 @@
 use Rattle.std.specs.Prelude.{ℕ, ◌-◌, List, [], ◌∷◌, ◌++◌, length, map, fold, Bool, true, false, not, ◌&&◌, ◌||◌, Option, if◌then◌else◌, is_none, nat_lt, max}
 use Rattle.dill_calls.specs.declared.ran.LackPlace.{LackPlace}
 use Rattle.dill_calls.specs.declared.ran.Ran.{Ran}
+use Rattle.dill_calls.specs.declared.word.Word.{Word}
 use Rattle.dill_calls.specs.Program.{Program}
 use Rattle.dill_kernel.specs.declared.ready.Limit.{Limit}
 use Rattle.dill_kernel.specs.declared.ready.Limit.TheVariants.{NoWait}
@@ -16,7 +17,7 @@ use Rattle.dill_rules.specs.Settling.{settle}
 use Rattle.dill_rules.specs.State.{lined, fresh}
 use Rattle.dill_rules.specs.Trying.{tries}
 use Rattle.dill_rules.specs.Turning.{turn, shown, may_lack_move, move_of}
-use Rattle.dill_rules.specs.Waiting.{until, least_due, has_close, awaits_link}
+use Rattle.dill_rules.specs.Waiting.{until, least_due, has_close, awaits_link, waiters}
 use Rattle.dill_kept.specs.Plain.{no_words}
 
 -- Who has an answer, in the order in which they had it, and how many of these had it before the root began to close.
@@ -86,6 +87,10 @@ module _ {V : Type 0} where
   -- how long the next wait may last
   abbrev pub kept_limit : Kept V → Limit
   kept_limit k = if has_answer k.ready || nat_lt 0 (length (tries k.world)) then NoWait else until (least_due k.world)
+
+  -- who waits in which call, the lower coroutine first
+  abbrev pub kept_waiting : Kept V → List (ℕ × Word)
+  kept_waiting k = map (λ x. (x.who, x.word)) (waiters k.world)
 
   -- nobody can go on
   abbrev pub kept_stuck : Kept V → Bool

@@ -3,3 +3,4 @@ pub mod Kept
 pub mod Stands
 pub mod Well
 pub mod Laws
+pub mod Following
