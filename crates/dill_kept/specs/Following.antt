@@ -1,5 +1,5 @@
 -- Where a core stands for a state, its steps lead to what it stands for after the state's own steps, and the same is seen of both.
-use Rattle.std.specs.Prelude.{◌≡◌, ℕ, List, [], ◌∷◌, Bool, Option, Some, None}
+use Rattle.std.specs.Prelude.{◌≡◌, ℕ, List, Option, None}
 use Rattle.rand_core.specs.Stream.{Stream}
 use Rattle.dill_calls.specs.declared.ran.LackPlace.{LackPlace}
 use Rattle.dill_calls.specs.Program.{Program, IsLawful}
@@ -8,7 +8,6 @@ use Rattle.dill_plain.specs.Plain.{MakesPlain}
 use Rattle.dill_rules.specs.Seen.{turn_seen, ran_seen, ask_seen, notes_seen, waiting_seen, made_seen, gone_seen}
 use Rattle.dill_rules.specs.State.{State, opening_state, is_answered, may_lack, expired, shut, woke}
 use Rattle.dill_rules.specs.Waiting.{limit, is_stuck}
-use Rattle.dill_rules.specs.Trying.{next_try}
 use Rattle.dill_handles.specs.Handles as handles
 use Rattle.dill_kept.specs.Kept.{Kept, opening_kept, has_answer, kept_turn, kept_ran, kept_may_lack, kept_expired, kept_shut, kept_woke, kept_limit, kept_stuck, kept_waiting}
 use Rattle.dill_kept.specs.Stands.{StandsFor}
