@@ -45,7 +45,7 @@ module _ {V : Type 0} where
   numbered_change_at true who mode low high c cs ds l h g = (l, h)
   numbered_change_at false who mode low high c cs ds l h g = (l, g)
 
-  numbered_change : (who : ℕ) (mode : Mode) (cs : List (Coroutine V)) (low high : ℕ) → Numbered low cs high → Numbered low (change (is_coroutine who) (with_mode mode) cs) high
+  pub numbered_change : (who : ℕ) (mode : Mode) (cs : List (Coroutine V)) (low high : ℕ) → Numbered low cs high → Numbered low (change (is_coroutine who) (with_mode mode) cs) high
   numbered_change who mode [] low high h = h
   numbered_change who mode (c ∷ cs) low high h = numbered_change_at (is_coroutine who c) who mode low high c cs (change (is_coroutine who) (with_mode mode) cs) h.0 h.1 (numbered_change who mode cs c.number high h.1)
 
@@ -53,7 +53,7 @@ module _ {V : Type 0} where
   numbered_without_at true low high c cs ds l h g = numbered_from cs c.number low high (omega (arith, l)) h
   numbered_without_at false low high c cs ds l h g = (l, g)
 
-  numbered_without : (who : ℕ) (cs : List (Coroutine V)) (low high : ℕ) → Numbered low cs high → Numbered low (without (is_coroutine who) cs) high
+  pub numbered_without : (who : ℕ) (cs : List (Coroutine V)) (low high : ℕ) → Numbered low cs high → Numbered low (without (is_coroutine who) cs) high
   numbered_without who [] low high h = h
   numbered_without who (c ∷ cs) low high h = numbered_without_at (is_coroutine who c) low high c cs (without (is_coroutine who) cs) h.0 h.1 (numbered_without who cs c.number high h.1)
 

@@ -13,3 +13,4 @@ mod Lining
 mod Resuming
 mod Keeping
 mod Following
+mod Settling

@@ -210,6 +210,7 @@ module _ {V : Type 0} (p : Program V) where
       let gone : Evolves p bare.coroutines bare.last_coroutine (without (is_coroutine c.number) bare.coroutines) bare.last_coroutine = leaves c.number c here (ending_rests c.mode (is_clear w c.number) (passes (can_finish w) w.coroutines c e)) in
       leads_then p w bare (finish w c) (crew_leads p w bare same) (subst (λ k. Evolves p bare.coroutines bare.last_coroutine (without (is_coroutine c.number) bare.coroutines) k) (sym (keep_end_last bare c)) gone)
 
+module _ {V : Type 0} where
   -- whose answer is due is pending
   due_pending : (w : World V) (c : Coroutine V) (o : Option Call) (x : ℕ × Call × Answer) → pending_call c.mode ≡ o → if_some o None (λ call. if_some (answer_of w c.number call) None (λ a. Some (c.number, call, a))) ≡ Some x → (pending_call c.mode ≡ Some x.1) × (c.number ≡ x.0)
   due_pending w c None x i e = cc
@@ -224,7 +225,7 @@ module _ {V : Type 0} (p : Program V) where
     pub found : find (is_coroutine x.0) cs ≡ Some one
     pub call : pending_call one.mode ≡ Some x.1
 
-  due_first : (w : World V) (low high : ℕ) (cs : List (Coroutine V)) (x : ℕ × Call × Answer) → Numbered low cs high → first_some (answer_due w) cs ≡ Some x → (low < x.0) × DueAt w cs x
+  pub due_first : (w : World V) (low high : ℕ) (cs : List (Coroutine V)) (x : ℕ × Call × Answer) → Numbered low cs high → first_some (answer_due w) cs ≡ Some x → (low < x.0) × DueAt w cs x
   due_first w low high [] x n e = cc
   due_first w low high (c ∷ cs) x n e = at (answer_due w c) refl e (due_first w c.number high cs x n.1)
     where
@@ -236,6 +237,7 @@ module _ {V : Type 0} (p : Program V) where
           let d = due_pending w c (pending_call c.mode) x refl (i ∙ f) in
           (subst (λ k. low < k) d.1 n.0, record { one = c; found = rw (equal_number c.number x.0 d.1) refl; call = d.0 })
 
+module _ {V : Type 0} (p : Program V) where
   give_first_leads : (w : World V) → IsPlain w → Lives p w.coroutines → Numbered 0 w.coroutines w.last_coroutine → Leads p w (give_first w)
   give_first_leads w plain l n = at (first_some (answer_due w) w.coroutines) refl
     where
@@ -251,7 +253,7 @@ module _ {V : Type 0} (p : Program V) where
     where
       at : (o : Option (Coroutine V)) → find (can_finish w) w.coroutines ≡ o → Leads p w (if_some o (give_first w) (finish w))
       at None e = give_first_leads w plain l n
-      at (Some c) e = finish_leads w c n e
+      at (Some c) e = finish_leads p w c n e
 
   within_leads : (k : ℕ) (w : World V) → IsPlain w → Lives p w.coroutines → Numbered 0 w.coroutines w.last_coroutine → Leads p w (settle_within k w)
   within_leads zero w plain l n = stays

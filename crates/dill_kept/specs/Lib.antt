@@ -4,3 +4,4 @@ pub mod Stands
 pub mod Well
 pub mod Laws
 pub mod Following
+pub mod Settled

@@ -3,4 +3,4 @@
 
 mod laws;
 
-pub use laws::{follows_states, steps_keep_well};
+pub use laws::{follows_states, settling_ends, steps_keep_well};
