@@ -11,6 +11,7 @@ ghost use Rattle.dill_rows.specs.Readings.{Occupied, DeadClause, GiveUps, Cancel
 ghost use Rattle.dill_rows.specs.Lacks.{LacksChangeNothing};
 ghost use Rattle.dill_rows.specs.Limits.{LimitsAreExact};
 ghost use Rattle.dill_rows.specs.Settled.{CloseFrameMet, HeadsWithoutCase, AnothersStack, MovedFirst, TakesAwaited};
+ghost use Rattle.dill_rows.specs.Answered.{AnswersOfScopes, AnswersOfLinks, AnswersOfDetaches, AnswersOfHeads};
 ghost use Rattle.dill_rows.specs.LongInput.{LongLines, LongMessages, LongHeads};
 ghost use Rattle.dill_rows.specs.Full.{HandlesRunOut, NumbersRunOut, LastHandle};
 ghost use Rattle.dill_rows.specs.InUse.{HandshakeKinds, LeavingOccupies, EndsAreSends, HeadsInUse};
@@ -216,6 +217,14 @@ pub fn no_room_is_refused()
     ensures handles { HandlesRunOut }
     ensures numbers { NumbersRunOut }
     ensures run { LastHandle }
+{}
+
+/// Answers of calls, each in a run of its own.
+pub fn answers_of_calls()
+    ensures scopes { AnswersOfScopes }
+    ensures links { AnswersOfLinks }
+    ensures detaches { AnswersOfDetaches }
+    ensures heads { AnswersOfHeads }
 {}
 
 /// Places that could be read in two ways.
