@@ -12,7 +12,7 @@ ghost use Rattle.dill_rows.specs.Lacks.{LacksChangeNothing};
 ghost use Rattle.dill_rows.specs.Limits.{LimitsAreExact};
 ghost use Rattle.dill_rows.specs.Settled.{CloseFrameMet, HeadsWithoutCase, AnothersStack, MovedFirst, TakesAwaited};
 ghost use Rattle.dill_rows.specs.Answered.{AnswersOfScopes, AnswersOfLinks, AnswersOfDetaches, AnswersOfHeads};
-ghost use Rattle.dill_rows.specs.LongInput.{LongLines, LongMessages, LongHeads};
+ghost use Rattle.dill_rows.specs.LongInput.{LongLines, LongMessages, LongHeads, LongItems};
 ghost use Rattle.dill_rows.specs.Full.{HandlesRunOut, NumbersRunOut, LastHandle};
 ghost use Rattle.dill_rows.specs.InUse.{HandshakeKinds, LeavingOccupies, EndsAreSends, HeadsInUse};
 ghost use Rattle.dill_rows.specs.Stops.{RootClosingNotes, QueuedPongs, RefusedHeatsNothing, RepliesUsedUp, AllWaitersTold, ClosedBeforeStuck};
@@ -241,6 +241,7 @@ pub fn long_input()
     ensures lines { LongLines }
     ensures messages { LongMessages }
     ensures heads { LongHeads }
+    ensures items { LongItems }
 {}
 
 /// A WebSocket server over one connection, up to a frame that it refuses.
