@@ -34,7 +34,7 @@ ghost use Rattle.dill_rows.specs.Stories.{WorkedStories};
 ghost use Rattle.dill_rows.specs.Failing.{OutputFails};
 ghost use Rattle.dill_rows.specs.Asked.{AsksCarry};
 ghost use Rattle.dill_rows.specs.Scripted.{ScriptsRun, ScriptsPlay, ScriptsOverLinks};
-ghost use Rattle.dill_rows.specs.SameStories.{SameStories};
+ghost use Rattle.dill_rows.specs.SameStories.{SameStories, NetworkStories};
 
 /// Three deadlines at one moment pass in the order of the coroutines.
 pub fn equal_deadlines_lower_first()
@@ -519,6 +519,11 @@ pub fn lines_over_a_link()
 /// The story of a run over the rules writes and asks what the worked run does.
 pub fn stories_of_worked_runs()
     ensures { SameStories }
+{}
+
+/// Runs over the network in memory do what their stories do over its replies.
+pub fn stories_over_the_network()
+    ensures { NetworkStories }
 {}
 
 /// Which calls take a random word.
