@@ -6,6 +6,7 @@ mod bytes;
 mod cutting;
 mod heading;
 mod line;
+mod text;
 mod token;
 
 pub use bytes::{has_tokens, is_line};

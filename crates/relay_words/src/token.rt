@@ -1,5 +1,5 @@
 ghost use Rattle.std.specs.Prelude.{◌≡◌, ◌++◌, ◌∷◌, [], OnOk, OnErr, option_map};
-ghost use Rattle.dill_script.specs.Tokens.{is_word};
+ghost use Rattle.dill_script.specs.Tokens.{Plain, Text, is_word};
 ghost use Rattle.dill_script.specs.Operands.{word_in};
 
 use dill_base::{NoMemory, Octets};
@@ -29,6 +29,24 @@ impl Model for Token {
 }
 
 impl Token {
+    /// A word as it stands.
+    pub(crate) fn from_word(word: Octets) -> Token
+        ensures { result ≡ Plain word }
+    {
+        Token {
+            spelled: Spelled::Plain(word),
+        }
+    }
+
+    /// A text by the bytes that it means.
+    pub(crate) fn from_text(bytes: Octets) -> Token
+        ensures { result ≡ Text bytes }
+    {
+        Token {
+            spelled: Spelled::Text(bytes),
+        }
+    }
+
     /// The bytes of a word; none of a text.
     pub fn word(&self) -> Option<&[u8]>
         ensures { option_map (λ x. x.now) result ≡ word_in self.now }
