@@ -13,6 +13,10 @@ use Rattle.relay_words.specs.Cutting.{begins_token, Starts, IsBare}
 pub rest_from : {A : Type 0} (xs : List A) (n : ℕ) → take (length xs - n) (drop n xs) ≡ drop n xs
 rest_from xs n = take_all (length xs - n) (drop n xs) (simp length-drop (omega arith))
 
+-- what is left of a part of a list is no longer than that list
+pub slice_within : {A : Type 0} (xs part behind : List A) (n : ℕ) → behind ≡ drop n part → length part ≤ length xs → length behind ≤ length xs
+slice_within xs part behind n slice within = omega (arith, ap length slice, length-drop n part)
+
 -- what is left behind the blanks at the front
 abbrev pub bare : List ℕ → List ℕ
 bare bytes = drop (prefix_len is_blank bytes) bytes

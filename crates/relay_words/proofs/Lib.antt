@@ -1,2 +1,4 @@
 pub mod Blanks
 pub mod Places
+pub mod Texts
+pub mod Cuts

@@ -1,8 +1,8 @@
-ghost use Rattle.std.specs.Prelude.{◌≡◌, ◌≤◌, length, not, true, IfOk, MatchOption, None};
+ghost use Rattle.std.specs.Prelude.{◌≡◌, ◌≤◌, ◌<◌, length, not, true, false, IfOk, MatchOption, None};
 ghost use Rattle.std.specs.List.{prefix_len};
 ghost use Rattle.dill_script.specs.Lines.{is_blank};
-ghost use Rattle.dill_script.specs.Tokens.{tokens, tokens_from, Between};
-ghost use Rattle.relay_words.specs.Cutting.{begins_token, CutsToken};
+ghost use Rattle.dill_script.specs.Tokens.{tokens, before, tokens_from, Between, InWord};
+ghost use Rattle.relay_words.specs.Cutting.{begins_token, ends_token, CutsToken};
 
 use crate::bytes::{first_token, is_blank};
 use crate::text::read_text;
@@ -18,21 +18,30 @@ fn word_length(bytes: &[u8]) -> usize
     bytes.iter().take_while(|byte| !is_blank(**byte)).count()
 }
 
-/// The token at the front, and what stands behind it; nothing where it is no text that has its end, and a blank or
-/// nothing behind it.
+/// The word at the front, and what stands behind it.
+fn cut_word(alloc: Global, bytes: &[u8]) -> Result<(Token, &[u8]), NoMemory>
+    requires { ends_token bytes.now ≡ false }
+    ensures tokens { IfOk result (λ t. tokens_from InWord bytes.now ≡ before t.0 (tokens_from Between t.1.now)) }
+    ensures shorter { IfOk result (λ t. length t.1.now < length bytes.now) }
+{
+    let length = word_length(bytes);
+    let word = Octets::from_slice(alloc, &bytes[..length])?;
+    Ok((Token::from_word(word), &bytes[length..]))
+}
+
+/// The token at the front, and what stands behind it; nothing where a text has no end, another escape, or something
+/// else than a blank behind it.
 fn cut_token(alloc: Global, bytes: &[u8]) -> Result<Option<(Token, &[u8])>, NoMemory>
     requires { begins_token bytes.now ≡ true }
     ensures { IfOk result (λ r. MatchOption r (tokens_from Between bytes.now ≡ None) (λ t. CutsToken bytes.now t.0 t.1.now)) }
 {
-    if let [b'"', inside @ ..] = bytes {
-        return match read_text(alloc, inside)? {
-            Some((text, rest)) => Ok(Some((Token::from_text(text), rest))),
+    match bytes {
+        [b'"', inside @ ..] => match read_text(alloc, inside)? {
+            Some((text, behind)) => Ok(Some((Token::from_text(text), behind))),
             None => Ok(None),
-        };
+        },
+        _ => Ok(Some(cut_word(alloc, bytes)?)),
     }
-    let length = word_length(bytes);
-    let word = Octets::from_slice(alloc, &bytes[..length])?;
-    Ok(Some((Token::from_word(word), &bytes[length..])))
 }
 
 /// The tokens of a line; none where a text has no end, another escape, or something else than a blank behind it.

@@ -6,6 +6,7 @@ mod bytes;
 mod cutting;
 mod heading;
 mod line;
+mod number;
 mod text;
 mod token;
 

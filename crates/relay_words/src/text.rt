@@ -97,22 +97,20 @@ pub(crate) fn read_text(
 ) -> Result<Option<(Octets, &[u8])>, NoMemory>
     ensures { IfOk result (λ r. MatchOption r (tokens_from InText bytes.now ≡ None) (λ t. CutsText bytes.now t.0 t.1.now)) }
 {
-    let mut meant = Vec::new(alloc);
+    let mut meant = Octets::new(alloc);
     let mut rest = bytes;
     loop {
         match next_piece(rest) {
             Piece::Fault => return Ok(None),
             Piece::End => {
-                rest = &rest[1..];
-                if !ends_token(rest) {
+                let behind = &rest[1..];
+                if !ends_token(behind) {
                     return Ok(None);
                 }
-                return Ok(Some((Octets::from_vec(meant), rest)));
+                return Ok(Some((meant, behind)));
             }
             Piece::Byte(byte, used) => {
-                if meant.push(byte).is_err() {
-                    return Err(NoMemory);
-                }
+                meant.push_all(&[byte])?;
                 rest = &rest[used..];
             }
         }
