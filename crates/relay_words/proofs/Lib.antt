@@ -2,3 +2,4 @@ pub mod Blanks
 pub mod Places
 pub mod Texts
 pub mod Cuts
+pub mod Values

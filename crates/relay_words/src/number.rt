@@ -84,15 +84,19 @@ fn is_name_byte(byte: u8) -> bool
     is_lower(byte) || is_digit(byte) || byte == b'_'
 }
 
+fn are_name_bytes(bytes: &[u8]) -> bool
+    ensures { result ≡ list_all (λ byte. is_lower byte || (is_digit byte || (byte == 95))) bytes.now }
+{
+    bytes.iter().all(|byte| is_name_byte(*byte))
+}
+
 /// A lower-case letter, and at most 31 more lower-case letters, digits or `_`.
 pub(crate) fn is_name(word: &[u8]) -> bool
     ensures { result ≡ is_name word.now }
 {
     match word {
         [] => false,
-        [first, rest @ ..] => {
-            is_lower(*first) && rest.len() <= 31 && rest.iter().all(|byte| is_name_byte(*byte))
-        }
+        [first, rest @ ..] => is_lower(*first) && rest.len() <= 31 && are_name_bytes(rest),
     }
 }
 
