@@ -5,7 +5,9 @@
 mod bytes;
 mod cutting;
 mod heading;
+mod keyword;
 mod line;
+mod names;
 mod number;
 mod text;
 mod token;
