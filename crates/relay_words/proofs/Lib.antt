@@ -3,3 +3,4 @@ pub mod Places
 pub mod Texts
 pub mod Cuts
 pub mod Values
+pub mod Splits

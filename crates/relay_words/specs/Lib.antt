@@ -1,3 +1,4 @@
+pub mod Addresses
 pub mod Cutting
 pub mod Spelled
 pub mod Tokens

@@ -2,6 +2,7 @@
 //! What may stand where, and the order of refusals, stands above it.
 #![tactic(auto)]
 
+mod address;
 mod bytes;
 mod cutting;
 mod heading;
