@@ -1,4 +1,5 @@
 pub mod Addresses
 pub mod Cutting
 pub mod Spelled
+pub mod Texts
 pub mod Tokens

@@ -10,6 +10,7 @@ mod keyword;
 mod line;
 mod names;
 mod number;
+mod operand;
 mod text;
 mod token;
 

@@ -1,6 +1,7 @@
 ghost use Rattle.std.specs.Prelude.{◌≡◌, ◌++◌, ◌∷◌, [], OnOk, OnErr, option_map};
 ghost use Rattle.dill_script.specs.Tokens.{Plain, Text, is_word};
 ghost use Rattle.dill_script.specs.Operands.{word_in};
+ghost use Rattle.relay_words.specs.Texts.{text_in};
 
 use dill_base::{NoMemory, Octets};
 use std::alloc::Global;
@@ -54,6 +55,16 @@ impl Token {
         match &self.spelled {
             Spelled::Plain(word) => Some(word.as_slice()),
             Spelled::Text(_) => None,
+        }
+    }
+
+    /// The bytes that a text means; none of a word.
+    pub(crate) fn text(&self) -> Option<&[u8]>
+        ensures { option_map (λ x. x.now) result ≡ text_in self.now }
+    {
+        match &self.spelled {
+            Spelled::Plain(_) => None,
+            Spelled::Text(bytes) => Some(bytes.as_slice()),
         }
     }
 
