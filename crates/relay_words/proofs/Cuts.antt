@@ -5,7 +5,7 @@ use Rattle.std.specs.List.{prefix_len}
 use Rattle.dill_script.specs.Lines.{is_blank}
 use Rattle.dill_script.specs.Tokens.{Token, Plain, put, before, tokens_from, Between, InWord}
 use Rattle.relay_words.proofs.Places.{between_blank, word_byte, word_blank}
-use Rattle.relay_words.specs.Cutting.{begins_token, ends_token, all_before}
+use Rattle.relay_words.specs.Prefixes.{all_before}
 
 -- no blank
 abbrev pub stays : ℕ → Bool

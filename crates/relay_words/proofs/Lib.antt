@@ -4,3 +4,4 @@ pub mod Texts
 pub mod Cuts
 pub mod Values
 pub mod Splits
+pub mod Joins

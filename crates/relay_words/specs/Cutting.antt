@@ -20,10 +20,6 @@ abbrev pub put_all : List ℕ → Option (List Token) → Option (List Token)
 put_all [] tokens = tokens
 put_all (byte ∷ bytes) tokens = put byte (put_all bytes tokens)
 
--- tokens before the others
-abbrev pub all_before : List Token → Option (List Token) → Option (List Token)
-all_before tokens others = option_map (λ rest. tokens ++ rest) others
-
 -- the tokens of a text's rest, of which this piece stands first
 abbrev pub behind_piece : Piece → List ℕ → Option (List Token)
 behind_piece (Byte meant used) bytes = put meant (tokens_from InText (drop used bytes))

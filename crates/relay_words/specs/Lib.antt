@@ -1,5 +1,7 @@
 pub mod Addresses
+pub mod Clauses
 pub mod Cutting
+pub mod Prefixes
 pub mod Spelled
 pub mod Texts
 pub mod Tokens

@@ -11,6 +11,8 @@ mod line;
 mod names;
 mod number;
 mod operand;
+mod operands;
+mod table;
 mod text;
 mod token;
 

@@ -1,6 +1,6 @@
 use Rattle.std.proofs.Common.{◌≡◌, length}
 use Rattle.dill_script.specs.Tokens.{tokens_from, Between}
-use Rattle.relay_words.specs.Cutting.{all_before}
+use Rattle.relay_words.specs.Prefixes.{all_before}
 use Rattle.relay_words.proofs.cutting.tokens.Given as goal
 
 abbrev pub invariant-loop-bytes : goal.invariant-loop-bytes
