@@ -13,6 +13,7 @@ mod number;
 mod operand;
 mod operands;
 mod table;
+mod targets;
 mod text;
 mod token;
 
