@@ -2,6 +2,7 @@ pub mod Addresses
 pub mod Clauses
 pub mod Cutting
 pub mod Prefixes
+pub mod Shapes
 pub mod Spelled
 pub mod Targets
 pub mod Texts

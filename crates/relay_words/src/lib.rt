@@ -4,7 +4,9 @@
 
 mod address;
 mod bytes;
+mod cond;
 mod cutting;
+mod dest;
 mod heading;
 mod keyword;
 mod line;

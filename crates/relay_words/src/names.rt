@@ -66,7 +66,7 @@ pub(crate) fn role_of(word: &[u8]) -> Option<Role>
 }
 
 /// A sign of comparing.
-pub(crate) fn relation_of(word: &[u8]) -> Option<Relation>
+pub(crate) fn relation_named(word: &[u8]) -> Option<Relation>
     ensures { result ≡ named relation_text (Relation.Equal ∷ Relation.Unequal ∷ Relation.Less ∷ Relation.AtMost ∷ Relation.Greater ∷ Relation.AtLeast ∷ []) word.now }
 {
     match word {
