@@ -1,6 +1,7 @@
 pub mod Addresses
 pub mod Clauses
 pub mod Cutting
+pub mod Pairs
 pub mod Prefixes
 pub mod Shapes
 pub mod Spelled

@@ -11,10 +11,7 @@ fn part_length(bytes: &[u8], separator: u8) -> usize
     ensures run { result ≡ prefix_len (λ byte. not (byte == separator)) bytes.now }
     ensures within { result ≤ length bytes.now }
 {
-    bytes
-        .iter()
-        .take_while(|byte| **byte != separator)
-        .count()
+    bytes.iter().take_while(|byte| **byte != separator).count()
 }
 
 /// What stands before the first separator, and what stands behind it; none where there is none.

@@ -19,11 +19,7 @@ fn relation_of(token: &Token) -> Option<Relation>
 fn number_cond(left: &Token, sign: &Token, right: &Token) -> Option<Cond>
     ensures { result ≡ number_cond left.now sign.now right.now }
 {
-    Some(Cond::Number(
-        number_register(left)?,
-        relation_of(sign)?,
-        num_of(right)?,
-    ))
+    Some(Cond::Number(number_register(left)?, relation_of(sign)?, num_of(right)?))
 }
 
 /// A condition on a byte register.

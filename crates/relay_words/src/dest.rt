@@ -44,10 +44,8 @@ fn dest_of(shape: Shape, targets: &[Register]) -> Option<Dest>
         (Shape::TwoBytes, [Register::Bytes(first), Register::Bytes(second)]) => {
             Some(Dest::Two(*first, *second))
         }
-        (
-            Shape::CodeAndBytes | Shape::Choice,
-            [Register::Number(first), Register::Bytes(second)],
-        ) => Some(Dest::Mixed(*first, *second)),
+        (Shape::CodeAndBytes | Shape::Choice, [Register::Number(first), Register::Bytes(second)]) =>
+            Some(Dest::Mixed(*first, *second)),
         _ => None,
     }
 }

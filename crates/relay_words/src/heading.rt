@@ -7,7 +7,7 @@ use crate::keyword::keyword_named;
 use crate::operand::register_in;
 use crate::targets::Targets;
 use dill_base::NoMemory;
-use dill_script::Keyword;
+use dill_script::{Keyword, Register};
 use std::alloc::Global;
 use std::marker::Model;
 
@@ -35,6 +35,27 @@ impl Heading<'_> {
     {
         self.word
     }
+
+    /// Whether it begins with `try`.
+    pub fn tried(&self) -> bool
+        ensures { result ≡ self.now.tried }
+    {
+        self.tried
+    }
+
+    /// The registers before its `=`, none where it has no such `=`.
+    pub fn targets(&self) -> &[Register]
+        ensures { result.now ≡ self.now.targets }
+    {
+        self.targets.as_slice()
+    }
+
+    /// What stands behind its word.
+    pub fn operands(&self) -> &[Token]
+        ensures { result.now ≡ self.now.operands }
+    {
+        self.operands
+    }
 }
 
 /// The word that a token is.
@@ -45,10 +66,7 @@ fn keyword_of(token: &Token) -> Option<Keyword>
 }
 
 /// The registers that stand alone before a `=`, and what stands behind it; nothing where there is no such `=`.
-fn up_to_equals(
-    alloc: Global,
-    tokens: &[Token],
-) -> Result<Option<(Targets, &[Token])>, NoMemory>
+fn up_to_equals(alloc: Global, tokens: &[Token]) -> Result<Option<(Targets, &[Token])>, NoMemory>
     ensures { IfOk result (λ r. option_map targets_in r ≡ up_to_equals tokens.now) }
 {
     let mut targets = Targets::new(alloc);

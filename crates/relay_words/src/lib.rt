@@ -14,6 +14,7 @@ mod names;
 mod number;
 mod operand;
 mod operands;
+mod statement;
 mod table;
 mod targets;
 mod text;

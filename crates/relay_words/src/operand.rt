@@ -125,11 +125,7 @@ pub(crate) fn item_of(alloc: Global, token: &Token) -> Result<Option<Operand>, N
 }
 
 /// An end, and what is sent to it.
-pub(crate) fn send_of(
-    alloc: Global,
-    end: &Token,
-    item: &Token,
-) -> Result<Option<Operand>, NoMemory>
+pub(crate) fn send_of(alloc: Global, end: &Token, item: &Token) -> Result<Option<Operand>, NoMemory>
     ensures { IfOk result (λ r. r ≡ send_of end.now item.now) }
 {
     match num_of(end) {

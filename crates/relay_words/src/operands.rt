@@ -44,10 +44,7 @@ fn first_arg(tokens: &[Token]) -> Option<(Operand, &[Token])>
 }
 
 /// These operands with arguments behind them.
-fn with_args(
-    mut operands: Operands,
-    tokens: &[Token],
-) -> Result<Option<Operands>, NoMemory>
+fn with_args(mut operands: Operands, tokens: &[Token]) -> Result<Option<Operands>, NoMemory>
     ensures { IfOk result (λ r. r ≡ all_before operands (args_of tokens.now)) }
 {
     let mut rest = tokens;
@@ -82,10 +79,7 @@ fn clause_of(
 }
 
 /// The clause at the front, and the tokens behind it.
-fn first_clause(
-    alloc: Global,
-    tokens: &[Token],
-) -> Result<Option<(Operand, &[Token])>, NoMemory>
+fn first_clause(alloc: Global, tokens: &[Token]) -> Result<Option<(Operand, &[Token])>, NoMemory>
     requires { 0 < length tokens.now }
     ensures { IfOk result (λ r. MatchOption r (clauses_of tokens.now ≡ None) (λ c. Takes clauses_of tokens.now c.0 c.1.now)) }
 {

@@ -91,10 +91,7 @@ fn next_piece(bytes: &[u8]) -> Piece
 
 /// A text from behind its first `"`, and what stands behind the second; nothing where it has no end, another escape,
 /// or something else than a blank behind it.
-pub(crate) fn read_text(
-    alloc: Global,
-    bytes: &[u8],
-) -> Result<Option<(Octets, &[u8])>, NoMemory>
+pub(crate) fn read_text(alloc: Global, bytes: &[u8]) -> Result<Option<(Octets, &[u8])>, NoMemory>
     ensures { IfOk result (λ r. MatchOption r (tokens_from InText bytes.now ≡ None) (λ t. CutsText bytes.now t.0 t.1.now)) }
 {
     let mut meant = Octets::new(alloc);

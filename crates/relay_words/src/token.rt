@@ -59,7 +59,7 @@ impl Token {
     }
 
     /// The bytes that a text means; none of a word.
-    pub(crate) fn text(&self) -> Option<&[u8]>
+    pub fn text(&self) -> Option<&[u8]>
         ensures { option_map (λ x. x.now) result ≡ text_in self.now }
     {
         match &self.spelled {
