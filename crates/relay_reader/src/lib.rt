@@ -1,0 +1,6 @@
+//! Reading a whole script: its text is cut into lines, each line is judged by what stands before it, and the programs
+//! are linked. It runs nothing, and reads no line by itself: `relay_words` does.
+#![tactic(auto)]
+
+mod blocks;
+mod cut;
