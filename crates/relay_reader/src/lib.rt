@@ -3,4 +3,9 @@
 #![tactic(auto)]
 
 mod blocks;
+mod built;
+mod context;
 mod cut;
+mod fault;
+
+pub use built::is_built_so_far;
