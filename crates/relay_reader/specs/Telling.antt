@@ -27,3 +27,8 @@ Faults faults.NoMemory reason = Unit {0}
 abbrev pub Tells : {X : Type 0} → Result X Fault → Option Reason → (X → Type 0) → Type 0
 Tells (Ok x) reason Fact = (reason ≡ None) × Fact x
 Tells (Err fault) reason Fact = Faults fault reason
+
+-- the refusal of a script for a fault of a line
+abbrev pub refusal_at : ℕ → Fault → Refusal
+refusal_at line (faults.Against reason) = At line reason
+refusal_at line faults.NoMemory = NoMemory

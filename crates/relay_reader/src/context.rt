@@ -1,13 +1,21 @@
-ghost use Rattle.std.specs.Prelude.{◌≡◌, ◌≤◌, false, IfOk, OnOk};
-ghost use Rattle.dill_script.specs.Blocks.{blocks_behind};
-ghost use Rattle.dill_script.specs.Contexts.{opening, bare, is_place, places, saying, ended, ending, adding};
-ghost use Rattle.dill_script.specs.Refusals.{passes_limit};
+ghost use Rattle.std.specs.Prelude.{◌≡◌, ◌≤◌, ◌||◌, ◌&&◌, false, OnOk};
+ghost use Rattle.dill_script.specs.Contexts.{opening, bare, is_place, places, saying, ended, ending, adding, behind, after};
+ghost use Rattle.dill_script.specs.Headings.{heading_of};
+ghost use Rattle.dill_script.specs.Lines.{has_tokens};
+ghost use Rattle.dill_script.specs.Refusals.{passes_limit, faults, first_reason};
+ghost use Rattle.dill_script.specs.Statements.{line_of};
+ghost use Rattle.dill_script.specs.Tokens.{tokens};
 ghost use Rattle.relay_words.specs.Spelled.{line_in};
+ghost use Rattle.relay_reader.specs.Built.{is_built_so_far};
+ghost use Rattle.relay_reader.specs.Parts.{byte_faults, word_faults, spelling_faults, limit_faults, behind_line, heading_faults, passing_faults};
+ghost use Rattle.relay_reader.specs.Telling.{Tells};
 
 use crate::blocks::Blocks;
+use crate::fault::Fault;
+use crate::judging::{judge_bytes, judge_spelling, judge_word};
 use dill_base::{NoMemory, Octets};
-use dill_script::{Block, Program, Script, Statement, Statements};
-use relay_words::Line;
+use dill_script::{Block, Keyword, Program, Reason, Script, Statement, Statements};
+use relay_words::{Heading, Line, Token, Tokens, has_tokens, heading_of};
 use std::alloc::Global;
 use std::marker::Model;
 use std::mem;
@@ -142,5 +150,138 @@ impl Context {
         programs > MOST_PROGRAMS
             || self.place_count > MOST_PLACES
             || self.open_blocks.are_too_deep()
+    }
+
+    /// Takes on what a line of this word spells.
+    fn go_behind(&mut self, alloc: Global, keyword: Keyword, line: Line) -> Result<(), NoMemory>
+        requires { places self.old.current.statements ≤ 4096 }
+        ensures { OnOk result
+            (self.new ≡ behind_line self.old keyword (line_in line)) }
+    {
+        self.add(alloc, line)?;
+        self.open_blocks.pass(keyword)
+    }
+
+    /// Takes on what a line of this word spells, where that passes no limit.
+    fn go_on(&mut self, alloc: Global, keyword: Keyword, line: Line) -> Result<(), Fault>
+        requires { places self.old.current.statements ≤ 4096 }
+        ensures { Tells result
+            (first_reason (limit_faults (behind_line self.old keyword (line_in line))))
+            (λ _. self.new ≡ behind_line self.old keyword (line_in line)) }
+    {
+        if self.go_behind(alloc, keyword, line).is_err() {
+            return Err(Fault::NoMemory);
+        }
+        if self.is_too_large() {
+            return Err(Fault::Against(Reason::TooLarge));
+        }
+        Ok(())
+    }
+
+    /// The word of a line that may stand here.
+    fn word_of(&self, heading: &Heading<'_>, last: bool) -> Result<Keyword, Fault>
+        ensures { Tells result
+            (first_reason
+            (word_faults is_built_so_far self.now.open_blocks last heading.now.word))
+            (λ keyword. heading.now.word ≡ Some keyword) }
+    {
+        judge_word(&self.open_blocks, heading.word(), last)
+    }
+
+    /// What the line spells, where it may stand behind the programs that are whole.
+    fn spelled(&self, alloc: Global, heading: &Heading<'_>) -> Result<Line, Fault>
+        ensures { Tells result
+            (first_reason (spelling_faults self.now.whole (line_of heading.now)))
+            (λ line. line_of heading.now ≡ Some (line_in line)) }
+    {
+        judge_spelling(alloc, self.whole.as_slice(), heading)
+    }
+
+    /// Reads a line that belongs to programs.
+    fn read_heading(
+        &mut self,
+        alloc: Global,
+        heading: &Heading<'_>,
+        last: bool,
+    ) -> Result<(), Fault>
+        requires { passes_limit self.old ≡ false }
+        ensures { Tells result
+            (first_reason (heading_faults is_built_so_far self.old last heading.now))
+            (λ _. self.new ≡ behind self.old (Some heading.now)) }
+    {
+        let keyword = self.word_of(heading, last)?;
+        let line = self.spelled(alloc, heading)?;
+        self.go_on(alloc, keyword, line)
+    }
+
+    fn read_said(&mut self, alloc: Global, tokens: &[Token], last: bool) -> Result<(), Fault>
+        requires { passes_limit self.old ≡ false }
+        ensures { Tells result
+            (first_reason (heading_faults is_built_so_far self.old last (heading_of tokens.now)))
+            (λ _. self.new ≡ behind self.old (Some (heading_of tokens.now))) }
+    {
+        match heading_of(alloc, tokens) {
+            Ok(heading) => self.read_heading(alloc, &heading, last),
+            Err(_) => Err(Fault::NoMemory),
+        }
+    }
+
+    /// Goes behind a line that belongs to no program.
+    fn pass_over(&mut self, line: &[u8], last: bool) -> Result<(), Fault>
+        ensures { Tells result
+            (first_reason (passing_faults self.old.open_blocks last))
+            (λ _. self.new ≡ record self.old { begun = self.old.begun || has_tokens line.now }) }
+    {
+        if last && !self.open_blocks.is_empty() {
+            return Err(Fault::Against(Reason::BadBlock));
+        }
+        self.begun = self.begun || has_tokens(line);
+        Ok(())
+    }
+
+    /// The tokens of a line whose bytes may stand as they do.
+    fn tokens_of(&self, alloc: Global, line: &[u8]) -> Result<Tokens, Fault>
+        ensures { Tells result
+            (first_reason (byte_faults self.now.begun line.now))
+            (λ found. tokens line.now ≡ Some found) }
+    {
+        judge_bytes(alloc, self.begun, line)
+    }
+
+    /// Whether the line belongs to programs: it has tokens, and isn't the first that has.
+    fn is_said(&self, line: &[u8]) -> bool
+        ensures { result ≡ (self.now.begun && has_tokens line.now) }
+    {
+        self.begun && has_tokens(line)
+    }
+
+    /// Reads a line, of which is told whether it is the last. Where it is refused, the context is of no more use.
+    pub(crate) fn read(&mut self, alloc: Global, line: &[u8], last: bool) -> Result<(), Fault>
+        requires { passes_limit self.old ≡ false }
+        ensures { Tells result
+            (first_reason (faults is_built_so_far self.old last line.now))
+            (λ _. (self.new ≡ after self.old line.now) × (passes_limit self.new ≡ false)) }
+    {
+        let found = self.tokens_of(alloc, line)?;
+        if self.is_said(line) {
+            return self.read_said(alloc, found.as_slice(), last);
+        }
+        self.pass_over(line, last)
+    }
+
+    /// The programs that are whole.
+    pub(crate) fn into_whole(self) -> Script
+        ensures { result ≡ self.whole }
+    {
+        let Context {
+            begun: _,
+            whole,
+            current,
+            place_count: _,
+            open_blocks,
+        } = self;
+        drop(current);
+        drop(open_blocks);
+        whole
     }
 }

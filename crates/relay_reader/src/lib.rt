@@ -7,5 +7,9 @@ mod built;
 mod context;
 mod cut;
 mod fault;
+mod judging;
+mod linking;
+mod reading;
 
 pub use built::is_built_so_far;
+pub use reading::{MOST_BYTES, read_script};
