@@ -273,15 +273,6 @@ impl Context {
     pub(crate) fn into_whole(self) -> Script
         ensures { result ≡ self.whole }
     {
-        let Context {
-            begun: _,
-            whole,
-            current,
-            place_count: _,
-            open_blocks,
-        } = self;
-        drop(current);
-        drop(open_blocks);
-        whole
+        self.whole
     }
 }
