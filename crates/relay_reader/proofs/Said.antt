@@ -13,9 +13,9 @@ use Rattle.dill_script.specs.Refusals.{faults, first_reason, is_some_with, is_un
 use Rattle.dill_script.specs.Statements.{Line, Opens, Ends, Says, line_of}
 use Rattle.dill_script.specs.Tokens.{Token, tokens}
 use Rattle.relay_reader.specs.declared.fault.Fault.{Fault}
-use Rattle.relay_reader.specs.Parts.{byte_faults, word_faults, spelling_faults, limit_faults, heading_faults, passing_faults}
+use Rattle.relay_reader.specs.Parts.{byte_faults, word_faults, spelling_faults, heading_faults, passing_faults}
 use Rattle.relay_reader.specs.Telling.{Tells}
-use Rattle.relay_reader.proofs.Reasons.{tells_later, faults_later}
+use Rattle.relay_reader.proofs.Reasons.{tells_later}
 
 -- the reasons that depend on the head of a line that belongs to programs
 abbrev pub said_faults : (Word → Bool) → Context → Bool → Option Heading → List (Bool × Reason)

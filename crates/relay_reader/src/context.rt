@@ -88,6 +88,7 @@ impl Context {
         }
     }
 
+    /// Adds a statement to the open program.
     fn say(&mut self, statement: Statement) -> Result<(), NoMemory>
         requires { places self.old.current.statements ≤ 4096 }
         ensures { OnOk result (self.new ≡ saying self.old statement) }
@@ -102,6 +103,7 @@ impl Context {
         }
     }
 
+    /// The open program is whole.
     fn end_program(&mut self, alloc: Global) -> Result<(), NoMemory>
         ensures { OnOk result (self.new ≡ ended self.old) }
     {
@@ -111,6 +113,7 @@ impl Context {
         self.whole.push(program)
     }
 
+    /// Takes on an `end`, of the innermost block.
     fn end(&mut self, alloc: Global) -> Result<(), NoMemory>
         requires { places self.old.current.statements ≤ 4096 }
         ensures { OnOk result (self.new ≡ ending self.old self.old.open_blocks) }
@@ -123,6 +126,7 @@ impl Context {
         }
     }
 
+    /// Takes on what a line spells, but for its block.
     fn add(&mut self, alloc: Global, line: Line) -> Result<(), NoMemory>
         requires { places self.old.current.statements ≤ 4096 }
         ensures { OnOk result (self.new ≡ adding self.old (Some (line_in line))) }
@@ -138,6 +142,7 @@ impl Context {
         }
     }
 
+    /// Whether a limit on programs, places, loops or blocks is passed.
     fn is_too_large(&self) -> bool
         ensures { result ≡ passes_limit self.now }
     {

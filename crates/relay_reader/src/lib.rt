@@ -10,6 +10,8 @@ mod fault;
 mod judging;
 mod linking;
 mod reading;
+#[cfg(test)]
+mod tests;
 
 pub use built::is_built_so_far;
 pub use reading::{MOST_BYTES, read_script};
