@@ -2,10 +2,22 @@
 //! What may stand where, and the order of refusals, stands above it.
 #![tactic(auto)]
 
+mod address;
 mod bytes;
+mod cond;
 mod cutting;
+mod dest;
 mod heading;
+mod keyword;
 mod line;
+mod names;
+mod number;
+mod operand;
+mod operands;
+mod statement;
+mod table;
+mod targets;
+mod text;
 mod token;
 
 pub use bytes::{has_tokens, is_line};

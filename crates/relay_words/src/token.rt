@@ -1,6 +1,7 @@
 ghost use Rattle.std.specs.Prelude.{◌≡◌, ◌++◌, ◌∷◌, [], OnOk, OnErr, option_map};
-ghost use Rattle.dill_script.specs.Tokens.{is_word};
+ghost use Rattle.dill_script.specs.Tokens.{Plain, Text, is_word};
 ghost use Rattle.dill_script.specs.Operands.{word_in};
+ghost use Rattle.relay_words.specs.Texts.{text_in};
 
 use dill_base::{NoMemory, Octets};
 use std::alloc::Global;
@@ -29,6 +30,24 @@ impl Model for Token {
 }
 
 impl Token {
+    /// A word as it stands.
+    pub(crate) fn from_word(word: Octets) -> Token
+        ensures { result ≡ Plain word }
+    {
+        Token {
+            spelled: Spelled::Plain(word),
+        }
+    }
+
+    /// A text by the bytes that it means.
+    pub(crate) fn from_text(bytes: Octets) -> Token
+        ensures { result ≡ Text bytes }
+    {
+        Token {
+            spelled: Spelled::Text(bytes),
+        }
+    }
+
     /// The bytes of a word; none of a text.
     pub fn word(&self) -> Option<&[u8]>
         ensures { option_map (λ x. x.now) result ≡ word_in self.now }
@@ -36,6 +55,16 @@ impl Token {
         match &self.spelled {
             Spelled::Plain(word) => Some(word.as_slice()),
             Spelled::Text(_) => None,
+        }
+    }
+
+    /// The bytes that a text means; none of a word.
+    pub fn text(&self) -> Option<&[u8]>
+        ensures { option_map (λ x. x.now) result ≡ text_in self.now }
+    {
+        match &self.spelled {
+            Spelled::Plain(_) => None,
+            Spelled::Text(bytes) => Some(bytes.as_slice()),
         }
     }
 
