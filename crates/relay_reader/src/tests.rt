@@ -84,7 +84,7 @@ fn scripts_are_read_program_by_program(rt: HostRuntime) {
 
 #[test]
 fn the_first_reason_against_the_first_faulty_line_is_told(rt: HostRuntime) {
-    let cases: [(&[u8], u32, Reason); 14] = [
+    let cases: [(&[u8], u32, Reason); 22] = [
         (b"", 1, Reason::NoVersion),
         (b"# a\n# b\n", 1, Reason::NoVersion),
         (b"dill 2 \"a\n", 1, Reason::NoVersion),
@@ -102,6 +102,34 @@ fn the_first_reason_against_the_first_faulty_line_is_told(rt: HostRuntime) {
             Reason::UnknownWord,
         ),
         (b"dill 1\ntcp_done\n", 2, Reason::NotBuilt),
+        (
+            b"dill 1\nprogram server 1\nloop 2\nn1 = tcp_accept n0 -1\nhclose n1\nend\nend\nprogram main 0\nn0 = tcp_listen 127.0.0.1:7000 16\nend\n",
+            4,
+            Reason::NotBuilt,
+        ),
+        (b"dill 1\nprogram main 0\nnow 5", 3, Reason::BadBlock),
+        (b"dill 1\nprogram main 0\nend 5", 3, Reason::BadOperand),
+        (b"dill 1\nprogram main 0\nfoo", 3, Reason::UnknownWord),
+        (
+            b"dill 1\nprogram main 0\ntry set n0 1\nend\n",
+            3,
+            Reason::BadOperand,
+        ),
+        (
+            b"dill 1\nprogram main 0\nnow\ngo x\nend\n",
+            4,
+            Reason::NoProgram,
+        ),
+        (
+            b"dill 1\nprogram main 0\ngo s 1\nbundle_go 1 s\nend\nprogram s 1\nend\n",
+            4,
+            Reason::NoProgram,
+        ),
+        (
+            b"dill 1\nprogram main 0\nn0 = go main 1\nend\n",
+            3,
+            Reason::NoProgram,
+        ),
         (
             b"dill 1\nprogram main 0\nend 5\nend\n",
             3,
