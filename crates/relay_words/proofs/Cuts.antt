@@ -1,5 +1,5 @@
 -- Tokens are cut off the front of a line one by one.
-use Rattle.std.proofs.Common.{◌≡◌, ◌∙◌, ℕ, ◌+◌, ◌<◌, List, [], ◌∷◌, ◌++◌, length, take, drop, cond, Bool, true, false, not, ◌&&◌, Option, Some, None, nat_eq, refl, ap, sym, append_assoc, arith, length-drop}
+use Rattle.std.proofs.Common.{◌≡◌, ◌∙◌, ℕ, List, [], ◌∷◌, ◌++◌, take, drop, Bool, true, false, not, Option, Some, None, refl, ap, sym, append_assoc}
 use Rattle.std.proofs.Math.Numerals.{one-add}
 use Rattle.std.specs.List.{prefix_len}
 use Rattle.dill_script.specs.Lines.{is_blank}

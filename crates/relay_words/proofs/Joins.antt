@@ -1,5 +1,5 @@
 -- Operands are read one behind the other.
-use Rattle.std.proofs.Common.{◌≡◌, ◌∙◌, ℕ, zero, suc, ◌<◌, List, [], ◌∷◌, ◌++◌, length, drop, Option, Some, None, refl, ap, sym, append_assoc, arith}
+use Rattle.std.proofs.Common.{◌≡◌, ℕ, zero, suc, ◌<◌, List, [], ◌∷◌, ◌++◌, length, drop, Option, Some, None, refl, ap, append_assoc, arith}
 use Rattle.dill_script.specs.declared.form.Kind.{Kind}
 use Rattle.dill_script.specs.declared.form.Operand.{Operand}
 use Rattle.dill_script.specs.declared.form.Rest.{Rest}

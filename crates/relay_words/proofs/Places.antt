@@ -1,7 +1,7 @@
 -- What a byte does at each place of a line.
-use Rattle.std.proofs.Common.{◌≡◌, ℕ, List, [], ◌∷◌, Bool, refl, true, false, ◌||◌, nat_eq, Some, None}
+use Rattle.std.proofs.Common.{◌≡◌, ℕ, List, [], ◌∷◌, Bool, refl, true, false, nat_eq, Some}
 use Rattle.dill_script.specs.Lines.{is_blank}
-use Rattle.dill_script.specs.Tokens.{Plain, Text, is_hex, hex_value, escaped, put, before, tokens_from, Between, InWord, InText, InEscape, InHex, InHexOf, BehindText}
+use Rattle.dill_script.specs.Tokens.{Plain, put, before, tokens_from, Between, InWord, InText}
 
 module _ (byte : ℕ) (bytes : List ℕ) where
   pub between_blank : is_blank byte ≡ true → tokens_from Between (byte ∷ bytes) ≡ tokens_from Between bytes

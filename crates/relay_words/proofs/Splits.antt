@@ -1,13 +1,12 @@
 -- The parts between separators, and the numbers among them.
-use Rattle.std.proofs.Common.{◌≡◌, ◌∙◌, ℕ, suc, ◌+◌, ◌-◌, ◌<◌, ◌≤◌, List, [], ◌∷◌, length, take, drop, map, inl, inr, ◌⊎◌, nat_lt, Bool, true, false, not, ◌&&◌, Option, Some, None, nat_eq, nat_le, refl, ap, sym, subst, arith, add-one}
+use Rattle.std.proofs.Common.{◌≡◌, ◌∙◌, ℕ, suc, ◌+◌, ◌<◌, List, [], ◌∷◌, length, take, drop, map, inl, inr, ◌⊎◌, nat_lt, Bool, true, false, not, ◌&&◌, Option, Some, None, nat_eq, refl, ap, sym, subst, arith, add-one}
 use Rattle.std.proofs.lemmas.Bool.{eqb-true, and_parts}
 use Rattle.std.proofs.lemmas.Bool.Decides.{nat_tests}
 use Rattle.std.proofs.lemmas.List.Sums.{prefix_len-le-length}
 use Rattle.std.proofs.Math.Numerals.{one-add}
 use Rattle.std.specs.List.{prefix_len, list_all}
-use Rattle.dill_base.specs.declared.status.Address.{Address}
 use Rattle.dill_script.specs.Lines.{longer}
-use Rattle.dill_script.specs.Numbers.{only_if, is_digit, is_decimal, value_of, number_up_to, parts, joined, each, address_with, address_in, address_of}
+use Rattle.dill_script.specs.Numbers.{is_digit, is_decimal, number_up_to, parts, joined, each, address_with, address_in, address_of}
 use Rattle.relay_words.specs.Addresses.{ip_in}
 
 module _ (separator : ℕ) where

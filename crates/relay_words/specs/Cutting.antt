@@ -1,5 +1,5 @@
 -- How the tokens of a line are cut off its front, one after the other.
-use Rattle.std.specs.Prelude.{◌≡◌, ℕ, ◌<◌, ◌≤◌, List, [], ◌∷◌, ◌++◌, length, drop, Bool, true, false, not, ◌&&◌, ◌==◌, Option, Some, None, option_map}
+use Rattle.std.specs.Prelude.{◌≡◌, ℕ, ◌<◌, ◌≤◌, List, [], ◌∷◌, length, drop, Bool, true, false, not, ◌&&◌, ◌==◌, Option, Some, None}
 use Rattle.dill_script.specs.Lines.{is_blank, has_tokens}
 use Rattle.dill_script.specs.Tokens.{Token, Text, put, before, tokens_from, Place, Between, InText, BehindText}
 use Rattle.relay_words.specs.declared.text.Piece.{Piece}

@@ -17,6 +17,8 @@ mod operands;
 mod statement;
 mod table;
 mod targets;
+#[cfg(test)]
+mod tests;
 mod text;
 mod token;
 

@@ -1,5 +1,5 @@
 ghost use Rattle.std.specs.Prelude.{◌≡◌, IfOk};
-ghost use Rattle.dill_script.specs.Statements.{set_at, with_two, fail_of, loop_of, call_of_line};
+ghost use Rattle.dill_script.specs.Statements.{set_at, fail_of, loop_of, call_of_line};
 ghost use Rattle.relay_words.specs.Pairs.{add_of, sub_of, len_of, set_of, join_of};
 
 use crate::Token;
