@@ -1,5 +1,4 @@
 ghost use Rattle.std.specs.Prelude.{◌≡◌, ◌≤◌, length, true, IfOk};
-ghost use Rattle.dill_calls.specs.Plain.{MakesPlain};
 ghost use Rattle.dill_calls.specs.Program.{Program, IsLawful, Turns};
 
 use crate::{Answer, Call, Word};
@@ -46,10 +45,4 @@ pub trait Body: Sized + Drop {
         ensures { result ≡ means.most self.now };
 
     ghost lawful: { IsLawful means };
-}
-
-/// A program whose calls are those of printing, time, coroutines and handles of its own: it makes no call of a channel,
-/// a link or a layer.
-pub trait PlainBody: Body {
-    ghost plain: { MakesPlain Self.means };
 }
