@@ -1,0 +1,4 @@
+pub mod Modes
+pub mod Seen
+pub mod Stacks
+pub mod Steps

@@ -1,0 +1,10 @@
+//! The programs of scripts as bodies that the machine polls.
+//! What their statements mean stands below it, and what their calls do above it.
+#![tactic(auto)]
+
+mod held;
+mod mode;
+mod rounds;
+mod run;
+mod texts;
+mod values;
