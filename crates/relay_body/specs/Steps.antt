@@ -1,11 +1,12 @@
 -- How a coroutine goes on: a mode and a view.
 use Rattle.std.specs.Prelude.{◌≡◌, ◌<◌, length, Option, Some, None}
+use Rattle.dill_calls.specs.declared.answer.Answer.{Answer}
 use Rattle.dill_script.specs.declared.operand.Num.{Num}
 use Rattle.dill_script.specs.declared.statement.Statement.{Statement}
 use Rattle.dill_script.specs.declared.statement.Statement.TheVariants as statements
 use Rattle.dill_meaning.specs.Views.{ScriptView, pending}
 use Rattle.dill_meaning.specs.Walks as walks
-use Rattle.dill_meaning.specs.Walks.{run}
+use Rattle.dill_meaning.specs.Walks.{run, given}
 use Rattle.relay_body.specs.declared.held.Held.{Held}
 use Rattle.relay_body.specs.declared.mode.Mode.{Mode}
 use Rattle.relay_body.specs.Modes.{meant, depth_of}
@@ -27,3 +28,7 @@ ran view (Some statement) = run view statement
 -- where the last statement begins a loop, there is a slot for it
 abbrev pub HasSlot : Held → Type 0
 HasSlot held = (rounds : Option Num) → pending (seen held) ≡ Some (statements.Loop rounds) → length held.rounds.open_loops < held.rounds.slots
+
+-- how it goes on from the statement whose call was answered
+abbrev pub answered : ScriptView → Answer → walks.Mode × ScriptView
+answered view answer = given view answer (pending view)
