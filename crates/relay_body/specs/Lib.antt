@@ -1,3 +1,4 @@
+pub mod Building
 pub mod Modes
 pub mod Seen
 pub mod Stacks

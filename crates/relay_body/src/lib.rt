@@ -2,6 +2,7 @@
 //! What their statements mean stands below it, and what their calls do above it.
 #![tactic(auto)]
 
+mod calls;
 mod given;
 mod held;
 mod mode;
