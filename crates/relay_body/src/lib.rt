@@ -9,4 +9,5 @@ mod mode;
 mod rounds;
 mod run;
 mod texts;
+mod turn;
 mod values;
