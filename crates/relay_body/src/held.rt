@@ -1,10 +1,12 @@
-ghost use Rattle.std.specs.Prelude.{◌≡◌, Some, None, MatchOption};
-ghost use Rattle.dill_meaning.specs.Views.{statements_of, pending, number_in, bytes_in, with_number, with_bytes};
-ghost use Rattle.relay_body.specs.Seen.{seen, Becomes};
+ghost use Rattle.std.specs.Prelude.{◌≡◌, ◌≤◌, ◌-◌, ◌++◌, length, replicate, slice_get, Some, None, MatchOption, IfOk};
+ghost use Rattle.std.specs.Rc.{rc_value};
+ghost use Rattle.dill_meaning.specs.Views.{statements_in, statements_of, pending, number_in, bytes_in, with_number, with_bytes};
+ghost use Rattle.relay_body.specs.Running.{is_loop_line, loops_in};
+ghost use Rattle.relay_body.specs.Seen.{seen, Becomes, Begun};
 
 use crate::rounds::Rounds;
 use crate::texts::Texts;
-use dill_base::{Errno, Octets};
+use dill_base::{Errno, NoMemory, Octets};
 use dill_script::{Script, Statement};
 use std::alloc::Global;
 use std::rc::Rc;
@@ -25,15 +27,78 @@ pub(crate) struct Held {
     pub outcome: Option<Errno>,
 }
 
+/// The statements of a program that may not be there.
+fn statements_in(script: &Script, program: u32) -> &[Statement]
+    ensures { result.now ≡ statements_in (slice_get script.now program) }
+{
+    match script.as_slice().get(program as usize) {
+        Some(program) => program.statements.as_slice(),
+        None => &[],
+    }
+}
+
+/// Whether it is the line that begins a loop.
+fn is_loop_line(statement: &Statement) -> bool
+    ensures { result ≡ is_loop_line statement.now }
+{
+    matches!(statement, Statement::Loop(_))
+}
+
+/// How many loops are written.
+fn loops_in(list: &[Statement]) -> usize
+    ensures { result ≡ loops_in list.now }
+{
+    let mut count = 0;
+    for statement in list {
+        if is_loop_line(statement) {
+            count += 1;
+        }
+    }
+    count
+}
+
+/// The arguments in the first registers, and 0 in the others.
+fn registers_of(args: &[u64]) -> [u64; 16]
+    requires { length args.now ≤ 16 }
+    ensures { result ≡ args.now ++ replicate (16 - length args.now) 0 }
+{
+    let mut numbers = [0; 16];
+    numbers[..args.len()].copy_from_slice(args);
+    numbers
+}
+
 impl Held {
+    /// A coroutine of this program before its first turn.
+    pub(crate) fn new(
+        alloc: Global,
+        script: Rc<Script>,
+        program: u32,
+        args: &[u64],
+    ) -> Result<Held, NoMemory>
+        requires { length args.now ≤ 16 }
+        ensures { IfOk result (λ held. Begun held (rc_value script) program args.now) }
+    {
+        let loops = loops_in(statements_in(&script, program));
+        let texts = Texts::new(alloc)?;
+        let rounds = Rounds::new(alloc, loops)?;
+        Ok(Held {
+            alloc,
+            script,
+            program,
+            passed: 0,
+            numbers: registers_of(args),
+            texts,
+            err: None,
+            rounds,
+            outcome: None,
+        })
+    }
+
     /// The statements of its program.
     pub(crate) fn statements(&self) -> &[Statement]
         ensures { result.now ≡ statements_of (seen self.now) }
     {
-        match self.script.as_slice().get(self.program as usize) {
-            Some(program) => program.statements.as_slice(),
-            None => &[],
-        }
+        statements_in(&self.script, self.program)
     }
 
     /// The last of the statements that are behind it.
