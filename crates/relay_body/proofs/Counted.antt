@@ -1,12 +1,10 @@
 -- No more loops are open than are written.
-use Rattle.std.proofs.Common.{◌≡◌, ◌≤◌, ◌+◌, ℕ, zero, suc, pred, List, [], ◌∷◌, length, take, drop, slice_get, cond, Bool, true, false, ◌&&◌, nat_le, Option, Some, None, refl, arith}
-use Rattle.std.proofs.Math.Nat.{le_trans}
+use Rattle.std.proofs.Common.{◌≡◌, ◌≤◌, ◌+◌, ℕ, zero, suc, pred, List, [], ◌∷◌, length, take, drop, cond, Bool, true, false, ◌&&◌, nat_le, arith}
 use Rattle.std.proofs.lemmas.List.Sums.{sum_by-cons, sum_by-take-drop}
 use Rattle.dill_script.specs.declared.statement.Statement.{Statement}
-use Rattle.dill_script.specs.declared.statement.Statement.TheVariants as statements
 use Rattle.dill_meaning.specs.Views.{Round, last_of}
 use Rattle.relay_body.specs.Running.{is_loop_line, loops_in, begins_loop, are_open}
-use Rattle.relay_body.proofs.Bools.{and_left, and_right, le_of}
+use Rattle.relay_body.specs.Bools.{and_left, and_right, le_of}
 
 -- one loop more up to a place where one begins
 counts_one : (list : List Statement) (first q : ℕ) → begins_loop (last_of list first) ≡ true → first ≤ q → suc (loops_in (take (pred first) list)) ≤ loops_in (take q list)

@@ -1,9 +1,8 @@
 -- What `join` makes once its bytes are copied.
-use Rattle.std.proofs.Common.{◌≡◌, ◌++◌, ◌⊎◌, inl, inr, ℕ, List, Bool, true, Option, Some, None, Result, Ok, Err, IfOk, refl, sym, ap, ◌∙◌, subst}
+use Rattle.std.proofs.Common.{◌≡◌, ◌++◌, inl, inr, ℕ, List, Bool, Some, None, Result, Ok, Err, IfOk, refl, sym, ap, ◌∙◌, subst}
 use Rattle.dill_base.specs.declared.errno.NoMemory.{NoMemory}
 use Rattle.dill_calls.specs.declared.body.Next.{Next}
 use Rattle.dill_calls.specs.declared.body.Next.TheVariants as nexts
-use Rattle.dill_calls.specs.declared.call.Call.{Call}
 use Rattle.dill_calls.specs.declared.call.Call.TheVariants.{Pass}
 use Rattle.dill_calls.specs.declared.word.Word.TheVariants.{Join}
 use Rattle.dill_calls.specs.Program.{Calls, moved_word}

@@ -1,16 +1,10 @@
-pub mod Answered
-pub mod Bools
 pub mod Built
 pub mod Counted
 pub mod Joining
-pub mod Lawful
+pub mod Known
 pub mod Making
-pub mod Opened
-pub mod Plainly
-pub mod Runnable
 pub mod Stacking
 pub mod Stepping
 pub mod Telling
 pub mod Turning
 pub mod Turned
-pub mod Walked

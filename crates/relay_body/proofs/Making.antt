@@ -1,21 +1,20 @@
 -- The call of a statement that was passed last.
-use Rattle.std.proofs.Common.{◌≡◌, Bool, true, Option, Some, None, is_some, refl, sym, ap, ◌∙◌, subst}
+use Rattle.std.proofs.Common.{◌≡◌, Bool, true, Option, Some, is_some, sym, ap, ◌∙◌}
 use Rattle.dill_calls.specs.declared.call.Call.{Call}
 use Rattle.dill_calls.specs.Program.{Calls}
 use Rattle.dill_script.specs.declared.form.Form.{Form}
 use Rattle.dill_script.specs.declared.operand.Dest.{Dest}
-use Rattle.dill_script.specs.declared.statement.Statement.{Statement}
 use Rattle.dill_script.specs.declared.statement.Statement.TheVariants as statements
 use Rattle.dill_script.specs.Fitting.{is_form, may_hold, is_formed}
 use Rattle.dill_meaning.specs.Meaning.{moved}
 use Rattle.dill_meaning.specs.Views.{ScriptView, pending}
 use Rattle.dill_meaning.specs.Walks.{call_at}
-use Rattle.relay_body.specs.Building.{is_plain_word, plain_call}
+use Rattle.relay_body.specs.Building.{plain_call}
 use Rattle.relay_body.specs.Running.{says_plain, is_running}
 use Rattle.relay_body.specs.Stopping.{with_call, made_by}
-use Rattle.relay_body.proofs.Bools.{and_left}
+use Rattle.relay_body.specs.Bools.{and_left}
 use Rattle.relay_body.proofs.Built.{form_built}
-use Rattle.relay_body.proofs.Runnable.{Runnable, runs, pending_says}
+use Rattle.relay_body.specs.Runnable.{Runnable, runs, pending_says}
 
 -- a call that is written makes the call of its operands in their places
 pub form_called : (view : ScriptView) (tried : Bool) (dest : Option Dest) (form : Form) → is_running view ≡ true → pending view ≡ Some (statements.Call tried dest form) → call_at view (statements.Call tried dest form) ≡ Some (plain_call view form.word form.operands)

@@ -1,18 +1,18 @@
 -- One step of a walk: a statement is passed, and is the stop or is behind.
-use Rattle.std.proofs.Common.{◌≡◌, ◌≤◌, ◌<◌, ◌-◌, ℕ, zero, suc, List, [], ◌∷◌, length, drop, slice_get, ◌&&◌, Bool, true, false, Option, Some, None, is_some, refl, sym, ap, ◌∙◌, subst, arith}
+use Rattle.std.proofs.Common.{◌≡◌, ◌≤◌, ◌<◌, ℕ, zero, suc, List, [], ◌∷◌, length, drop, slice_get, Bool, true, false, Option, Some, None, is_some, refl, sym, ap, ◌∙◌, subst, arith}
 use Rattle.dill_calls.specs.declared.call.Call.{Call}
 use Rattle.dill_script.specs.declared.operand.Num.{Num}
 use Rattle.dill_script.specs.declared.statement.Statement.{Statement}
 use Rattle.dill_script.specs.declared.statement.Statement.TheVariants as statements
-use Rattle.dill_meaning.specs.Views.{ScriptView, Round, statements_of, ahead, pending}
-use Rattle.dill_meaning.specs.Walks.{Mode, Runs, Stop, walk, stopped, behind, call_in, call_at, passing}
+use Rattle.dill_meaning.specs.Views.{ScriptView, statements_of, ahead, pending}
+use Rattle.dill_meaning.specs.Walks.{Mode, Runs, Stop, walk, stopped, behind, call_in, passing}
 use Rattle.dill_meaning.proofs.Walking.{Keeps, behind_keeps, statements_kept, ahead_kept}
 use Rattle.relay_body.specs.Running.{loops_in, are_open, has_open, is_runnable, is_running}
 use Rattle.relay_body.specs.Stopping.{behind_at, with_call, made_by, made_at, made_in}
-use Rattle.relay_body.proofs.Bools.{and_left, and_right, and_both}
+use Rattle.relay_body.specs.Bools.{and_right}
 use Rattle.relay_body.proofs.Counted.{open_fit}
-use Rattle.relay_body.proofs.Lawful.{running_on}
-use Rattle.relay_body.proofs.Opened.{behind_open, open_entered, next_open}
+use Rattle.relay_body.specs.Lawful.{running_on}
+use Rattle.relay_body.specs.Opened.{behind_open, open_entered, next_open}
 
 -- there is one at a place before the end
 pub found_at : {X : Type 0} (xs : List X) (n : ℕ) → n < length xs → (x : X) × (slice_get xs n ≡ Some x)

@@ -1,5 +1,5 @@
 -- The arguments of one more operand.
-use Rattle.std.proofs.Common.{◌≡◌, ◌<◌, ◌+◌, ℕ, zero, suc, List, [], ◌∷◌, ◌++◌, length, take, get_or, filter_map, option_to_list, Option, Some, None, refl, sym, ap, ◌∙◌, arith, add-one}
+use Rattle.std.proofs.Common.{◌≡◌, ◌<◌, ◌+◌, ℕ, zero, suc, List, [], ◌∷◌, ◌++◌, length, take, get_or, filter_map, option_to_list, Option, Some, None, refl, ap, ◌∙◌, arith, add-one}
 use Rattle.std.specs.List.{cons_option}
 use Rattle.dill_calls.specs.declared.lists.Arg.{Arg}
 use Rattle.dill_script.specs.declared.form.Operand.{Operand}

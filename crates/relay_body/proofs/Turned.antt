@@ -5,26 +5,24 @@ use Rattle.dill_calls.specs.declared.answer.Answer.{Answer}
 use Rattle.dill_calls.specs.declared.body.Next.{Next}
 use Rattle.dill_calls.specs.declared.body.Next.TheVariants as nexts
 use Rattle.dill_calls.specs.declared.call.Call.{Call}
-use Rattle.dill_calls.specs.Program.{Move, Calls, Turns, moved_word}
+use Rattle.dill_calls.specs.Program.{Turns, moved_word}
 use Rattle.dill_script.specs.declared.statement.Statement.{Statement}
 use Rattle.dill_script.specs.declared.statement.Statement.TheVariants as statements
 use Rattle.dill_meaning.specs.Meaning.{moved, kept, appended}
 use Rattle.dill_meaning.specs.Values.{bytes_value}
 use Rattle.dill_meaning.specs.Views.{ScriptView, statements_of, ahead, pending}
-use Rattle.dill_meaning.specs.Walks as walks
 use Rattle.dill_meaning.specs.Walks.{Stop, walk, given, stop_of, join_fault}
 use Rattle.dill_meaning.proofs.Given.{GoesFrom, given_goes}
 use Rattle.dill_meaning.proofs.Walking.{statements_kept}
 use Rattle.relay_body.specs.declared.held.Held.{Held}
 use Rattle.relay_body.specs.declared.mode.Mode.{Mode}
-use Rattle.relay_body.specs.Modes.{meant}
 use Rattle.relay_body.specs.Running.{loops_in, has_open, is_runnable, is_running, running}
 use Rattle.relay_body.specs.Seen.{seen}
 use Rattle.relay_body.specs.Steps.{Goes, answered}
 use Rattle.relay_body.specs.Stopping.{Sound, made_at, WalksTo, MakesOne}
-use Rattle.relay_body.proofs.Answered.{given_opens}
-use Rattle.relay_body.proofs.Bools.{and_right}
-use Rattle.relay_body.proofs.Lawful.{running_on, kept_running}
+use Rattle.relay_body.specs.Answered.{given_opens}
+use Rattle.relay_body.specs.Bools.{and_right}
+use Rattle.relay_body.specs.Lawful.{running_on, kept_running}
 
 -- a view of the same program
 record Same (old new : ScriptView) : Type 0 where

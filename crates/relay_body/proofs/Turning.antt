@@ -1,19 +1,14 @@
 -- What is held stays sound over each statement.
-use Rattle.std.proofs.Common.{◌≡◌, ◌≤◌, ◌<◌, ◌-◌, ℕ, suc, length, Bool, true, false, Option, Some, None, is_some, refl, sym, ap, ◌∙◌, subst, arith}
-use Rattle.dill_script.specs.declared.operand.Num.{Num}
-use Rattle.dill_script.specs.declared.statement.Statement.{Statement}
-use Rattle.dill_script.specs.declared.statement.Statement.TheVariants as statements
-use Rattle.dill_meaning.specs.Views.{ScriptView, statements_of, ahead, pending}
+use Rattle.std.proofs.Common.{◌≡◌, ◌≤◌, ℕ, suc, refl, ap, ◌∙◌, arith}
+use Rattle.dill_meaning.specs.Views.{statements_of, pending}
 use Rattle.dill_meaning.specs.Walks as walks
 use Rattle.dill_meaning.specs.Walks.{passing, walk}
 use Rattle.relay_body.specs.declared.held.Held.{Held}
-use Rattle.relay_body.specs.declared.mode.Mode.{Mode}
-use Rattle.relay_body.specs.Modes.{meant, depth_of}
-use Rattle.relay_body.specs.Running.{loops_in, is_running}
+use Rattle.relay_body.specs.Running.{loops_in}
 use Rattle.relay_body.specs.Seen.{seen}
 use Rattle.relay_body.specs.Steps.{HasSlot}
-use Rattle.relay_body.specs.Stopping.{Sound, PassedOne, behind_at, made_at, made_in}
-use Rattle.relay_body.proofs.Stepping.{Behind, passed_running, behind_running, slot_there, walk_goes_on}
+use Rattle.relay_body.specs.Stopping.{Sound, PassedOne, behind_at}
+use Rattle.relay_body.proofs.Stepping.{Behind, passed_running, behind_running, slot_there}
 
 slots_stay : (a b c d : ℕ) → a ≡ b → b ≤ c → d ≡ c → a ≤ d
 slots_stay a b c d e h f = omega arith

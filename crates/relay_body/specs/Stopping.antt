@@ -1,5 +1,5 @@
 -- Where a coroutine stops, and what it makes there.
-use Rattle.std.specs.Prelude.{◌≡◌, ℕ, ◌<◌, ◌≤◌, ◌⊎◌, ◌++◌, List, length, slice_get, Bool, true, false, Option, Some, None, Result, Ok, Err}
+use Rattle.std.specs.Prelude.{◌≡◌, ℕ, ◌<◌, ◌≤◌, ◌⊎◌, ◌++◌, List, length, Bool, true, false, Option, Some, None, Result, Ok, Err}
 use Rattle.dill_base.specs.declared.errno.NoMemory.{NoMemory}
 use Rattle.dill_calls.specs.CallTable.{is_built}
 use Rattle.dill_calls.specs.declared.body.Next.{Next}
@@ -15,9 +15,9 @@ use Rattle.dill_meaning.specs.Walks as walks
 use Rattle.dill_meaning.specs.Walks.{Stop, behind, call_at, passing, walk}
 use Rattle.relay_body.specs.declared.held.Held.{Held}
 use Rattle.relay_body.specs.declared.mode.Mode.{Mode}
-use Rattle.relay_body.specs.Modes.{meant, depth_of}
+use Rattle.relay_body.specs.Modes.{meant}
 use Rattle.relay_body.specs.Running.{is_running, loops_in}
-use Rattle.relay_body.specs.Seen.{seen, Becomes}
+use Rattle.relay_body.specs.Seen.{seen}
 
 -- what is held between two statements: a view that is running, and a slot for each loop that is written
 pub record Sound (held : Held) : Type 0 where

@@ -15,7 +15,7 @@ use dill_script::{Form, Operand, Program};
 use itoa::Buffer;
 
 /// Where the program of this name stands, if there is one.
-fn place_of(programs: &[Program], name: &[u8]) -> Option<usize>
+pub(crate) fn place_of(programs: &[Program], name: &[u8]) -> Option<usize>
     ensures place { result ≡ position (has_name name.now) programs.now }
     ensures within { IfSome result (λ place. place < length programs.now) }
 {

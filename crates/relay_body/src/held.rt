@@ -1,6 +1,6 @@
 ghost use Rattle.std.specs.Prelude.{◌≡◌, ◌≤◌, ◌-◌, ◌++◌, length, replicate, slice_get, Some, None, MatchOption, IfOk};
 ghost use Rattle.std.specs.Rc.{rc_value};
-ghost use Rattle.dill_meaning.specs.Views.{statements_in, statements_of, pending, number_in, bytes_in, with_number, with_bytes};
+ghost use Rattle.dill_meaning.specs.Views.{statements_in, statements_of, ahead, pending, number_in, bytes_in, with_number, with_bytes};
 ghost use Rattle.relay_body.specs.Running.{is_loop_line, loops_in};
 ghost use Rattle.relay_body.specs.Seen.{seen, Becomes, Begun};
 
@@ -99,6 +99,17 @@ impl Held {
         ensures { result.now ≡ statements_of (seen self.now) }
     {
         statements_in(&self.script, self.program)
+    }
+
+    /// The statements that are ahead.
+    pub(crate) fn ahead(&self) -> &[Statement]
+        ensures { result.now ≡ ahead (seen self.now) }
+    {
+        let list = self.statements();
+        if self.passed < list.len() {
+            return &list[self.passed..];
+        }
+        &[]
     }
 
     /// The last of the statements that are behind it.

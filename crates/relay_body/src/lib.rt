@@ -2,6 +2,7 @@
 //! What their statements mean stands below it, and what their calls do above it.
 #![tactic(auto)]
 
+mod body;
 mod calls;
 mod given;
 mod held;
@@ -11,3 +12,5 @@ mod run;
 mod texts;
 mod turn;
 mod values;
+
+pub use body::ScriptBody;

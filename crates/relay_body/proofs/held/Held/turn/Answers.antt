@@ -1,5 +1,4 @@
-use Rattle.std.proofs.Common.{sym}
-use Rattle.relay_body.proofs.Turned.{sound_given, sound_made, turns_made, turns_ended}
+use Rattle.relay_body.proofs.Turned.{sound_given, sound_made, turns_made}
 use Rattle.relay_body.proofs.held.Held.turn.Goals as goal
 
 pub walk-requires-clause-sound : goal.walk-requires-clause-sound

@@ -1,5 +1,5 @@
 -- A walk stops in its program, at a statement that makes a call there, with its loops open.
-use Rattle.std.proofs.Common.{◌≡◌, ◌≤◌, ℕ, suc, List, [], ◌∷◌, drop, slice_get, Option, Some, None, true, refl, ◌∙◌, arith}
+use Rattle.std.proofs.Common.{◌≡◌, ◌≤◌, ℕ, suc, List, [], ◌∷◌, slice_get, Option, Some, None, true, refl, ◌∙◌, arith}
 use Rattle.dill_calls.specs.declared.call.Call.{Call}
 use Rattle.dill_script.specs.declared.statement.Statement.{Statement}
 use Rattle.dill_meaning.specs.Views.{ScriptView, statements_of, ahead, pending}
@@ -7,8 +7,8 @@ use Rattle.dill_meaning.specs.Walks.{Mode, Runs, Stop, walk, stopped, behind, ca
 use Rattle.dill_meaning.proofs.Lists.{drop_next, get_ahead}
 use Rattle.dill_meaning.proofs.Walking.{Keeps, behind_keeps, statements_kept, ahead_kept}
 use Rattle.relay_body.specs.Running.{are_open}
-use Rattle.relay_body.proofs.Answered.{Opens}
-use Rattle.relay_body.proofs.Opened.{behind_open, open_more}
+use Rattle.relay_body.specs.Answered.{Opens}
+use Rattle.relay_body.specs.Opened.{behind_open, open_more}
 
 -- a call of the statement that stands there
 abbrev pub MadeThere : ScriptView → Option (Statement × Call) → Type 0

@@ -1,32 +1,29 @@
 -- The programs of scripts that can be run keep the law of programs, and make plain calls only.
-use Rattle.std.proofs.Common.{◌≡◌, ◌≤◌, ◌+◌, ℕ, List, [], ◌∷◌, length, slice_get, ◌&&◌, Bool, true, Option, Some, None, refl, sym, ap, ◌∙◌, subst, nat_le}
-use Rattle.std.specs.List.{list_all}
+use Rattle.std.proofs.Common.{◌≡◌, ℕ, List, true, Option, Some, None, refl, sym, ◌∙◌, subst}
 use Rattle.dill_base.specs.declared.errno.Errno.{Errno}
 use Rattle.dill_calls.specs.CallTable.{word_of}
 use Rattle.dill_calls.specs.declared.answer.Answer.{Answer}
 use Rattle.dill_calls.specs.declared.call.Call.{Call}
-use Rattle.dill_calls.specs.declared.call.Call.TheVariants as calls
 use Rattle.dill_calls.specs.declared.word.Word.{Word}
-use Rattle.dill_plain.specs.Plain.{is_plain, MovesPlain, MakesPlain}
-use Rattle.dill_calls.specs.Program.{Move, Calls, Ends, GoesOn, Moves, Begins, IsLawful}
+use Rattle.dill_plain.specs.Plain.{MovesPlain, MakesPlain}
+use Rattle.dill_calls.specs.Program.{GoesOn, Moves, Begins, IsLawful}
 use Rattle.dill_script.specs.declared.script.Program.{Program}
 use Rattle.dill_script.specs.declared.statement.Statement.{Statement}
 use Rattle.dill_script.specs.declared.statement.Statement.TheVariants as statements
-use Rattle.dill_script.specs.Fitting.{is_formed, all_say}
-use Rattle.dill_script.specs.Spelling.{is_sized, takes_its}
-use Rattle.dill_meaning.specs.Meaning.{scripts, kept, appended, moved, next, short, is_real}
+use Rattle.dill_script.specs.Fitting.{all_say}
+use Rattle.dill_meaning.specs.Meaning.{scripts, kept, appended, moved, short, is_real}
 use Rattle.dill_meaning.specs.Values.{bytes_value}
 use Rattle.dill_meaning.specs.Views.{ScriptView, statements_of, ahead, pending}
 use Rattle.dill_meaning.specs.Walks.{stop_of, given, join_fault}
 use Rattle.dill_meaning.proofs.Given.{GoesFrom, given_goes}
 use Rattle.dill_meaning.proofs.Lawful.{scripts_lawful}
 use Rattle.dill_meaning.proofs.Walking.{statements_kept}
-use Rattle.relay_body.specs.Running.{says_plain, is_runnable, are_open, has_open, is_running, running}
-use Rattle.relay_body.proofs.Answered.{Opens, given_opens}
-use Rattle.relay_body.proofs.Bools.{and_left, and_right, and_both}
-use Rattle.relay_body.proofs.Plainly.{says_makes}
-use Rattle.relay_body.proofs.Runnable.{Runnable, runs, pending_says}
-use Rattle.relay_body.proofs.Walked.{Stops, MadeThere, walk_stops}
+use Rattle.relay_body.specs.Running.{says_plain, is_runnable, has_open, is_running, running}
+use Rattle.relay_body.specs.Answered.{Opens, given_opens}
+use Rattle.relay_body.specs.Bools.{and_left, and_right, and_both}
+use Rattle.relay_body.specs.Plainly.{says_makes}
+use Rattle.relay_body.specs.Runnable.{Runnable, runs, pending_says}
+use Rattle.relay_body.specs.Walked.{Stops, MadeThere, walk_stops}
 
 -- where a turn stops
 pub turn_stops : (view : ScriptView) (answer : Answer) → has_open view ≡ true → Stops (statements_of view) view (stop_of view answer)

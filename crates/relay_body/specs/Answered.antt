@@ -1,5 +1,5 @@
 -- The loops that are open stay so over an answer.
-use Rattle.std.proofs.Common.{◌≡◌, List, [], ◌∷◌, Bool, true, false, Option, Some, None, refl, subst}
+use Rattle.std.proofs.Common.{◌≡◌, List, [], ◌∷◌, Bool, true, false, Option, Some, None, refl}
 use Rattle.dill_base.specs.declared.errno.Errno.{Errno}
 use Rattle.dill_calls.specs.declared.answer.Answer.{Answer}
 use Rattle.dill_calls.specs.declared.answer.Answer.TheVariants as answers
@@ -11,7 +11,7 @@ use Rattle.dill_meaning.specs.Effects.{put, again, fault_in, one_less}
 use Rattle.dill_meaning.specs.Views.{ScriptView, Round}
 use Rattle.dill_meaning.specs.Walks.{given, settled, looped}
 use Rattle.relay_body.specs.Running.{are_open}
-use Rattle.relay_body.proofs.Opened.{open_again}
+use Rattle.relay_body.specs.Opened.{open_again}
 
 -- a view with open loops, by the statements of its program
 abbrev pub Opens : List Statement → ScriptView → Type 0

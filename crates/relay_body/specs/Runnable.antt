@@ -1,5 +1,5 @@
 -- What a script that can be run promises.
-use Rattle.std.proofs.Common.{◌≡◌, ◌≤◌, ℕ, zero, suc, List, length, slice_get, ◌&&◌, Bool, true, Option, Some, None, refl, nat_le}
+use Rattle.std.proofs.Common.{◌≡◌, ◌≤◌, ℕ, zero, suc, List, length, slice_get, ◌&&◌, Bool, true, Some, refl, nat_le}
 use Rattle.std.specs.List.{list_all}
 use Rattle.dill_script.specs.declared.script.Program.{Program}
 use Rattle.dill_script.specs.declared.statement.Statement.{Statement}
@@ -8,7 +8,7 @@ use Rattle.dill_script.specs.Spelling.{is_sized, takes_its}
 use Rattle.dill_meaning.specs.Views.{ScriptView, statements_of, pending, last_of}
 use Rattle.dill_meaning.proofs.Reached.{one_says}
 use Rattle.relay_body.specs.Running.{says_plain, is_runnable, has_open, is_running}
-use Rattle.relay_body.proofs.Bools.{and_left, and_right, le_of}
+use Rattle.relay_body.specs.Bools.{and_left, and_right, le_of}
 
 -- its parts
 pub record Runnable (script : List Program) : Type 0 where

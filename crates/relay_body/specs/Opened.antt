@@ -1,17 +1,14 @@
 -- The loops that are open stay so over each statement.
-use Rattle.std.proofs.Common.{◌≡◌, ◌≤◌, ◌<◌, ◌+◌, ◌-◌, ℕ, zero, suc, pred, List, [], ◌∷◌, length, take, slice_get, count_by, cond, Bool, true, false, ◌&&◌, nat_le, Option, Some, None, refl, sym, ap, ◌∙◌, subst, arith}
-use Rattle.std.proofs.Math.Nat.{le_trans}
-use Rattle.std.proofs.lemmas.List.Sums.{sum_by-cons}
-use Rattle.dill_base.specs.declared.errno.Errno.{Errno}
+use Rattle.std.proofs.Common.{◌≡◌, ◌≤◌, ℕ, zero, suc, pred, List, [], ◌∷◌, slice_get, cond, true, ◌&&◌, nat_le, Option, Some, None, refl, ap, arith}
 use Rattle.dill_script.specs.declared.operand.Num.{Num}
 use Rattle.dill_script.specs.declared.statement.Statement.{Statement}
 use Rattle.dill_script.specs.declared.statement.Statement.TheVariants as statements
-use Rattle.dill_meaning.specs.Effects.{outside, one_less}
+use Rattle.dill_meaning.specs.Effects.{outside}
 use Rattle.dill_meaning.specs.Values.{num_value}
 use Rattle.dill_meaning.specs.Views.{ScriptView, Round, last_of}
 use Rattle.dill_meaning.specs.Walks.{Mode, Runs, passing, behind, run, begin_loop}
-use Rattle.relay_body.specs.Running.{is_loop_line, begins_loop, are_open}
-use Rattle.relay_body.proofs.Bools.{and_left, and_right, and_both, le_holds, le_of}
+use Rattle.relay_body.specs.Running.{begins_loop, are_open}
+use Rattle.relay_body.specs.Bools.{and_left, and_right, and_both, le_holds, le_of}
 
 -- they are open further on
 pub open_more : (list : List Statement) (p q : ℕ) (rounds : List Round) → p ≤ q → are_open list p rounds ≡ true → are_open list q rounds ≡ true
