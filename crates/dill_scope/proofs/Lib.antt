@@ -1,1 +1,4 @@
 pub mod Chains
+pub mod Climbing
+pub mod Firsts
+pub mod Found

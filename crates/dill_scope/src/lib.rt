@@ -4,8 +4,13 @@
 ghost use Rattle.dill_scope.specs.Forest.{SearchIsInside, SearchIsCancelled};
 
 mod forest;
+mod places;
+mod scopes;
+#[cfg(test)]
+mod tests;
 
 pub use forest::{Bundle, Home};
+pub use scopes::Scopes;
 
 /// In a forest the search finds exactly those who are inside a bundle.
 pub fn search_is_inside()

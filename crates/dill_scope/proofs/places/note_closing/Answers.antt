@@ -1,0 +1,15 @@
+use Rattle.std.proofs.Common.{sym, ap, ◌∙◌, slice_set}
+use Rattle.dill_scope.specs.Scopes.{is_bundle, as_closing}
+use Rattle.dill_scope.proofs.Found.{place, no_place}
+use Rattle.dill_scope.proofs.places.note_closing.Goals as goal
+
+pub returns-in-Some : goal.returns-in-Some
+returns-in-Some c =
+    let xs = c.args.bundles.now.items in
+    let found = place (is_bundle c.args.name) as_closing c.index_mut-found.result.now xs c.in-Some.at (rw c.deref.ensures.value at (sym c.in-Some.ensures.place)) in
+    sym (found.changed ∙ ap (λ y. slice_set xs c.in-Some.at (as_closing y)) (sym c.index_mut-found.ensures.value))
+
+pub returns-in_default : goal.returns-in_default
+returns-in_default c =
+    let gone = no_place (is_bundle c.args.name) as_closing c.args.bundles.now.items (rw c.deref.ensures.value at (sym c.bundle_place.ensures.place ∙ c.in_default.is)) in
+    sym gone.same
