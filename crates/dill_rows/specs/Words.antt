@@ -9,7 +9,8 @@ use Rattle.dill_kernel.specs.declared.replies.KernelReply.TheVariants.{Woke, Don
 use Rattle.dill_calls.specs.declared.ran.LackPlace.TheVariants.{Entry}
 use Rattle.dill_drive.specs.Play.{Playing, Lack, play, opening}
 use Rattle.dill_rules.specs.State.{State, opening_state}
-use Rattle.dill_rows.specs.Stories.{machine_of, tells}
+use Rattle.dill_drive.specs.ByRules.{machine_of}
+use Rattle.dill_rows.specs.Stories.{tells}
 use Rattle.dill_rows.specs.Play.{Does, Tries, Text, Play, playing, first_of}
 use Rattle.dill_rows.specs.Playing.{plain, nth, idle, place, connected}
 use Rattle.dill_rows.specs.Runs.{Run, listed, run_within, begun, does, text}

@@ -1,0 +1,6 @@
+//! Programs that make no call of channels, links or layers: so far a core runs these alone.
+#![tactic(auto)]
+
+mod body;
+
+pub use body::PlainBody;
