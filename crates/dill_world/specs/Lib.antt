@@ -1,3 +1,3 @@
-pub mod Kept
+pub mod Store
 pub mod Steps
 pub mod Ways

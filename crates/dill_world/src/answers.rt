@@ -1,6 +1,6 @@
 ghost use Rattle.std.specs.Prelude.{◌≡◌, true};
 ghost use Rattle.dill_rules.specs.Answers as answers;
-ghost use Rattle.dill_world.specs.Kept.{world_of, can_wait, is_short_answer};
+ghost use Rattle.dill_world.specs.Store.{world_of, may_wait, is_short_answer};
 
 use crate::rows::find_dead_as;
 use crate::world::World;
@@ -9,7 +9,7 @@ use dill_calls::{Answer, Call, Word};
 
 /// A copy of a call that can be pending.
 pub fn copy_waiting(call: &Call) -> Call
-    requires { can_wait call.now ≡ true }
+    requires { may_wait call.now ≡ true }
     ensures { result ≡ call.now }
 {
     match call {
@@ -58,7 +58,7 @@ impl<B> World<B> {
     }
 
     fn own_answer(&self, call: &Call) -> Option<Answer>
-        requires { can_wait call.now ≡ true }
+        requires { may_wait call.now ≡ true }
         ensures { result ≡ answers.own_answer (world_of self.now) call.now }
     {
         match call {
@@ -82,7 +82,7 @@ impl<B> World<B> {
 
     /// What a pending call of a coroutine is answered, if it can be.
     pub fn answer_of(&self, who: u64, call: &Call) -> Option<Answer>
-        requires { can_wait call.now ≡ true }
+        requires { may_wait call.now ≡ true }
         ensures { result ≡ answers.answer_of (world_of self.now) who call.now }
     {
         if call.word().blocks() && self.is_cancelled(who) {

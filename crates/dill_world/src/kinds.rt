@@ -3,7 +3,7 @@ ghost use Rattle.std.specs.List.{list_any};
 ghost use Rattle.dill_rules.specs.Naming.{gifts_of, end_of_clause};
 ghost use Rattle.dill_rules.specs.Owning.{entry_of};
 ghost use Rattle.dill_rules.specs.Kinds as kinds;
-ghost use Rattle.dill_world.specs.Kept.{world_of};
+ghost use Rattle.dill_world.specs.Store.{world_of};
 
 use crate::naming::{args_of, clauses_of, end_of_clause, kind_needed, needs_top};
 use crate::world::World;

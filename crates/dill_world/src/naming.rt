@@ -110,7 +110,12 @@ pub fn gives_twice(args: &[Arg]) -> bool
 fn is_chosen(clauses: &[Clause], number: u64) -> bool
     ensures { result ≡ list_any (λ n. n == number) (map end_of_clause clauses.now) }
 {
-    clauses.iter().any(|x| end_of_clause(x) == number)
+    for clause in clauses {
+        if end_of_clause(clause) == number {
+            return true;
+        }
+    }
+    false
 }
 
 /// Whether the call is a call on this number.

@@ -7,7 +7,7 @@ ghost use Rattle.dill_handles.specs.Handles as handles;
 ghost use Rattle.dill_calls.specs.declared.answer.Answer.TheVariants.{Number};
 ghost use Rattle.dill_calls.specs.declared.word.Word.TheVariants as words;
 ghost use Rattle.dill_rules.specs.declared.coroutine.Mode.TheVariants as modes;
-ghost use Rattle.dill_world.specs.Kept.{world_of};
+ghost use Rattle.dill_world.specs.Store.{world_of};
 ghost use Rattle.dill_world.specs.Steps.{bear_apart};
 
 use crate::naming::draws_of;

@@ -6,7 +6,7 @@ ghost use Rattle.dill_rules.specs.Naming.{gifts_of};
 ghost use Rattle.dill_rules.specs.Refusals as refusals;
 ghost use Rattle.dill_rules.specs.Taking.{is_on};
 ghost use Rattle.dill_rules.specs.World.{pending_call};
-ghost use Rattle.dill_world.specs.Kept.{world_of};
+ghost use Rattle.dill_world.specs.Store.{world_of};
 ghost use Rattle.dill_world.specs.Ways.{goes_by};
 
 use crate::naming::{bears, draws_of, gives_twice, is_accept, is_on, is_receive, is_send};

@@ -3,7 +3,7 @@ ghost use Rattle.std.specs.List.{position_from};
 ghost use Rattle.dill_maps.specs.Maps.{change, without};
 ghost use Rattle.dill_rules.specs.World.{is_coroutine, with_mode};
 ghost use Rattle.dill_rules.specs.Owning.{is_closing_of, is_dead_as};
-ghost use Rattle.dill_world.specs.Kept.{is_plain_mode, ArePlain};
+ghost use Rattle.dill_world.specs.Store.{is_plain_mode, ArePlain};
 
 use dill_rules::{Closing, Coroutine, Mode};
 

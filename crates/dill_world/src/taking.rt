@@ -4,7 +4,7 @@ ghost use Rattle.dill_maps.specs.Maps.{if_some};
 ghost use Rattle.dill_rules.specs.World as worlds;
 ghost use Rattle.dill_rules.specs.Naming.{gifts_of, end_of_clause, taken_by};
 ghost use Rattle.dill_rules.specs.Taking as taking;
-ghost use Rattle.dill_world.specs.Kept.{world_of};
+ghost use Rattle.dill_world.specs.Store.{world_of};
 
 use crate::naming::{args_of, clauses_of, end_of_clause, is_alone_on, is_on, one_taken};
 use crate::rows::find_coroutine;

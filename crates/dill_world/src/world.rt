@@ -1,7 +1,7 @@
 ghost use Rattle.std.specs.Prelude.{◌≡◌, true, IfOk};
 ghost use Rattle.dill_rules.specs.World as worlds;
 ghost use Rattle.dill_scope.specs.Scopes as scopes;
-ghost use Rattle.dill_world.specs.Kept.{world_of, no_words, can_wait, is_plain_mode, is_short_answer, ArePlain};
+ghost use Rattle.dill_world.specs.Store.{world_of, no_words, may_wait, is_plain_mode, is_short_answer, ArePlain};
 ghost use Rattle.dill_world.specs.Steps.{left};
 
 use crate::rows::{drop_coroutine, put_mode};
@@ -31,9 +31,9 @@ pub struct World<B> {
 
 impl<B> Model for World<B> {
     ghost use Rattle.std.specs.Prelude.{◌+◌, ◌≤◌, length, vec_capacity};
-    ghost use Rattle.dill_world.specs.Kept.{Kept, ArePlain};
+    ghost use Rattle.dill_world.specs.Store.{Store, ArePlain};
 
-    ghost Value = { Kept B };
+    ghost Value = { Store B };
 
     ghost view = { λ w. record { coroutines = w.coroutines.items; handles = w.handles; scopes = w.scopes; closings = w.closings.items; moment = w.moment; last_coroutine = w.last_coroutine; last_bundle = w.last_bundle; ended = w.ended; notes = w.notes.items } };
 
@@ -179,7 +179,7 @@ impl<B: Drop> World<B> {
 
     /// A coroutine waits for its answer.
     pub fn pend(&mut self, who: u64, call: Call)
-        requires { can_wait call ≡ true }
+        requires { may_wait call ≡ true }
         ensures { world_of self.new ≡ worlds.pend (world_of self.old) who call }
     {
         self.set_mode(who, Mode::Pending(call));

@@ -1,6 +1,6 @@
--- What a world keeps whose calls use neither channels nor links, and the world that it is.
-use Rattle.std.specs.Prelude.{◌≡◌, ℕ, List, [], Bool, true, false, Option, None}
-use Rattle.std.specs.List.{All}
+-- What is stored of a world whose calls use neither channels nor links, and the world that it is.
+use Rattle.std.specs.Prelude.{◌≡◌, ℕ, List, [], Bool, true, false, Option}
+use Rattle.std.specs.List.{list_all}
 use Rattle.dill_base.specs.declared.errno.Errno.{Errno}
 use Rattle.dill_calls.specs.declared.answer.Answer.{Answer}
 use Rattle.dill_calls.specs.declared.answer.Answer.TheVariants as answers
@@ -24,7 +24,7 @@ abbrev pub no_words : Stream
 no_words = record { u32_after = λ cs. 0; u64_after = λ cs. 0; bytes_after = λ cs n. [] }
 
 -- all of a world but its channels and its links
-pub record Kept (V : Type 0) : Type 0 where
+pub record Store (V : Type 0) : Type 0 where
   pub coroutines : List (Coroutine V)
   pub handles : Handles Thing
   pub scopes : Scopes
@@ -36,7 +36,7 @@ pub record Kept (V : Type 0) : Type 0 where
   pub notes : List Note
 
 -- the world that has no channels and no links
-abbrev pub world_of : {V : Type 0} → Kept V → World V
+abbrev pub world_of : {V : Type 0} → Store V → World V
 world_of k = record {
   coroutines = k.coroutines;
   handles = k.handles;
@@ -54,31 +54,14 @@ world_of k = record {
   notes = k.notes;
 }
 
--- the calls that such a world does
-abbrev pub is_plain : Call → Bool
-is_plain (calls.Print text) = true
-is_plain calls.Now = true
-is_plain calls.Yield = true
-is_plain (calls.Msleep deadline) = true
-is_plain (calls.Hmake kind value) = true
-is_plain (calls.Hquery number kind) = true
-is_plain (calls.Hown number) = true
-is_plain (calls.Hclose number) = true
-is_plain calls.Bundle = true
-is_plain (calls.Go program args) = true
-is_plain (calls.BundleGo number program args) = true
-is_plain (calls.BundleWait number deadline) = true
-is_plain (calls.Pass word fault) = true
-is_plain call = false
+-- the calls that can be pending in such a world
+abbrev pub may_wait : Call → Bool
+may_wait (calls.Msleep deadline) = true
+may_wait (calls.Hclose number) = true
+may_wait (calls.BundleWait number deadline) = true
+may_wait call = false
 
--- those of them that can be pending
-abbrev pub can_wait : Call → Bool
-can_wait (calls.Msleep deadline) = true
-can_wait (calls.Hclose number) = true
-can_wait (calls.BundleWait number deadline) = true
-can_wait call = false
-
--- what they are answered
+-- an answer that is a number or a fault
 abbrev pub is_short_answer : Answer → Bool
 is_short_answer (answers.Number n) = true
 is_short_answer (answers.Fault e) = true
@@ -86,12 +69,15 @@ is_short_answer answer = false
 
 -- where a coroutine of such a world stands
 abbrev pub is_plain_mode : Mode → Bool
-is_plain_mode (modes.Pending call) = can_wait call
+is_plain_mode (modes.Pending call) = may_wait call
 is_plain_mode modes.Running = true
 is_plain_mode (modes.Fresh word answer) = is_short_answer answer
 is_plain_mode (modes.Answered word answer) = is_short_answer answer
 is_plain_mode (modes.Ending outcome) = true
 
+abbrev pub is_plain_row : {V : Type 0} → Coroutine V → Bool
+is_plain_row c = is_plain_mode c.mode
+
 -- each coroutine stands so
 abbrev pub ArePlain : {V : Type 0} → List (Coroutine V) → Type 0
-ArePlain coroutines = All (λ c. is_plain_mode c.mode ≡ true) coroutines
+ArePlain coroutines = list_all is_plain_row coroutines ≡ true

@@ -1,0 +1,29 @@
+-- A test that each element of a list passes is still passed once one is changed or gone.
+use Rattle.std.proofs.Common.{◌≡◌, Bool, true, false, ◌&&◌, List, [], ◌∷◌, cond, refl}
+use Rattle.std.specs.List.{list_all}
+use Rattle.dill_maps.specs.Maps.{change, without}
+
+both : (a b : Bool) → (a && b) ≡ true → (a ≡ true) × (b ≡ true)
+both true true h = (refl, refl)
+both true false h = (refl, h)
+both false b h = (h, cc)
+
+joined : (a b : Bool) → a ≡ true → b ≡ true → (a && b) ≡ true
+joined a b p q = rw (p, q) refl
+
+module _ {X : Type 0} (p : X → Bool) (test : X → Bool) where
+  all_cond : (b : Bool) (xs ys : List X) → list_all p xs ≡ true → list_all p ys ≡ true → list_all p (cond b xs ys) ≡ true
+  all_cond true xs ys h k = h
+  all_cond false xs ys h k = k
+
+  pub all_change : (f : X → X) → ((x : X) → p (f x) ≡ true) → (xs : List X) → list_all p xs ≡ true → list_all p (change test f xs) ≡ true
+  all_change f holds [] all = all
+  all_change f holds (x ∷ xs) all =
+      let parts : (p x ≡ true) × (list_all p xs ≡ true) = both (p x) (list_all p xs) all in
+      all_cond (test x) (f x ∷ xs) (x ∷ change test f xs) (joined (p (f x)) (list_all p xs) (holds x) parts.1) (joined (p x) (list_all p (change test f xs)) parts.0 (all_change f holds xs parts.1))
+
+  pub all_without : (xs : List X) → list_all p xs ≡ true → list_all p (without test xs) ≡ true
+  all_without [] all = all
+  all_without (x ∷ xs) all =
+      let parts : (p x ≡ true) × (list_all p xs ≡ true) = both (p x) (list_all p xs) all in
+      all_cond (test x) xs (x ∷ without test xs) parts.1 (joined (p x) (list_all p (without test xs)) parts.0 (all_without xs parts.1))
