@@ -1,3 +1,4 @@
+pub mod Bearing
 pub mod Each
 pub mod Finding
 pub mod Leaving

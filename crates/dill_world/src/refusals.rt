@@ -155,9 +155,7 @@ impl<B> World<B> {
         let word = call.word();
         match call.handle() {
             None => false,
-            Some(number) => {
-                is_in_some_use(self.coroutines(), word, number)
-            }
+            Some(number) => { is_in_some_use(self.coroutines(), word, number) }
         }
     }
 
