@@ -1,3 +1,4 @@
-pub mod Store
+pub mod Brief
 pub mod Steps
+pub mod Store
 pub mod Ways
