@@ -2,5 +2,11 @@
 #![tactic(auto)]
 
 mod entry;
+mod fault;
+mod handles;
+#[cfg(test)]
+mod tests;
 
 pub use entry::Entry;
+pub use fault::HandleFault;
+pub use handles::Handles;

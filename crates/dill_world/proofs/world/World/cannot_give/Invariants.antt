@@ -1,0 +1,10 @@
+use Rattle.std.proofs.Common.{◌≡◌, drop}
+use Rattle.std.specs.List.{list_any}
+use Rattle.dill_rules.specs.Naming.{gifts_of}
+use Rattle.dill_rules.specs.Kinds as kinds
+use Rattle.dill_rules.specs.Taking as taking
+use Rattle.dill_world.specs.Store.{world_of}
+use Rattle.dill_world.proofs.world.World.cannot_give.Given as goal
+
+abbrev pub invariant-loop-arg : goal.invariant-loop-arg
+invariant-loop-arg g l = list_any (taking.cannot_take (world_of l.self) l.who l.call) (gifts_of (drop l.arg-index l.args)) ≡ list_any (taking.cannot_take (world_of l.self) l.who l.call) (gifts_of l.args)

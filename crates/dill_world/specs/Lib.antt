@@ -1,0 +1,4 @@
+pub mod Brief
+pub mod Steps
+pub mod Store
+pub mod Ways

@@ -1,0 +1,83 @@
+-- What is stored of a world whose calls use neither channels nor links, and the world that it is.
+use Rattle.std.specs.Prelude.{◌≡◌, ℕ, List, [], Bool, true, false, Option}
+use Rattle.std.specs.List.{list_all}
+use Rattle.dill_base.specs.declared.errno.Errno.{Errno}
+use Rattle.dill_calls.specs.declared.answer.Answer.{Answer}
+use Rattle.dill_calls.specs.declared.answer.Answer.TheVariants as answers
+use Rattle.dill_calls.specs.declared.call.Call.{Call}
+use Rattle.dill_calls.specs.declared.call.Call.TheVariants as calls
+use Rattle.dill_calls.specs.declared.ran.Note.{Note}
+use Rattle.dill_handles.specs.Handles.{Handles}
+use Rattle.dill_scope.specs.Scopes.{Scopes}
+use Rattle.dill_chan.specs.Channels.{no_channels}
+use Rattle.rand_core.specs.Stream.{Stream}
+use Rattle.dill_rules.specs.Links.{no_links}
+use Rattle.dill_rules.specs.World.{World, at_start}
+use Rattle.dill_rules.specs.declared.coroutine.Coroutine.{Coroutine}
+use Rattle.dill_rules.specs.declared.coroutine.Closing.{Closing}
+use Rattle.dill_rules.specs.declared.coroutine.Mode.{Mode}
+use Rattle.dill_rules.specs.declared.coroutine.Mode.TheVariants as modes
+use Rattle.dill_rules.specs.declared.thing.Thing.{Thing}
+
+-- random words of which none is drawn
+abbrev pub no_words : Stream
+no_words = record { u32_after = λ cs. 0; u64_after = λ cs. 0; bytes_after = λ cs n. [] }
+
+-- all of a world but its channels and its links
+pub record Store (V : Type 0) : Type 0 where
+  pub coroutines : List (Coroutine V)
+  pub handles : Handles Thing
+  pub scopes : Scopes
+  pub closings : List Closing
+  pub moment : ℕ
+  pub last_coroutine : ℕ
+  pub last_bundle : ℕ
+  pub ended : Option (Option Errno)
+  pub notes : List Note
+
+-- the world that has no channels and no links
+abbrev pub world_of : {V : Type 0} → Store V → World V
+world_of k = record {
+  coroutines = k.coroutines;
+  handles = k.handles;
+  scopes = k.scopes;
+  closings = k.closings;
+  channels = no_channels;
+  links = no_links;
+  place = at_start;
+  wrote = [];
+  words = no_words;
+  moment = k.moment;
+  last_coroutine = k.last_coroutine;
+  last_bundle = k.last_bundle;
+  ended = k.ended;
+  notes = k.notes;
+}
+
+-- the calls that can be pending in such a world
+abbrev pub may_wait : Call → Bool
+may_wait (calls.Msleep deadline) = true
+may_wait (calls.Hclose number) = true
+may_wait (calls.BundleWait number deadline) = true
+may_wait call = false
+
+-- an answer that is a number or a fault
+abbrev pub is_short_answer : Answer → Bool
+is_short_answer (answers.Number n) = true
+is_short_answer (answers.Fault e) = true
+is_short_answer answer = false
+
+-- where a coroutine of such a world stands
+abbrev pub is_plain_mode : Mode → Bool
+is_plain_mode (modes.Pending call) = may_wait call
+is_plain_mode modes.Running = true
+is_plain_mode (modes.Fresh word answer) = is_short_answer answer
+is_plain_mode (modes.Answered word answer) = is_short_answer answer
+is_plain_mode (modes.Ending outcome) = true
+
+abbrev pub is_plain_row : {V : Type 0} → Coroutine V → Bool
+is_plain_row c = is_plain_mode c.mode
+
+-- each coroutine stands so
+abbrev pub ArePlain : {V : Type 0} → List (Coroutine V) → Type 0
+ArePlain coroutines = list_all is_plain_row coroutines ≡ true
