@@ -1,0 +1,4 @@
+pub mod Lending
+pub mod Pairs
+pub mod Slots
+pub mod Whole

@@ -1,0 +1,16 @@
+//! Slots: numbered places for values in rising id, with a ready queue and timers.
+//! It decides nothing: who is put where, and when, is the caller's matter.
+#![tactic(auto)]
+
+mod place;
+mod queue;
+mod slot;
+mod slots;
+mod steps;
+#[cfg(test)]
+mod tests;
+mod timers;
+
+pub use slot::{Slot, SlotFault, Timer};
+pub use slots::Slots;
+pub use steps::Steps;
