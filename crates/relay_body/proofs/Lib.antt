@@ -1,5 +1,6 @@
 pub mod Built
 pub mod Counted
+pub mod Drafting
 pub mod Joining
 pub mod Known
 pub mod Making

@@ -9,6 +9,8 @@ mod held;
 mod mode;
 mod rounds;
 mod run;
+#[cfg(test)]
+mod tests;
 mod texts;
 mod turn;
 mod values;
