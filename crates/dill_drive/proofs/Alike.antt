@@ -24,7 +24,7 @@ use Rattle.dill_drive.specs.Play.{Lack, Playing, play, advance, advance_at, asks
 use Rattle.dill_drive.specs.Tells.{Concludes, NamesErrno, replies_of}
 use Rattle.dill_drive.specs.declared.run_end.RunEnd.{RunEnd}
 use Rattle.dill_drive.proofs.Counting.{number_turn, number_last}
-use Rattle.dill_drive.proofs.Lacking.{IsPast, past_some, past_stays}
+use Rattle.dill_drive.proofs.Lacking.{IsPast, missed_stays}
 use Rattle.dill_drive.proofs.Turning.{none_of}
 use Rattle.std.proofs.lemmas.Bool.Decides.{nat_tests}
 
@@ -55,30 +55,37 @@ Steady Last = ⊥
 Steady (Writing next) = ⊥
 Steady other = Unit {0}
 
--- The refusal that is next is met by both or by neither, or the other alone meets it, and it is left.
-data Meets (turn : ℕ) (lacks : List Lack) (k k' : Option LackPlace) : Type 0 where
-  both_meet : k' ≡ k → Meets turn lacks k k'
-  one_misses : lacks_after k lacks ≡ lacks → IsPast (turn + 1) lacks → Meets turn lacks k k'
+-- A turn meets the same refusal in both, or the one misses a refusal that was meant for it.
+data Meets (turn : ℕ) (left left' : List Lack) (k k' : Option LackPlace) : Type 0 where
+  both_meet : k' ≡ k → left' ≡ left → Meets turn left left' k k'
+  one_misses : IsPast (turn + 1) left → Meets turn left left' k k'
 
-meets_by : (lack : Lack) (lacks : List Lack) (turn : ℕ) (a b b' : Bool) → lack.0 == turn ≡ a → (b ≡ true → b' ≡ true) → Meets turn (lack ∷ lacks) (if a && b then Some lack.1 else None) (if a && b' then Some lack.1 else None)
-meets_by lack lacks turn false b b' is may = both_meet refl
-meets_by lack lacks turn true true true is may = both_meet refl
-meets_by lack lacks turn true true false is may = cc (may refl)
-meets_by lack lacks turn true false b' is may = one_misses refl (grind (arith, nat_tests, is))
+-- behind a refusal that none of them meets
+met_behind : (turn : ℕ) (lack : Lack) (left left' : List Lack) (k k' : Option LackPlace) → Meets turn left left' k k' → Meets turn (lack ∷ left) (lack ∷ left') k k'
+met_behind turn lack left left' k k' (both_meet same rest) = both_meet same (ap (λ (l : List Lack). lack ∷ l) rest)
+met_behind turn lack left left' k k' (one_misses past) = one_misses (inr past)
 
-meets : (turn : ℕ) (lacks : List Lack) (may may' : LackPlace → Bool) → ((place : LackPlace) → may place ≡ true → may' place ≡ true) → Meets turn lacks (lack_at may turn lacks) (lack_at may' turn lacks)
-meets turn [] may may' more = both_meet refl
-meets turn (lack ∷ lacks) may may' more = meets_by lack lacks turn (lack.0 == turn) (may lack.1) (may' lack.1) refl (more lack.1)
+meets_by : (turn : ℕ) (lack : Lack) (lacks left left' : List Lack) (k k' : Option LackPlace) (a b b' : Bool) → lack.0 == turn ≡ a → (b ≡ true → b' ≡ true) → Meets turn left left' k k'
+    → Meets turn (if a && b then lacks else lack ∷ left) (if a && b' then lacks else lack ∷ left') (if a && b then Some lack.1 else k) (if a && b' then Some lack.1 else k')
+meets_by turn lack lacks left left' k k' false b b' is may more = met_behind turn lack left left' k k' more
+meets_by turn lack lacks left left' k k' true true true is may more = both_meet refl refl
+meets_by turn lack lacks left left' k k' true true false is may more = cc (may refl)
+meets_by turn lack lacks left left' k k' true false b' is may more = one_misses (inl (grind (arith, nat_tests, is)))
+
+meets : (turn : ℕ) (lacks : List Lack) (may may' : LackPlace → Bool) → ((place : LackPlace) → may place ≡ true → may' place ≡ true) → Meets turn (lacks_after may turn lacks) (lacks_after may' turn lacks) (lack_at may turn lacks) (lack_at may' turn lacks)
+meets turn [] may may' more = both_meet refl refl
+meets turn (lack ∷ lacks) may may' more =
+    meets_by turn lack lacks (lacks_after may turn lacks) (lacks_after may' turn lacks) (lack_at may turn lacks) (lack_at may' turn lacks) (lack.0 == turn) (may lack.1) (may' lack.1) refl (more lack.1) (meets turn lacks may may' more)
 
 -- what is met may come
-may_by : {S : Type 0} (m : Machine S) (s : S) (lack : Lack) (a b : Bool) → m.may_lack s lack.1 ≡ b → may_be m s (if a && b then Some lack.1 else None) ≡ true
-may_by m s lack true true e = e
-may_by m s lack true false e = refl
-may_by m s lack false b e = refl
+may_by : {S : Type 0} (m : Machine S) (s : S) (lack : Lack) (more : Option LackPlace) (a b : Bool) → m.may_lack s lack.1 ≡ b → may_be m s more ≡ true → may_be m s (if a && b then Some lack.1 else more) ≡ true
+may_by m s lack more true true e rest = e
+may_by m s lack more true false e rest = rest
+may_by m s lack more false b e rest = rest
 
 may_meet : {S : Type 0} (m : Machine S) (s : S) (turn : ℕ) (lacks : List Lack) → may_be m s (lack_at (m.may_lack s) turn lacks) ≡ true
 may_meet m s turn [] = refl
-may_meet m s turn (lack ∷ lacks) = may_by m s lack (lack.0 == turn) (m.may_lack s lack.1) refl
+may_meet m s turn (lack ∷ lacks) = may_by m s lack (lack_at (m.may_lack s) turn lacks) (lack.0 == turn) (m.may_lack s lack.1) refl (may_meet m s turn lacks)
 
 module _ {S T : Type 0} (m : Machine S) (n : Machine T) (traced : Bool) (most : ℕ) (R : S → T → Type 0) (alike : Alike m n R) where
   -- the place is one where the state may stand
@@ -281,31 +288,31 @@ module _ {S T : Type 0} (m : Machine S) (n : Machine T) (traced : Bool) (most : 
   abbrev Together : Playing S → Playing T → Type 0
   Together p q = Follows p q ⊎ IsPast (turn_number m traced most p.config) p.lacks
 
-  turning_by : (c : Config S) (replies : List KernelReply) (lacks : List Lack) (halt : Option ℕ) (asks : List KernelAsk) (bytes : List ℕ) (after : Option LackPlace → Config S) (after' : Option LackPlace → Config T) (k k' : Option LackPlace)
-      → ((lack : Option LackPlace) → turn_number m traced most (after lack) ≡ turn_number m traced most c + 1) → Same (after k) (after' k) → Meets (turn_number m traced most c) lacks k k'
-      → Together (record (holding c replies lacks halt asks bytes) { config = after k; lacks = lacks_after k lacks })
-      (record { config = after' k'; replies = replies; lacks = lacks_after k' lacks; halt = halt; asks = asks; bytes = bytes })
-  turning_by c replies lacks halt asks bytes after after' k k' counts same (both_meet is) =
-      let to : Option LackPlace → Playing T = λ x. record { config = after' x; replies = replies; lacks = lacks_after x lacks; halt = halt; asks = asks; bytes = bytes } in
-      inl (subst (λ (q : Playing T). Follows (record (holding c replies lacks halt asks bytes) { config = after k; lacks = lacks_after k lacks }) q) (sym (ap to is)) (by_config (after k) (after' k) replies (lacks_after k lacks) halt asks bytes same))
-  turning_by c replies lacks halt asks bytes after after' k k' counts same (one_misses left past) =
-      inr (subst (λ (l : List Lack). IsPast (turn_number m traced most (after k)) l) (sym left) (subst (λ (x : ℕ). IsPast x lacks) (sym (counts k)) past))
+  turning_by : (c : Config S) (replies : List KernelReply) (left left' lacks : List Lack) (halt : Option ℕ) (asks : List KernelAsk) (bytes : List ℕ) (after : Option LackPlace → Config S) (after' : Option LackPlace → Config T) (k k' : Option LackPlace)
+      → ((lack : Option LackPlace) → turn_number m traced most (after lack) ≡ turn_number m traced most c + 1) → Same (after k) (after' k) → Meets (turn_number m traced most c) left left' k k'
+      → Together (record (holding c replies lacks halt asks bytes) { config = after k; lacks = left })
+      (record { config = after' k'; replies = replies; lacks = left'; halt = halt; asks = asks; bytes = bytes })
+  turning_by c replies left left' lacks halt asks bytes after after' k k' counts same (both_meet is rest) =
+      let to : Option LackPlace → List Lack → Playing T = λ x l. record { config = after' x; replies = replies; lacks = l; halt = halt; asks = asks; bytes = bytes } in
+      let one : to k' left' ≡ to k left = ap (λ (x : Option LackPlace). to x left') is ∙ ap (to k) rest in
+      inl (subst (λ (q : Playing T). Follows (record (holding c replies lacks halt asks bytes) { config = after k; lacks = left }) q) (sym one) (by_config (after k) (after' k) replies left halt asks bytes same))
+  turning_by c replies left left' lacks halt asks bytes after after' k k' counts same (one_misses past) = inr (subst (λ (x : ℕ). IsPast x left) (sym (counts k)) past)
 
   turning : (c : Config S) (t : T) (left : ℕ) (replies : List KernelReply) (lacks : List Lack) (halt : Option ℕ) (asks : List KernelAsk) (bytes : List ℕ) → R c.state t → is_some (m.ended c.state) ≡ false
       → Together (turns_one m traced most (holding c replies lacks halt asks bytes) (after_turn m traced most c left)) (turns_one n traced most (followed (holding c replies lacks halt asks bytes) (carried c t)) (after_turn n traced most (carried c t) left))
   turning c t left replies lacks halt asks bytes r on =
       let turn = turn_number m traced most c in
       let k = lack_at (m.may_lack c.state) turn lacks in
-      turning_by c replies lacks halt asks bytes (after_turn m traced most c left) (after_turn n traced most (carried c t) left) k (lack_at (n.may_lack t) turn lacks) (number_turn m traced most c left)
-      (goes c t k (one_turn c.tally k) (Turns (left - 1)) r on (may_meet m c.state turn lacks) tt) (meets turn lacks (m.may_lack c.state) (n.may_lack t) (λ place. alike.may_lack c.state t place r (none_of (m.ended c.state) on)))
+      turning_by c replies (lacks_after (m.may_lack c.state) turn lacks) (lacks_after (n.may_lack t) turn lacks) lacks halt asks bytes (after_turn m traced most c left) (after_turn n traced most (carried c t) left) k (lack_at (n.may_lack t) turn lacks)
+      (number_turn m traced most c left) (goes c t k (one_turn c.tally k) (Turns (left - 1)) r on (may_meet m c.state turn lacks) tt) (meets turn lacks (m.may_lack c.state) (n.may_lack t) (λ place. alike.may_lack c.state t place r (none_of (m.ended c.state) on)))
 
   turning_last : (c : Config S) (t : T) (replies : List KernelReply) (lacks : List Lack) (halt : Option ℕ) (asks : List KernelAsk) (bytes : List ℕ) → R c.state t → is_some (m.ended c.state) ≡ false
       → Together (turns_one m traced most (holding c replies lacks halt asks bytes) (after_last m traced most c)) (turns_one n traced most (followed (holding c replies lacks halt asks bytes) (carried c t)) (after_last n traced most (carried c t)))
   turning_last c t replies lacks halt asks bytes r on =
       let turn = turn_number m traced most c in
       let k = lack_at (m.may_lack c.state) turn lacks in
-      turning_by c replies lacks halt asks bytes (after_last m traced most c) (after_last n traced most (carried c t)) k (lack_at (n.may_lack t) turn lacks) (number_last m traced most c)
-      (goes c t k (one_last c.tally k) Closing r on (may_meet m c.state turn lacks) tt) (meets turn lacks (m.may_lack c.state) (n.may_lack t) (λ place. alike.may_lack c.state t place r (none_of (m.ended c.state) on)))
+      turning_by c replies (lacks_after (m.may_lack c.state) turn lacks) (lacks_after (n.may_lack t) turn lacks) lacks halt asks bytes (after_last m traced most c) (after_last n traced most (carried c t)) k (lack_at (n.may_lack t) turn lacks)
+      (number_last m traced most c) (goes c t k (one_last c.tally k) Closing r on (may_meet m c.state turn lacks) tt) (meets turn lacks (m.may_lack c.state) (n.may_lack t) (λ place. alike.may_lack c.state t place r (none_of (m.ended c.state) on)))
 
   waiting : (c : Config S) (t : T) (replies : List KernelReply) (lacks : List Lack) (halt : Option ℕ) (asks : List KernelAsk) (bytes : List ℕ) → R c.state t → is_some (m.ended c.state) ≡ false
       → Follows (asks_wait m traced most (holding c replies lacks halt asks bytes)) (asks_wait n traced most (followed (holding c replies lacks halt asks bytes) (carried c t)))
@@ -355,7 +362,7 @@ module _ {S T : Type 0} (m : Machine S) (n : Machine T) (traced : Bool) (most : 
   goes_on : (k : ℕ) (p : Playing S) (q : Playing T) → ((p : Playing S) (q : Playing T) → Follows p q → (play m traced most k p).lacks ≡ [] → Follows (play m traced most k p) (play n traced most k q))
       → Together p q → (play m traced most k p).lacks ≡ [] → Follows (play m traced most k p) (play n traced most k q)
   goes_on k p q more (inl f) used = more p q f used
-  goes_on k p q more (inr past) used = absurd (past_some (turn_number m traced most p.config) p.lacks past (sym (past_stays m traced most k p past) ∙ used))
+  goes_on k p q more (inr past) used = absurd (missed_stays m traced most k p past used)
 
   plays : (k : ℕ) (p : Playing S) (q : Playing T) → Follows p q → (play m traced most k p).lacks ≡ [] → Follows (play m traced most k p) (play n traced most k q)
   plays zero p q f used = f

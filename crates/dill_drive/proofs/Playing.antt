@@ -17,7 +17,7 @@ use Rattle.dill_kernel.specs.Entry.{Entry, Went, fits}
 use Rattle.dill_drive.specs.Machine.{Machine, may_be}
 use Rattle.dill_drive.specs.Story.{here, no_tally, Place, Round, Asking, Trying, Turns, Due, Stopping, Closing, Last, Closes, Writing, Over, Config, after_test, after_wait, after_try, after_turn, after_last, halted}
 use Rattle.dill_kernel.specs.Replay.{reply_to, replies_after, is_close}
-use Rattle.dill_drive.specs.Play.{Lack, Playing, lack_at, lacks_after, turn_number, turns_one, advance, advance_at, asks_try, asks_wait, writes, play, halt_within}
+use Rattle.dill_drive.specs.Play.{Lack, Playing, is_met, lack_at, lacks_after, turn_number, turns_one, advance, advance_at, asks_try, asks_wait, writes, play, halt_within}
 use Rattle.dill_drive.specs.Leading.{Event, Passed, Replied, Turned, Wrote, Halted, step, unless_try, by_test, asked, heard, entry_of, by_reply, by_turn, by_write, by_halt, Along, is_proper_part, Leads}
 use Rattle.dill_drive.specs.Tells.{replies_of, ask_of, status_of, Tells, NamesErrno, Concludes}
 use Rattle.dill_drive.specs.declared.run_end.RunEnd.{RunEnd}
@@ -48,10 +48,14 @@ taken (kernel.Close link) (told.Took n) more fit = cc
 taken (kernel.Close link) told.End more fit = cc
 taken (kernel.Close link) (told.Failed fault) more fit = cc
 
--- the refusals from the turn of this number on
+-- refusals in turns of this number and of later ones
 abbrev IsFrom : ℕ → List Lack → Type 0
 IsFrom turn [] = Unit {0}
-IsFrom turn (lack ∷ lacks) = turn ≤ lack.0
+IsFrom turn (lack ∷ lacks) = (turn ≤ lack.0) × IsFrom turn lacks
+
+from_before : (turn : ℕ) (lacks : List Lack) → IsFrom (turn + 1) lacks → IsFrom turn lacks
+from_before turn [] from = tt
+from_before turn (lack ∷ lacks) from = (omega (arith, from.0), from_before turn lacks from.1)
 
 -- a turn, refused memory or not, and the refusals after it
 abbrev with_lack : Option LackPlace → ℕ → List Lack → List Lack
@@ -59,22 +63,25 @@ with_lack None turn lacks = lacks
 with_lack (Some place) turn lacks = (turn, place) ∷ lacks
 
 is_from : (lack : Option LackPlace) (turn : ℕ) (lacks : List Lack) → IsFrom (turn + 1) lacks → IsFrom turn (with_lack lack turn lacks)
-is_from (Some place) turn lacks after = omega arith
-is_from None turn [] after = tt
-is_from None turn (lack ∷ lacks) after = omega (arith, after)
+is_from (Some place) turn lacks after = (omega arith, from_before turn lacks after)
+is_from None turn lacks after = from_before turn lacks after
 
-lacks_rest : (lack : Option LackPlace) (turn : ℕ) (lacks : List Lack) → lacks_after lack (with_lack lack turn lacks) ≡ lacks
-lacks_rest None turn lacks = refl
-lacks_rest (Some place) turn lacks = refl
+met_now : (turn : ℕ) (may : Bool) → may ≡ true → ((turn == turn) && may) ≡ true
+met_now turn true e = grind (arith, nat_tests)
+met_now turn false e = cc
 
-picks : (a b : Bool) (place : LackPlace) → a ≡ true → b ≡ true → (if a && b then Some place else None) ≡ Some place
-picks true true place e f = refl
-picks true false place e f = cc
-picks false b place e f = cc
+not_met : (a b : Bool) → a ≡ false → (a && b) ≡ false
+not_met false b e = refl
+not_met true b e = cc
 
-passes_by : (a b : Bool) (place : LackPlace) → a ≡ false → (if a && b then Some place else None) ≡ None
-passes_by false b place e = refl
-passes_by true b place e = cc
+-- refusals of later turns alone: none is met, and all are left
+none_met : (may : LackPlace → Bool) (turn : ℕ) (lacks : List Lack) → IsFrom (turn + 1) lacks → (lack_at may turn lacks ≡ None) × (lacks_after may turn lacks ≡ lacks)
+none_met may turn [] after = (refl, refl)
+none_met may turn (lack ∷ lacks) after =
+    let later : (lack.0 == turn) ≡ false = grind (arith, nat_tests, after.0) in
+    let none : is_met may turn lack ≡ false = not_met (lack.0 == turn) (may lack.1) later in
+    let more = none_met may turn lacks after.1 in
+    rw none (more.0, ap (λ (l : List Lack). lack ∷ l) more.1)
 
 -- a write that doesn't fail before these bytes
 not_within : (b : Bool) (shown size more : ℕ) → halt_within (halt_at b (shown + (size + more))) shown size ≡ None
@@ -168,22 +175,21 @@ module _ {S : Type 0} (m : Machine S) (traced : Bool) (most : ℕ) where
   hears c next Over ask reply more lacks halt asks shown due fit e = cc
 
   -- by a turn, which meets the first of the refusals that are left or none of them
-  met_by : (state : S) (lack : Option LackPlace) (turn : ℕ) (lacks : List Lack) → may_be m state lack ≡ true → IsFrom (turn + 1) lacks → lack_at (m.may_lack state) turn (with_lack lack turn lacks) ≡ lack
+  met_by : (state : S) (lack : Option LackPlace) (turn : ℕ) (lacks : List Lack) → may_be m state lack ≡ true → IsFrom (turn + 1) lacks
+      → (lack_at (m.may_lack state) turn (with_lack lack turn lacks) ≡ lack) × (lacks_after (m.may_lack state) turn (with_lack lack turn lacks) ≡ lacks)
   met_by state (Some place) turn lacks may after =
-      let same : (turn == turn) ≡ true = grind (arith, nat_tests) in
-      picks (turn == turn) (m.may_lack state place) place same may
-  met_by state None turn [] may after = refl
-  met_by state None turn (lack ∷ lacks) may after =
-      let later : (lack.0 == turn) ≡ false = grind (arith, nat_tests, after) in
-      passes_by (lack.0 == turn) (m.may_lack state lack.1) lack.1 later
+      let now : is_met (m.may_lack state) turn (turn, place) ≡ true = met_now turn (m.may_lack state place) may in
+      rw now (refl, refl)
+  met_by state None turn lacks may after = none_met (m.may_lack state) turn lacks after
 
   turned_by : (c next : Config S) (lack : Option LackPlace) (replies : List KernelReply) (lacks : List Lack) (halt : Option ℕ) (asks : List KernelAsk) (shown : List ℕ) (after : Option LackPlace → Config S)
       → may_be m c.state lack ≡ true → after lack ≡ next → IsFrom (turn_number m traced most c + 1) lacks
       → turns_one m traced most (playing c replies (with_lack lack (turn_number m traced most c) lacks) halt asks shown) after ≡ playing next replies lacks halt asks shown
   turned_by c next lack replies lacks halt asks shown after may e from =
       let turn = turn_number m traced most c in
-      ap (λ (k : Option LackPlace). playing (after k) replies (lacks_after k (with_lack lack turn lacks)) halt asks shown) (met_by c.state lack turn lacks may from)
-      ∙ ap (λ (l : List Lack). playing (after lack) replies l halt asks shown) (lacks_rest lack turn lacks) ∙ ap (λ (d : Config S). playing d replies lacks halt asks shown) e
+      let met = met_by c.state lack turn lacks may from in
+      ap (λ (k : Option LackPlace). playing (after k) replies (lacks_after (m.may_lack c.state) turn (with_lack lack turn lacks)) halt asks shown) met.0
+      ∙ ap (λ (l : List Lack). playing (after lack) replies l halt asks shown) met.1 ∙ ap (λ (d : Config S). playing d replies lacks halt asks shown) e
 
   turns : (c next : Config S) (place : Place) (lack : Option LackPlace) (replies : List KernelReply) (lacks : List Lack) (halt : Option ℕ) (asks : List KernelAsk) (shown : List ℕ) → by_turn m traced most c place lack ≡ Some next → IsFrom (turn_number m traced most c + 1) lacks
       → advance_at m traced most (playing c replies (with_lack lack (turn_number m traced most c) lacks) halt asks shown) place ≡ playing next replies lacks halt asks shown

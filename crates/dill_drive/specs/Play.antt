@@ -16,7 +16,7 @@ Lack = ℕ × LackPlace
 
 pub record Playing (S : Type 0) : Type 0 where
   pub config : Config S
-  -- what is still to come from outside: replies, refusals in rising order, and the number of bytes after which a write fails
+  -- what is still to come from outside: replies, refusals, and the number of bytes after which a write fails
   pub replies : List KernelReply
   pub lacks : List Lack
   pub halt : Option ℕ
@@ -24,15 +24,19 @@ pub record Playing (S : Type 0) : Type 0 where
   pub asks : List KernelAsk
   pub bytes : List ℕ
 
--- the refusal in the turn of this number, where the next one is meant for it and may come there
+-- whether a refusal is meant for the turn of this number and may come there
+abbrev pub is_met : (LackPlace → Bool) → ℕ → Lack → Bool
+is_met may turn lack = (lack.0 == turn) && may lack.1
+
+-- the refusal in the turn of this number: the first one that is met there
 abbrev pub lack_at : (LackPlace → Bool) → ℕ → List Lack → Option LackPlace
 lack_at may turn [] = None
-lack_at may turn (lack ∷ lacks) = if (lack.0 == turn) && may lack.1 then Some lack.1 else None
+lack_at may turn (lack ∷ lacks) = if is_met may turn lack then Some lack.1 else lack_at may turn lacks
 
-abbrev pub lacks_after : Option LackPlace → List Lack → List Lack
-lacks_after None lacks = lacks
-lacks_after (Some place) [] = []
-lacks_after (Some place) (lack ∷ lacks) = lacks
+-- .. which is used up; all others are left
+abbrev pub lacks_after : (LackPlace → Bool) → ℕ → List Lack → List Lack
+lacks_after may turn [] = []
+lacks_after may turn (lack ∷ lacks) = if is_met may turn lack then lacks else lack ∷ lacks_after may turn lacks
 
 -- how many of so many bytes go out behind those that did, where the write fails
 abbrev pub halt_within : Option ℕ → ℕ → ℕ → Option ℕ
@@ -59,7 +63,7 @@ module _ {S : Type 0} (m : Machine S) (traced : Bool) (most : ℕ) where
 
   -- somebody is given an answer
   abbrev pub turns_one : Playing S → (Option LackPlace → Config S) → Playing S
-  turns_one p after = record p { config = after (lack_of p); lacks = lacks_after (lack_of p) p.lacks }
+  turns_one p after = record p { config = after (lack_of p); lacks = lacks_after (m.may_lack p.config.state) (turn_number p.config) p.lacks }
 
   -- the lines that are due go out, all of them or a part
   abbrev pub writes : Playing S → Place → Option ℕ → Playing S

@@ -3,6 +3,7 @@ use Rattle.std.specs.Prelude.{◌≡◌, ℕ, List, [], ◌∷◌, ◌++◌, Som
 use Rattle.rand_core.specs.Stream.{Stream}
 use Rattle.dill_base.specs.declared.status.Status.{Status}
 use Rattle.dill_base.specs.declared.status.Status.TheVariants as status
+use Rattle.dill_calls.specs.declared.ran.LackPlace.TheVariants.{Build}
 use Rattle.dill_kernel.specs.declared.ready.Limit.TheVariants.{NoWait}
 use Rattle.dill_kernel.specs.declared.replies.KernelAsk.{KernelAsk}
 use Rattle.dill_kernel.specs.declared.replies.KernelAsk.TheVariants.{Wait}
@@ -11,7 +12,7 @@ use Rattle.dill_kernel.specs.declared.replies.KernelReply.TheVariants.{Woke}
 use Rattle.dill_rules.specs.State.{State, opening_state}
 use Rattle.dill_drive.specs.ByRules.{machine_of}
 use Rattle.dill_drive.specs.Prints.{View, printing, starting}
-use Rattle.dill_drive.specs.Play.{Playing, play, opening}
+use Rattle.dill_drive.specs.Play.{Lack, Playing, play, opening}
 
 -- words of a generator that draws none
 abbrev pub no_words : Stream
@@ -50,6 +51,10 @@ run traced most replies halt = play (machine_of printing) traced most 30 (openin
 abbrev pub woke_once : List KernelReply
 woke_once = Woke 0 [] ∷ []
 
+-- the refusals that are left of a list at the end
+abbrev pub left_of : List Lack → List Lack
+left_of lacks = (play (machine_of printing) false 1000 30 (opening (machine_of printing) false 1000 (opening_state two no_words) no_words woke_once lacks None)).lacks
+
 pub record Rows : Type 0 where
   pub two_prints : seen (run false 1000 woke_once None) ≡ waits_once (hello_bye ++ summary) status.Well
   pub two_prints_traced : seen (run true 1000 woke_once None) ≡ waits_once (traced_hello_bye ++ summary) status.Well
@@ -63,3 +68,6 @@ pub record Rows : Type 0 where
   -- a budget of two: one round and one turn, and the rest after the stop
   pub spent : seen (run false 2 woke_once None)
       ≡ waits_once (hello_bye ++ codes "summary status=7 errno=none turns=1 rounds=1 closing=2 made=0 gone=0 lacks=0\n") status.Spent
+  -- a refusal that isn't met stays, and keeps none behind it from being met; a turn meets one at most
+  pub unmet_is_left : left_of ((0, Build) ∷ (1, Build) ∷ []) ≡ (0, Build) ∷ []
+  pub one_in_a_turn : left_of ((1, Build) ∷ (1, Build) ∷ []) ≡ (1, Build) ∷ []

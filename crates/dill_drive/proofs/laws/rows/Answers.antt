@@ -11,4 +11,6 @@ returns c = record {
   failed_output = refl;
   half_a_summary = refl;
   spent = refl;
+  unmet_is_left = refl;
+  one_in_a_turn = refl;
 }
