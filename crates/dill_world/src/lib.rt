@@ -3,6 +3,7 @@
 #![tactic(auto)]
 
 mod answers;
+mod entering;
 mod kinds;
 mod naming;
 mod owning;
