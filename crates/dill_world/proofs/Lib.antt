@@ -5,3 +5,6 @@ pub mod Leaving
 pub mod Places
 pub mod Quiet
 pub mod Running
+pub mod Told
+pub mod Unrefused
+pub mod Gifts
