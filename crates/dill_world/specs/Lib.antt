@@ -1,4 +1,5 @@
-pub mod Store
+pub mod Brief
 pub mod Steps
+pub mod Store
 pub mod Ways
 pub mod Needs

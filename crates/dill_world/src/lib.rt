@@ -10,6 +10,8 @@ mod owning;
 mod refusals;
 mod rows;
 mod taking;
+#[cfg(test)]
+mod tests;
 mod world;
 
 pub use world::World;
