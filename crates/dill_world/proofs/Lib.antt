@@ -1,5 +1,6 @@
 pub mod Bearing
 pub mod Each
+pub mod Entered
 pub mod Finding
 pub mod Leaving
 pub mod Places

@@ -86,3 +86,11 @@ module _ {V : Type 0} (p : Program V) (w : World V) (who : ℕ) (view : V) where
 
   pub bundle_go_known : (number program : ℕ) (args : List Arg) → refuse p w who view (calls.BundleGo number program args) ≡ None → p.knows view program (length args) ≡ true
   bundle_go_known number program args e = not_both (p.knows view program (length args)) (has_twice (gifts_of args)) (invalid_none (calls.BundleGo number program args) e)
+
+room_small : (a k n : ℕ) (b : Bool) → (b && nat_le (a + k + n) 2147483647) ≡ true → a + n ≤ 2147483647
+room_small a k n true e = grind (arith, nat_tests)
+room_small a k n false e = cc
+
+-- the numbers that are drawn are small
+pub unrefused_small : {T : Type 0} (h : handles.Handles T) (n : ℕ) → handles.has_room h n ≡ true → h.last + n ≤ 2147483647
+unrefused_small h n e = room_small h.last h.kept n (nat_le (length h.entries + h.kept + n) 65536) e

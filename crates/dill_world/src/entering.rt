@@ -1,4 +1,4 @@
-ghost use Rattle.std.specs.Prelude.{◌≡◌, ◌+◌, ◌<◌, ◌≤◌, ◌^◌, ◌++◌, length, is_some, true, false, None, IfErr, IfOk, OnOk, OnErr};
+ghost use Rattle.std.specs.Prelude.{◌≡◌, ◌+◌, ◌<◌, ◌^◌, ◌++◌, length, is_some, true, false, Some, None, IfOk, OnOk, OnErr};
 ghost use Rattle.dill_plain.specs.Plain.{is_plain};
 ghost use Rattle.dill_calls.specs.CallTable.{word_of, takes_memory};
 ghost use Rattle.dill_handles.specs.Handles as handles;
@@ -9,7 +9,10 @@ ghost use Rattle.dill_rules.specs.Owning as owning;
 ghost use Rattle.dill_rules.specs.Refusals as refusals;
 ghost use Rattle.dill_world.specs.Needs.{needs_memory, HasView, Enters};
 ghost use Rattle.dill_world.specs.Store.{world_of, may_wait, is_short_answer};
+ghost use Rattle.dill_base.specs.declared.errno.Errno.TheVariants.{Enomem};
+ghost use Rattle.dill_calls.specs.declared.answer.Answer.TheVariants.{Fault};
 ghost use Rattle.dill_calls.specs.declared.call.Call.TheVariants as calls;
+ghost use Rattle.dill_rules.specs.World.{reply};
 
 use crate::kinds::value_of;
 use crate::naming::draws_of;
@@ -109,10 +112,10 @@ impl<B: Drop> World<B> {
 
 impl<B: Body> World<B> {
     /// The effect of a call that isn't refused and takes no memory.
-    fn perform(&mut self, who: u64, call: Call)
-        requires plain { is_plain call ≡ true }
-        requires free { needs_memory call ≡ false }
-        ensures { (view : B) → world_of self.new ≡ entering.perform B.means (world_of self.old) who view call }
+    fn perform(&mut self, who: u64, call: &Call)
+        requires plain { is_plain call.now ≡ true }
+        requires free { needs_memory call.now ≡ false }
+        ensures { (view : B) → world_of self.new ≡ entering.perform B.means (world_of self.old) who view call.now }
     {
         match call {
             Call::Print(_) => self.reply(who, Word::Print, Answer::Number(0)),
@@ -121,13 +124,13 @@ impl<B: Body> World<B> {
                 self.reply(who, Word::Now, Answer::Number(moment));
             }
             Call::Yield => self.reply(who, Word::Yield, Answer::Number(0)),
-            Call::Msleep(deadline) => self.pend(who, Call::Msleep(deadline)),
-            Call::Hquery(number, _) => self.query(who, number),
-            Call::Hclose(number) => self.close(who, number),
+            Call::Msleep(deadline) => self.pend(who, Call::Msleep(*deadline)),
+            Call::Hquery(number, _) => self.query(who, *number),
+            Call::Hclose(number) => self.close(who, *number),
             Call::BundleWait(number, deadline) => {
-                self.pend(who, Call::BundleWait(number, deadline));
+                self.pend(who, Call::BundleWait(*number, *deadline));
             }
-            Call::Pass(word, fault) => self.reply(who, word, passed_answer(fault)),
+            Call::Pass(word, fault) => self.reply(who, *word, passed_answer(*fault)),
             _ => {}
         }
     }
@@ -315,29 +318,53 @@ impl<B: Drop> World<B> {
 }
 
 impl<B: Body> World<B> {
-    /// A call of a coroutine is entered. It answers whether memory was refused it.
-    pub fn enter(&mut self, who: u64, call: Call) -> bool
-        requires { is_plain call ≡ true }
-        ensures { (view : B) → HasView (world_of self.old) who view → world_of self.new ≡ entering.enter B.means result (world_of self.old) who view call }
+    /// What a call of a coroutine that is there is refused with, if it is refused.
+    fn refusal(&self, who: u64, call: &Call) -> Option<Option<Errno>>
+        requires { is_plain call.now ≡ true }
+        ensures there { result ≡ None → (view : B) → HasView (world_of self.now) who view → ⊥ }
+        ensures value { (view : B) → HasView (world_of self.now) who view → result ≡ Some (refusals.refuse B.means (world_of self.now) who view call.now) }
+        ensures free { result ≡ Some None → Enters B.means (world_of self.now) who call.now }
     {
-        let refused = match self.coroutine_of(who) {
-            None => return false,
-            Some(one) => self.refuse(who, &one.body, &call),
-        };
-        if let Some(errno) = refused {
-            self.reply(who, call.word(), Answer::Fault(errno));
-            return false;
+        match self.coroutine_of(who) {
+            None => None,
+            Some(one) => Some(self.refuse(who, &one.body, call)),
         }
-        if !needs_memory(&call) {
+    }
+
+    /// A call that isn't refused is done, and answered where its deadline is passed. It answers whether memory was refused it.
+    fn admit(&mut self, who: u64, call: &Call) -> bool
+        requires plain { is_plain call.now ≡ true }
+        requires enters { Enters B.means (world_of self.old) who call.now }
+        ensures needs { result ≡ true → needs_memory call.now ≡ true }
+        ensures lacks { result ≡ true → world_of self.new ≡ reply (world_of self.old) who (word_of call.now) (Fault Enomem) }
+        ensures done { result ≡ false → (view : B) → HasView (world_of self.old) who view → world_of self.new ≡ entering.done B.means (world_of self.old) who view call.now }
+    {
+        if !needs_memory(call) {
             self.perform(who, call);
             self.meet_deadline(who);
             return false;
         }
-        if self.perform_with(who, &call).is_err() {
+        if self.perform_with(who, call).is_err() {
             self.reply(who, call.word(), Answer::Fault(Errno::Enomem));
             return true;
         }
         self.meet_deadline(who);
         false
+    }
+
+    /// A call of a coroutine is entered. It answers whether memory was refused it.
+    pub fn enter(&mut self, who: u64, call: &Call) -> bool
+        requires { is_plain call.now ≡ true }
+        ensures met { result ≡ true → (view : B) → HasView (world_of self.old) who view → entering.may_lack_entry B.means (world_of self.old) who view call.now ≡ true }
+        ensures entered { (view : B) → HasView (world_of self.old) who view → world_of self.new ≡ entering.enter B.means result (world_of self.old) who view call.now }
+    {
+        match self.refusal(who, call) {
+            None => false,
+            Some(None) => self.admit(who, call),
+            Some(Some(errno)) => {
+                self.reply(who, call.word(), Answer::Fault(errno));
+                false
+            }
+        }
     }
 }

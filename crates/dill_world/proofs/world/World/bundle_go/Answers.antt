@@ -1,14 +1,23 @@
-use Rattle.std.proofs.Common.{◌≡◌, ◌∙◌, ◌+◌, ◌<◌, ap, sym, refl, subst}
+use Rattle.std.proofs.Common.{◌≡◌, ◌∙◌, ◌+◌, ◌<◌, ◌≤◌, length, ap, sym, refl, subst, arith}
 use Rattle.dill_rules.specs.Effects.{told}
 use Rattle.dill_rules.specs.Entering as entering
+use Rattle.dill_rules.specs.Naming.{draws_of, gifts_of}
 use Rattle.dill_rules.specs.Refusals.{refuse}
 use Rattle.dill_rules.specs.Effects as effects
 use Rattle.dill_rules.specs.Taking.{bundle_named}
 use Rattle.dill_world.specs.Needs.{needs_memory}
 use Rattle.dill_world.specs.Store.{world_of}
 use Rattle.dill_world.proofs.Gifts.{bundle_gone}
-use Rattle.dill_world.proofs.Unrefused.{unrefused_room, bundle_go_few}
+use Rattle.dill_world.proofs.Unrefused.{unrefused_room, unrefused_small, bundle_go_few}
 use Rattle.dill_world.proofs.world.World.bundle_go.Goals as goal
+
+pub child_of-requires-clause-small : goal.child_of-requires-clause-small
+child_of-requires-clause-small g c =
+    let room = unrefused_room g.B.Body.means (world_of c.args.self.now) c.args.who c.requires.enters.view c.args.call.now (ap needs_memory c.requires.call) c.requires.enters.free in
+    let few : c.args.self.now.handles.last + draws_of c.args.call.now ≤ 2147483647 = unrefused_small c.args.self.now.handles (draws_of c.args.call.now) room in
+    let draws : draws_of c.args.call.now ≡ length (gifts_of c.args.args.now) = ap draws_of c.requires.call in
+    let last : c.last-number.result ≡ c.args.self.now.handles.last = c.last-number.ensures.value ∙ ap (λ h. h.last) c.handles.ensures in
+    omega (arith, few, draws, last)
 
 pub keep_for-requires : goal.keep_for-requires
 keep_for-requires g c = unrefused_room g.B.Body.means (world_of c.args.self.now) c.args.who c.requires.enters.view c.args.call.now (ap needs_memory c.requires.call) c.requires.enters.free
