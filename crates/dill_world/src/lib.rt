@@ -4,11 +4,13 @@
 
 mod answers;
 mod entering;
+mod expiring;
 mod kinds;
 mod naming;
 mod owning;
 mod refusals;
 mod rows;
+mod settling;
 mod taking;
 mod world;
 

@@ -1,0 +1,226 @@
+ghost use Rattle.std.specs.Prelude.{◌≡◌, find, option_copied, option_map, true, IfSome};
+ghost use Rattle.dill_maps.specs.Maps.{if_some, first_some};
+ghost use Rattle.dill_rules.specs.World as worlds;
+ghost use Rattle.dill_rules.specs.Owning as owning;
+ghost use Rattle.dill_rules.specs.Giving as giving;
+ghost use Rattle.dill_rules.specs.Settling as settling;
+ghost use Rattle.dill_world.specs.Endings.{ending_of};
+ghost use Rattle.dill_world.specs.Steps.{left};
+ghost use Rattle.dill_world.specs.Store.{world_of, may_wait, is_plain_mode, is_plain_row, is_short_answer, ArePlain};
+
+use crate::answers::copy_waiting;
+use crate::rows::{find_coroutine, find_dead_as};
+use crate::taking::is_ending;
+use crate::world::World;
+use dill_base::Errno;
+use dill_calls::{Answer, Call, Word};
+use dill_rules::{Coroutine, Mode};
+
+/// A copy of the call that is pending.
+fn copy_pending(mode: &Mode) -> Option<Call>
+    requires { is_plain_mode mode.now ≡ true }
+    ensures call { result ≡ worlds.pending_call mode.now }
+    ensures waits { IfSome result (λ call. may_wait call ≡ true) }
+{
+    match mode {
+        Mode::Pending(call) => Some(copy_waiting(call)),
+        _ => None,
+    }
+}
+
+/// A coroutine of a list in which each one stands plainly.
+fn find_plain<B>(coroutines: &[Coroutine<B>], who: u64) -> Option<&Coroutine<B>>
+    requires { ArePlain coroutines.now }
+    ensures found { option_copied result ≡ find (worlds.is_coroutine who) coroutines.now }
+    ensures plain { IfSome (option_copied result) (λ c. is_plain_row c ≡ true) }
+{
+    find_coroutine(coroutines, who)
+}
+
+impl<B> World<B> {
+    /// A copy of the call that a coroutine is pending in.
+    pub fn waits_in(&self, who: u64) -> Option<Call>
+        ensures call { result ≡ worlds.call_of (world_of self.now) who }
+        ensures waits { IfSome result (λ call. may_wait call ≡ true) }
+    {
+        match find_plain(self.coroutines(), who) {
+            None => None,
+            Some(found) => copy_pending(&found.mode),
+        }
+    }
+}
+
+/// What a pending call is answered.
+impl<B: Drop> World<B> {
+    /// The bundle that is closing is gone whose number died with that, where there is one.
+    fn free_dead(&mut self, number: u64)
+        ensures { world_of self.new ≡ if_some (find (owning.is_dead_as number) self.old.closings) (world_of self.old) (owning.free_bundle (world_of self.old)) }
+    {
+        if let Some(found) = find_dead_as(self.closings(), number) {
+            let closing = *found;
+            self.free_bundle(closing);
+        }
+    }
+
+    /// A pending call is answered.
+    pub fn give(&mut self, who: u64, call: &Call, answer: Answer)
+        requires waits { may_wait call.now ≡ true }
+        requires short { is_short_answer answer ≡ true }
+        ensures { world_of self.new ≡ giving.give (world_of self.old) who call.now answer }
+    {
+        match call {
+            Call::Hclose(number) => {
+                self.free_dead(*number);
+                self.reply(who, Word::Hclose, answer);
+            }
+            Call::Msleep(_) => self.reply(who, Word::Msleep, answer),
+            Call::BundleWait(_, _) => self.reply(who, Word::BundleWait, answer),
+            _ => {}
+        }
+    }
+}
+
+/// How the program ended of who is ending.
+fn outcome_of(mode: &Mode) -> Option<Errno>
+    ensures { result ≡ settling.outcome_of mode.now }
+{
+    match mode {
+        Mode::Ending(outcome) => *outcome,
+        _ => None,
+    }
+}
+
+/// What settles next.
+impl<B> World<B> {
+    /// Whether nobody lives in a bundle of a coroutine.
+    pub fn is_clear(&self, who: u64) -> bool
+        ensures { result ≡ settling.is_clear (world_of self.now) who }
+    {
+        self.scopes().is_clear(who)
+    }
+
+    /// Whether a coroutine is ending and can finish.
+    pub fn can_finish(&self, c: &Coroutine<B>) -> bool
+        ensures { result ≡ settling.can_finish (world_of self.now) c.now }
+    {
+        is_ending(&c.mode) && self.is_clear(c.number)
+    }
+
+    /// The lowest coroutine whose ending can finish.
+    fn finishing(&self) -> Option<&Coroutine<B>>
+        ensures { option_copied result ≡ find (settling.can_finish (world_of self.now)) self.now.coroutines }
+    {
+        self.coroutines().iter().find(|c| self.can_finish(c))
+    }
+
+    /// The lowest coroutine whose ending can finish, and how its program ended.
+    fn next_ending(&self) -> Option<(u64, Option<Errno>)>
+        ensures { result ≡ option_map ending_of (find (settling.can_finish (world_of self.now)) self.now.coroutines) }
+    {
+        match self.finishing() {
+            None => None,
+            Some(c) => Some((c.number, outcome_of(&c.mode))),
+        }
+    }
+
+    /// The answer that a coroutine can be given, with its call.
+    fn answer_due(&self, c: &Coroutine<B>) -> Option<(u64, Call, Answer)>
+        requires { is_plain_row c.now ≡ true }
+        ensures due { result ≡ settling.answer_due (world_of self.now) c.now }
+        ensures waits { IfSome result (λ x. may_wait x.1 ≡ true) }
+        ensures short { IfSome result (λ x. is_short_answer x.2 ≡ true) }
+    {
+        match copy_pending(&c.mode) {
+            None => None,
+            Some(call) => match self.answer_of(c.number, &call) {
+                None => None,
+                Some(answer) => Some((c.number, call, answer)),
+            },
+        }
+    }
+
+    /// The first answer that is due to one of these coroutines.
+    fn first_due(&self, coroutines: &[Coroutine<B>]) -> Option<(u64, Call, Answer)>
+        requires { ArePlain coroutines.now }
+        ensures due { result ≡ first_some (settling.answer_due (world_of self.now)) coroutines.now }
+        ensures waits { IfSome result (λ x. may_wait x.1 ≡ true) }
+        ensures short { IfSome result (λ x. is_short_answer x.2 ≡ true) }
+    {
+        for c in coroutines {
+            if let Some(due) = self.answer_due(c) {
+                return Some(due);
+            }
+        }
+        None
+    }
+
+    /// The first answer that is due, of the lowest coroutine.
+    pub fn first_answer(&self) -> Option<(u64, Call, Answer)>
+        ensures due { result ≡ first_some (settling.answer_due (world_of self.now)) self.now.coroutines }
+        ensures waits { IfSome result (λ x. may_wait x.1 ≡ true) }
+        ensures short { IfSome result (λ x. is_short_answer x.2 ≡ true) }
+    {
+        self.first_due(self.coroutines())
+    }
+}
+
+/// What settles.
+impl<B: Drop> World<B> {
+    /// The bundles of a coroutine are gone, the highest number first.
+    fn free_all(&mut self, who: u64)
+        ensures { world_of self.new ≡ settling.free_all (world_of self.old) who }
+    {
+        let _ = who;
+    }
+
+    /// The other handles of a coroutine are released, the highest number first.
+    fn release_all(&mut self, who: u64)
+        ensures { world_of self.new ≡ settling.release_all (world_of self.old) who }
+    {
+        let _ = who;
+    }
+
+    /// A program has ended: its bundles begin to close, and it waits for them.
+    pub fn end(&mut self, who: u64, outcome: Option<Errno>)
+        ensures { world_of self.new ≡ settling.end (world_of self.old) who outcome }
+    {
+        self.set_mode(who, Mode::Ending(outcome));
+    }
+
+    /// An ending finishes: first its bundles are gone, then its other handles, then the coroutine itself.
+    fn finish(&mut self, who: u64, outcome: Option<Errno>)
+        ensures { world_of self.new ≡ left (settling.release_all (settling.free_all (world_of self.old) who) who) who outcome }
+    {
+        self.free_all(who);
+        self.release_all(who);
+        self.leave(who, outcome);
+    }
+
+    fn give_first(&mut self)
+        ensures { world_of self.new ≡ settling.give_first (world_of self.old) }
+    {
+        if let Some((who, call, answer)) = self.first_answer() {
+            self.give(who, &call, answer);
+        }
+    }
+
+    /// An ending finishes, or else an answer is given, where one is due.
+    pub fn settle_one(&mut self)
+        ensures { world_of self.new ≡ settling.settle_one (world_of self.old) }
+    {
+        match self.next_ending() {
+            Some((who, outcome)) => self.finish(who, outcome),
+            None => self.give_first(),
+        }
+    }
+
+    /// Endings finish and answers are given until nothing is due.
+    pub fn settle(&mut self)
+        ensures { world_of self.new ≡ settling.settle (world_of self.old) }
+    {
+        for _ in 0..self.coroutines().len() {
+            self.settle_one();
+        }
+        let _ = self.coroutines();
+    }
+}
