@@ -1,9 +1,10 @@
 -- Worked runs of handles, bundles and sleeping.
-use Rattle.std.specs.Prelude.{◌≡◌, true, ℕ, suc, zero, List, [], ◌∷◌, codes, decimal}
+use Rattle.std.specs.Prelude.{◌≡◌, true, ℕ, suc, zero, List, [], ◌∷◌, codes, decimal, map}
 use Rattle.dill_base.specs.declared.deadline.Deadline.TheVariants.{Never, At}
 use Rattle.dill_calls.specs.declared.call.Call.TheVariants as calls
 use Rattle.dill_calls.specs.declared.lists.Arg.TheVariants.{Show}
-use Rattle.dill_rows.specs.Play.{Does, Tries, Again, Text}
+use Rattle.dill_rules.specs.Debts.{debt}
+use Rattle.dill_rows.specs.Play.{Does, Tries, Again, Text, playing}
 use Rattle.dill_rows.specs.Playing.{plain, nth, played, untraced}
 use Rattle.dill_rows.specs.Runs.{prints}
 
@@ -37,6 +38,11 @@ closed_whole (suc zero) args = plain 0 (Does (calls.Msleep Never) ∷ [])
 closed_whole (suc (suc zero)) args = plain 1 (Does (calls.Chrecv (nth args 0) 1 Never) ∷ [])
 closed_whole program args = plain 0 (Again ∷ [])
 
--- A bundle that is closed ends all its coroutines before it answers.
+-- the debt of the first bundle after so many steps
+abbrev pub debt_of : (ℕ → List ℕ → Text) → ℕ → ℕ
+debt_of table steps = debt (playing table) (played steps table).state 1
+
+-- A bundle that is closed ends all its coroutines before it answers. At its closing those that wait count 1 each, and the one whose start came before it 3; then each turn of theirs lowers the sum.
 pub record BundleClosedWhole : Type 0 where
   pub run : prints (played 40 closed_whole) (codes "1 start =0" ∷ codes "1 bundle =1" ∷ codes "1 chmake =2,3" ∷ codes "1 bundle_go =0" ∷ codes "2 start =0" ∷ codes "1 bundle_go =0" ∷ codes "3 start =0" ∷ codes "1 bundle_go =0" ∷ codes "4 start =0" ∷ codes "2 msleep ECANCELED" ∷ codes "2 end ECANCELED" ∷ codes "3 chrecv ECANCELED" ∷ codes "3 end ECANCELED" ∷ codes "4 yield ECANCELED" ∷ codes "4 end ECANCELED" ∷ codes "freed 1" ∷ codes "1 hclose =0" ∷ codes "1 end ok" ∷ codes "freed 3" ∷ codes "freed 2" ∷ codes "summary status=0 errno=none turns=13 rounds=1 closing=0 made=3 gone=3 lacks=0" ∷ []) ≡ true
+  pub debts : map (debt_of closed_whole) (10 ∷ 11 ∷ 12 ∷ 13 ∷ 14 ∷ []) ≡ 5 ∷ 3 ∷ 2 ∷ 1 ∷ 0 ∷ []

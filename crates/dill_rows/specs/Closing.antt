@@ -1,12 +1,12 @@
 -- Worked runs of taking, closing within closing, and budgets.
-use Rattle.std.specs.Prelude.{◌≡◌, ◌==◌, true, ℕ, suc, zero, List, [], ◌∷◌, codes}
+use Rattle.std.specs.Prelude.{◌≡◌, true, ℕ, suc, zero, List, [], ◌∷◌, codes, map}
 use Rattle.dill_base.specs.declared.deadline.Deadline.TheVariants.{Never, After}
 use Rattle.dill_calls.specs.declared.call.Call.TheVariants as calls
 use Rattle.dill_calls.specs.declared.lists.Arg.TheVariants.{Show}
-use Rattle.dill_rules.specs.Debts.{debt}
-use Rattle.dill_rows.specs.Play.{Does, Tries, Again, Text, playing}
+use Rattle.dill_rows.specs.Play.{Does, Tries, Again, Text}
 use Rattle.dill_rows.specs.Playing.{plain, nth, played, untraced}
 use Rattle.dill_rows.specs.Runs.{prints}
+use Rattle.dill_rows.specs.Bundles.{debt_of}
 
 abbrev pub own_bundle : ℕ → List ℕ → Text
 own_bundle zero args = plain 0 (Does calls.Bundle ∷ Does (calls.BundleGo 1 1 (Show 1 ∷ [])) ∷ Does (calls.BundleWait 1 Never) ∷ [])
@@ -68,14 +68,7 @@ sleeper_and_yielder zero args = plain 0 (Does calls.Bundle ∷ Does (calls.Bundl
 sleeper_and_yielder (suc zero) args = plain 0 (Does (calls.Msleep Never) ∷ [])
 sleeper_and_yielder program args = plain 0 (Again ∷ [])
 
--- the debt after so many steps
-abbrev pub debt_after : ℕ → ℕ
-debt_after steps = debt (playing sleeper_and_yielder) (played steps sleeper_and_yielder).state 1
-
 -- A closed bundle ends within the turns that its coroutines declare.
 pub record SleeperAndYielder : Type 0 where
   pub run : prints (played 40 sleeper_and_yielder) (codes "1 start =0" ∷ codes "1 bundle =1" ∷ codes "1 bundle_go =0" ∷ codes "2 start =0" ∷ codes "1 bundle_go =0" ∷ codes "3 start =0" ∷ codes "2 msleep ECANCELED" ∷ codes "2 end ECANCELED" ∷ codes "3 yield ECANCELED" ∷ codes "3 end ECANCELED" ∷ codes "freed 1" ∷ codes "1 hclose =0" ∷ codes "1 end ok" ∷ codes "summary status=0 errno=none turns=9 rounds=1 closing=0 made=1 gone=1 lacks=0" ∷ []) ≡ true
-  pub at_closing : debt_after 7 == 4 ≡ true
-  pub after_a_turn : debt_after 8 == 2 ≡ true
-  pub after_two : debt_after 9 == 1 ≡ true
-  pub after_three : debt_after 10 == 0 ≡ true
+  pub debts : map (debt_of sleeper_and_yielder) (7 ∷ 8 ∷ 9 ∷ 10 ∷ []) ≡ 4 ∷ 2 ∷ 1 ∷ 0 ∷ []

@@ -10,11 +10,17 @@ pub mod Looped
 pub mod Readings
 pub mod Lacks
 pub mod Limits
+pub mod Full
 pub mod InUse
 pub mod Session
 pub mod Words
 pub mod Relay
 pub mod Stories
+pub mod Failing
+pub mod Asked
+pub mod Scripted
+pub mod LongInput
+pub mod Settled
 pub mod Stops
 pub mod Ends
 pub mod Orders

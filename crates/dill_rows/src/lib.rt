@@ -10,6 +10,9 @@ ghost use Rattle.dill_rows.specs.Looped.{LoadCounts, LoopedDetach, LoopedWait};
 ghost use Rattle.dill_rows.specs.Readings.{Occupied, DeadClause, GiveUps, CancelledTakers, DoneAndBroken, GivenBack};
 ghost use Rattle.dill_rows.specs.Lacks.{LacksChangeNothing};
 ghost use Rattle.dill_rows.specs.Limits.{LimitsAreExact};
+ghost use Rattle.dill_rows.specs.Settled.{CloseFrameMet, HeadsWithoutCase, AnothersStack, MovedFirst, TakesAwaited};
+ghost use Rattle.dill_rows.specs.LongInput.{LongLines, LongMessages, LongHeads};
+ghost use Rattle.dill_rows.specs.Full.{HandlesRunOut, NumbersRunOut, LastHandle};
 ghost use Rattle.dill_rows.specs.InUse.{HandshakeKinds, LeavingOccupies, EndsAreSends, HeadsInUse};
 ghost use Rattle.dill_rows.specs.Stops.{RootClosingNotes, QueuedPongs, RefusedHeatsNothing, RepliesUsedUp, AllWaitersTold, ClosedBeforeStuck};
 ghost use Rattle.dill_rows.specs.Bounds.{BoundsOfLayers, BoundsOfChannels};
@@ -27,6 +30,9 @@ ghost use Rattle.dill_rows.specs.Handshakes.{ClientSession, RefusedHead};
 ghost use Rattle.dill_rows.specs.Leaving.{RequestThenBody, ClosedInOrder, GivenUpShut, CancelledLeavers};
 ghost use Rattle.dill_rows.specs.Relay.{RelayToWebsocket, LoadOfFour};
 ghost use Rattle.dill_rows.specs.Stories.{WorkedStories};
+ghost use Rattle.dill_rows.specs.Failing.{OutputFails};
+ghost use Rattle.dill_rows.specs.Asked.{AsksCarry};
+ghost use Rattle.dill_rows.specs.Scripted.{ScriptsRun, ScriptsPlay, ScriptsOverLinks};
 ghost use Rattle.dill_rows.specs.SameStories.{SameStories};
 
 /// Three deadlines at one moment pass in the order of the coroutines.
@@ -204,6 +210,30 @@ pub fn limits_are_exact()
     ensures { LimitsAreExact }
 {}
 
+/// A state that is nearly full: each call that draws a number, or needs a link or a coroutine, has the last one and is
+/// refused the next.
+pub fn no_room_is_refused()
+    ensures handles { HandlesRunOut }
+    ensures numbers { NumbersRunOut }
+    ensures run { LastHandle }
+{}
+
+/// Places that could be read in two ways.
+pub fn settled_places()
+    ensures close_frame { CloseFrameMet }
+    ensures heads { HeadsWithoutCase }
+    ensures stacks { AnothersStack }
+    ensures notes { MovedFirst }
+    ensures awaited { TakesAwaited }
+{}
+
+/// Lines, messages and heads at their limits, and one byte beyond.
+pub fn long_input()
+    ensures lines { LongLines }
+    ensures messages { LongMessages }
+    ensures heads { LongHeads }
+{}
+
 /// A WebSocket server over one connection, up to a frame that it refuses.
 pub fn websocket_server_session()
     ensures { WebsocketSession }
@@ -232,6 +262,23 @@ pub fn load_of_four()
 /// The story of a run over the rules: its bytes and its asks.
 pub fn worked_stories()
     ensures { WorkedStories }
+{}
+
+/// Output that fails at a line: exactly the lines before it are there.
+pub fn output_that_fails()
+    ensures { OutputFails }
+{}
+
+/// What the asks of a run carry.
+pub fn asks_carry()
+    ensures { AsksCarry }
+{}
+
+/// Scripts from their text to what they print.
+pub fn scripts_run()
+    ensures prints { ScriptsRun }
+    ensures plays { ScriptsPlay }
+    ensures links { ScriptsOverLinks }
 {}
 
 /// While a handshake is pending what needs a byte socket isn't supported, and all else is busy.

@@ -1,5 +1,5 @@
--- A test that each element of a list passes is still passed once one is changed or gone.
-use Rattle.std.proofs.Common.{◌≡◌, Bool, true, false, ◌&&◌, List, [], ◌∷◌, cond, refl}
+-- A test that each element of a list passes: it is still passed once one is changed or gone, and by one that is found.
+use Rattle.std.proofs.Common.{◌≡◌, Bool, true, false, ◌&&◌, List, [], ◌∷◌, Option, Some, find, cond, refl}
 use Rattle.std.specs.List.{list_all}
 use Rattle.dill_maps.specs.Maps.{change, without}
 
@@ -27,3 +27,13 @@ module _ {X : Type 0} (p : X → Bool) (test : X → Bool) where
   all_without (x ∷ xs) all =
       let parts : (p x ≡ true) × (list_all p xs ≡ true) = both (p x) (list_all p xs) all in
       all_cond (test x) xs (x ∷ without test xs) parts.1 (joined (p x) (list_all p (without test xs)) parts.0 (all_without xs parts.1))
+
+  found_cond : (b : Bool) (x y : X) (o : Option X) → p x ≡ true → (o ≡ Some y → p y ≡ true) → cond b (Some x) o ≡ Some y → p y ≡ true
+  found_cond true x y o h rest e = let same : x ≡ y = cc in rw (← same) h
+  found_cond false x y o h rest e = rest e
+
+  pub all_found : (xs : List X) (y : X) → list_all p xs ≡ true → find test xs ≡ Some y → p y ≡ true
+  all_found [] y all e = cc
+  all_found (x ∷ xs) y all e =
+      let parts : (p x ≡ true) × (list_all p xs ≡ true) = both (p x) (list_all p xs) all in
+      found_cond (test x) x y (find test xs) parts.0 (all_found xs y parts.1) e

@@ -1,3 +1,11 @@
-pub mod Places
+pub mod Bearing
 pub mod Each
 pub mod Lists
+pub mod Finding
+pub mod Leaving
+pub mod Places
+pub mod Quiet
+pub mod Running
+pub mod Told
+pub mod Unrefused
+pub mod Gifts

@@ -182,7 +182,7 @@ impl<B: Body> World<B> {
 
 /// What a child is told: the numbers that it is shown, and of its gifts the new ones, from the next on.
 fn told_from(next: u64, args: &[Arg], numbers: &mut Vec<u64>) -> Result<(), NoMemory>
-    requires { next + length args.now < 2 ^ 64 }
+    requires { next + length (naming.gifts_of args.now) < 2 ^ 64 }
     ensures { OnOk result (numbers.new.items ≡ numbers.old.items ++ effects.told next args.now) }
 {
     match args.split_first() {
@@ -206,7 +206,7 @@ impl<B: Body> World<B> {
     /// A new coroutine of a program that the caller's knows, which is told these arguments.
     fn child_of(&self, who: u64, program: u32, args: &[Arg], next: u64) -> Result<B, NoMemory>
         requires known { (view : B) → HasView (world_of self.now) who view → B.means.knows view program (length args.now) ≡ true }
-        requires small { next + length args.now < 2 ^ 64 }
+        requires small { next + length (naming.gifts_of args.now) < 2 ^ 64 }
         ensures { IfOk result (λ child. (view : B) → HasView (world_of self.now) who view → child ≡ B.means.child view program (effects.told next args.now)) }
     {
         let mut numbers = Vec::new(self.alloc());
@@ -221,7 +221,6 @@ impl<B: Body> World<B> {
     fn go(&mut self, who: u64, call: &Call, program: u32, args: &[Arg]) -> Result<(), NoMemory>
         requires call { call.now ≡ calls.Go program args.now }
         requires enters { Enters B.means (world_of self.old) who call.now }
-        requires few { length args.now < 2 ^ 32 }
         ensures ok { OnOk result ((view : B) → HasView (world_of self.old) who view → world_of self.new ≡ effects.go B.means (entering.keep_for (world_of self.old) call.now) who view program args.now) }
         ensures err { OnErr result (world_of self.new ≡ world_of self.old) }
     {
@@ -249,16 +248,15 @@ impl<B: Body> World<B> {
     ) -> Result<(), NoMemory>
         requires call { call.now ≡ calls.BundleGo bundle program args.now }
         requires enters { Enters B.means (world_of self.old) who call.now }
-        requires few { length args.now < 2 ^ 32 }
         ensures ok { OnOk result ((view : B) → HasView (world_of self.old) who view → world_of self.new ≡ effects.bundle_go B.means (entering.keep_for (world_of self.old) call.now) who view bundle program args.now) }
         ensures err { OnErr result (world_of self.new ≡ world_of self.old) }
     {
-        let Some(home) = self.bundle_named(bundle) else {
-            return Ok(());
-        };
         let number = self.handles().last() + 1;
         let child = self.child_of(who, program, args, number)?;
         self.keep_for(call)?;
+        let Some(home) = self.bundle_named(bundle) else {
+            return Ok(());
+        };
         if let Err(refused) = self.bear(child, home) {
             self.unkeep(draws_of(call));
             return Err(refused);
@@ -267,5 +265,79 @@ impl<B: Body> World<B> {
         self.give_all(args, owner);
         self.reply(who, Word::BundleGo, Answer::Number(0));
         Ok(())
+    }
+}
+
+/// Whether the entry of a call may want memory.
+fn needs_memory(call: &Call) -> bool
+    ensures { result ≡ needs_memory call.now }
+{
+    matches!(
+        call,
+        Call::Hmake(_, _) | Call::Hown(_) | Call::Bundle | Call::Go(_, _) | Call::BundleGo(_, _, _)
+    )
+}
+
+impl<B: Body> World<B> {
+    /// The effect of a call that isn't refused and may want memory. Refused, nothing changes.
+    fn perform_with(&mut self, who: u64, call: &Call) -> Result<(), NoMemory>
+        requires needs { needs_memory call.now ≡ true }
+        requires enters { Enters B.means (world_of self.old) who call.now }
+        ensures ok { OnOk result ((view : B) → HasView (world_of self.old) who view → world_of self.new ≡ entering.perform B.means (entering.keep_for (world_of self.old) call.now) who view call.now) }
+        ensures err { OnErr result (world_of self.new ≡ world_of self.old) }
+    {
+        match call {
+            Call::Hmake(kind, value) => self.make_value(who, call, *kind, *value),
+            Call::Hown(number) => self.own(who, call, *number),
+            Call::Bundle => self.make_bundle(who, call),
+            Call::Go(program, args) => self.go(who, call, *program, args.as_slice()),
+            Call::BundleGo(bundle, program, args) => {
+                self.bundle_go(who, call, *bundle, *program, args.as_slice())
+            }
+            _ => Ok(()),
+        }
+    }
+}
+
+impl<B: Drop> World<B> {
+    /// A call that is pending is answered at its entry where its deadline is passed.
+    fn meet_deadline(&mut self, who: u64)
+        ensures { world_of self.new ≡ entering.meet_deadline (world_of self.old) who }
+    {
+        if let Some(call) = self.call_of(who) {
+            if self.is_too_late(who, call) {
+                let word = call.word();
+                let answer = late_answer(call);
+                self.reply(who, word, answer);
+            }
+        }
+    }
+}
+
+impl<B: Body> World<B> {
+    /// A call of a coroutine is entered. It answers whether memory was refused it.
+    pub fn enter(&mut self, who: u64, call: Call) -> bool
+        requires { is_plain call ≡ true }
+        ensures { (view : B) → HasView (world_of self.old) who view → world_of self.new ≡ entering.enter B.means result (world_of self.old) who view call }
+    {
+        let refused = match self.coroutine_of(who) {
+            None => return false,
+            Some(one) => self.refuse(who, &one.body, &call),
+        };
+        if let Some(errno) = refused {
+            self.reply(who, call.word(), Answer::Fault(errno));
+            return false;
+        }
+        if !needs_memory(&call) {
+            self.perform(who, call);
+            self.meet_deadline(who);
+            return false;
+        }
+        if self.perform_with(who, &call).is_err() {
+            self.reply(who, call.word(), Answer::Fault(Errno::Enomem));
+            return true;
+        }
+        self.meet_deadline(who);
+        false
     }
 }

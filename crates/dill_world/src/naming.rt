@@ -1,13 +1,16 @@
-ghost use Rattle.std.specs.Prelude.{◌≡◌, ◌≤◌, ◌==◌, ◌∷◌, [], length, map, is_some};
+ghost use Rattle.std.specs.Prelude.{◌≡◌, ◌+◌, ◌<◌, ◌≤◌, ◌^◌, ◌==◌, ◌∷◌, [], length, map, is_some, IfOk};
 ghost use Rattle.std.specs.List.{list_any};
 ghost use Rattle.dill_maps.specs.Maps.{if_some};
 ghost use Rattle.dill_rules.specs.Naming.{gifts_of, gifts, chosen, end_of_clause, taken_by, draws_of, bears};
+ghost use Rattle.dill_rules.specs.Effects.{told};
 ghost use Rattle.dill_rules.specs.Directions.{is_send, is_receive, needs_top};
 ghost use Rattle.dill_rules.specs.Kinds.{kind_needed};
 ghost use Rattle.dill_rules.specs.Refusals.{is_accept, has_twice};
 ghost use Rattle.dill_rules.specs.Taking.{is_on, is_alone_on};
 
+use dill_base::NoMemory;
 use dill_calls::{Arg, Call, Clause, Word};
+use std::alloc::Global;
 
 /// The arguments with which a call makes a coroutine, none of another call.
 pub fn args_of(call: &Call) -> &[Arg]
@@ -261,4 +264,27 @@ pub fn is_accept(word: Word) -> bool
     ensures { result ≡ is_accept word }
 {
     matches!(word, Word::TcpAccept)
+}
+
+/// What a child is told, where the next number is this: the numbers that it is shown, and of its gifts the new ones.
+pub fn told(alloc: Global, next: u64, args: &[Arg]) -> Result<Vec<u64>, NoMemory>
+    requires { next + length (gifts_of args.now) < 2 ^ 64 }
+    ensures { IfOk result (λ numbers. numbers.items ≡ told next args.now) }
+{
+    let mut numbers = Vec::new(alloc);
+    let mut new = next;
+    for arg in args {
+        let number = match arg {
+            Arg::Show(number) => *number,
+            Arg::Give(_) => {
+                let given = new;
+                new += 1;
+                given
+            }
+        };
+        if numbers.push(number).is_err() {
+            return Err(NoMemory);
+        }
+    }
+    Ok(numbers)
 }

@@ -120,7 +120,8 @@ impl<B: Drop> World<B> {
 
     /// A bundle goes to the owner of its handle, and nothing else has an owner beside its handle's.
     pub fn take_thing(&mut self, thing: Thing, owner: u64)
-        ensures { world_of self.new ≡ owning.take_thing (world_of self.old) thing owner }
+        ensures taken { world_of self.new ≡ owning.take_thing (world_of self.old) thing owner }
+        ensures handles { self.new.handles ≡ self.old.handles }
     {
         if let Thing::Bundle(name) = thing {
             self.scopes.take(name, owner);
@@ -130,11 +131,11 @@ impl<B: Drop> World<B> {
     /// A number is dead, and the next one, which was kept, names its thing for an owner. Of a dead number it changes nothing.
     pub fn renumber(&mut self, number: u64, owner: u64)
         requires { 1 ≤ self.old.handles.kept }
-        ensures { world_of self.new ≡ owning.move (world_of self.old) number owner }
+        ensures moved { world_of self.new ≡ owning.move (world_of self.old) number owner }
+        ensures kept { self.old.handles.kept ≤ self.new.handles.kept + 1 }
     {
-        if let Some(found) = self.handles.entry(number) {
-            let thing = found.thing;
-            let next = self.handles.renumber(number, owner);
+        if let Some(thing) = self.handles.retire(number) {
+            let next = self.handles.make(thing, owner);
             let _ = self.notes.push(Note::Moved(number, next));
             self.take_thing(thing, owner);
         }

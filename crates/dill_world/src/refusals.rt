@@ -1,4 +1,4 @@
-ghost use Rattle.std.specs.Prelude.{◌≡◌, ◌&&◌, false, not, length, find};
+ghost use Rattle.std.specs.Prelude.{◌≡◌, ◌&&◌, ◌||◌, false, not, length, find};
 ghost use Rattle.std.specs.List.{list_any};
 ghost use Rattle.dill_calls.specs.CallTable.{word_of};
 ghost use Rattle.dill_maps.specs.Maps.{if_some};
@@ -7,7 +7,8 @@ ghost use Rattle.dill_rules.specs.Refusals as refusals;
 ghost use Rattle.dill_rules.specs.Taking.{is_on};
 ghost use Rattle.dill_rules.specs.World.{pending_call};
 ghost use Rattle.dill_world.specs.Store.{world_of};
-ghost use Rattle.dill_world.specs.Ways.{goes_by};
+ghost use Rattle.dill_world.specs.Ways.{goes_by, is_taken_up};
+ghost use Rattle.dill_world.specs.declared.refusals.Way.TheVariants as ways;
 
 use crate::naming::{bears, draws_of, gives_twice, is_accept, is_on, is_receive, is_send};
 use crate::world::World;
@@ -49,6 +50,26 @@ fn somebody_waits_so<B>(coroutines: &[Coroutine<B>], way: Way, number: u64) -> b
     ensures { result ≡ list_any (λ c. if_some (pending_call c.mode) false (λ call. goes_by way (word_of call) && is_on number call)) coroutines.now }
 {
     coroutines.iter().any(|c| waits_so(&c.mode, way, number))
+}
+
+/// Whether a call of this word uses a direction that is in use.
+fn is_taken_up<B>(coroutines: &[Coroutine<B>], word: Word, way: Way, number: u64) -> bool
+    ensures { result ≡ is_taken_up coroutines.now word way number }
+{
+    goes(way, word) && somebody_waits_so(coroutines, way, number)
+}
+
+/// Whether a call of this word uses any direction that is in use.
+fn is_in_some_use<B>(coroutines: &[Coroutine<B>], word: Word, number: u64) -> bool
+    ensures { result ≡ (is_taken_up coroutines.now word ways.Send number || (is_taken_up coroutines.now word ways.Receive number || is_taken_up coroutines.now word ways.Accept number)) }
+{
+    if is_taken_up(coroutines, word, Way::Send, number) {
+        return true;
+    }
+    if is_taken_up(coroutines, word, Way::Receive, number) {
+        return true;
+    }
+    is_taken_up(coroutines, word, Way::Accept, number)
 }
 
 /// Whether a clause is of a size over the limit.
@@ -134,12 +155,7 @@ impl<B> World<B> {
         let word = call.word();
         match call.handle() {
             None => false,
-            Some(number) => {
-                let all = self.coroutines();
-                (is_send(word) && somebody_waits_so(all, Way::Send, number))
-                    || (is_receive(word) && somebody_waits_so(all, Way::Receive, number))
-                    || (is_accept(word) && somebody_waits_so(all, Way::Accept, number))
-            }
+            Some(number) => { is_in_some_use(self.coroutines(), word, number) }
         }
     }
 

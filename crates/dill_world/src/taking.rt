@@ -1,10 +1,10 @@
-ghost use Rattle.std.specs.Prelude.{◌≡◌, false, map, option_copied};
+ghost use Rattle.std.specs.Prelude.{◌≡◌, false, true, map, IfSome, option_copied};
 ghost use Rattle.std.specs.List.{list_any};
 ghost use Rattle.dill_maps.specs.Maps.{if_some};
 ghost use Rattle.dill_rules.specs.World as worlds;
 ghost use Rattle.dill_rules.specs.Naming.{gifts_of, end_of_clause, taken_by};
 ghost use Rattle.dill_rules.specs.Taking as taking;
-ghost use Rattle.dill_world.specs.Store.{world_of};
+ghost use Rattle.dill_world.specs.Store.{world_of, is_plain_mode, may_wait};
 
 use crate::naming::{args_of, clauses_of, end_of_clause, is_alone_on, is_on, one_taken};
 use crate::rows::find_coroutine;
@@ -75,14 +75,16 @@ fn somebody_waits_alone_on<B>(coroutines: &[Coroutine<B>], number: u64) -> bool
 impl<B> World<B> {
     /// A coroutine that is there.
     pub fn coroutine_of(&self, who: u64) -> Option<&Coroutine<B>>
-        ensures { option_copied result ≡ worlds.coroutine_of (world_of self.now) who }
+        ensures value { option_copied result ≡ worlds.coroutine_of (world_of self.now) who }
+        ensures plain { IfSome result (λ c. is_plain_mode c.now.mode ≡ true) }
     {
         find_coroutine(self.coroutines(), who)
     }
 
     /// What a coroutine is pending in.
     pub fn call_of(&self, who: u64) -> Option<&Call>
-        ensures { option_copied result ≡ worlds.call_of (world_of self.now) who }
+        ensures value { option_copied result ≡ worlds.call_of (world_of self.now) who }
+        ensures plain { IfSome result (λ call. may_wait call.now ≡ true) }
     {
         match self.coroutine_of(who) {
             None => None,

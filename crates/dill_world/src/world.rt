@@ -1,12 +1,14 @@
-ghost use Rattle.std.specs.Prelude.{◌≡◌, true, IfOk};
+ghost use Rattle.std.specs.Prelude.{◌≡◌, ◌≤◌, true, find, IfOk, IfSome};
 ghost use Rattle.dill_rules.specs.World as worlds;
 ghost use Rattle.dill_scope.specs.Scopes as scopes;
 ghost use Rattle.dill_world.specs.Store.{world_of, no_words, may_wait, is_plain_mode, is_short_answer, ArePlain};
-ghost use Rattle.dill_world.specs.Steps.{left};
+ghost use Rattle.dill_calls.specs.Program.{Turns};
+ghost use Rattle.dill_rules.specs.Turning as turning;
+ghost use Rattle.dill_world.specs.Steps.{left, RunsOn, Resumed};
 
-use crate::rows::{drop_coroutine, put_mode};
+use crate::rows::{drop_coroutine, place_of, put_mode};
 use dill_base::{Errno, NoMemory};
-use dill_calls::{Answer, Call, Note, Word};
+use dill_calls::{Answer, Body, Call, Next, Note, Word};
 use dill_handles::Handles;
 use dill_rules::{Closing, Coroutine, Mode, Thing};
 use dill_scope::Scopes;
@@ -39,6 +41,43 @@ impl<B> Model for World<B> {
     ghost view = { λ w. record { coroutines = w.coroutines.items; handles = w.handles; scopes = w.scopes; closings = w.closings.items; moment = w.moment; last_coroutine = w.last_coroutine; last_bundle = w.last_bundle; ended = w.ended; notes = w.notes.items } };
 
     ghost invariant = { λ w. (length w.notes.items + (length w.handles.entries + w.handles.kept + length w.closings.items) ≤ vec_capacity w.notes) × (length w.closings.items + (length w.handles.entries + w.handles.kept) ≤ vec_capacity w.closings) × (w.last_bundle ≤ w.handles.last) × ArePlain w.coroutines.items };
+}
+
+/// A coroutine lives nowhere any more.
+fn leave_home(forest: &mut Scopes, who: u64)
+    ensures { forest.new ≡ scopes.ended forest.old who }
+{
+    match forest.home_of(who) {
+        None => {}
+        Some(_) => {
+            let _ = forest.ended(who);
+        }
+    }
+}
+
+/// Gives a coroutine an answer, from which its program runs on.
+fn run_on<B: Body>(one: &mut Coroutine<B>, given: Answer) -> Next
+    requires { 1 ≤ B.means.left one.old.body }
+    ensures turns { Turns B.means one.old.body given one.new.body result }
+    ensures runs { one.new ≡ turning.as_running one.new.body one.old }
+{
+    one.mode = Mode::Running;
+    one.body.turn(given)
+}
+
+/// Where a coroutine stands, it runs on from an answer.
+fn run_at<B: Body>(coroutines: &mut Vec<Coroutine<B>>, who: u64, given: Answer) -> Option<Next>
+    requires { IfSome (find (worlds.is_coroutine who) coroutines.old.items) (λ c. 1 ≤ B.means.left c.body) }
+    ensures runs { RunsOn B.means coroutines.old.items coroutines.new.items who given result }
+    ensures plain { ArePlain coroutines.old.items → ArePlain coroutines.new.items }
+{
+    match place_of(coroutines, who) {
+        None => None,
+        Some(at) => {
+            let one = &mut coroutines[at];
+            Some(run_on(one, given))
+        }
+    }
 }
 
 impl<B> World<B> {
@@ -197,11 +236,19 @@ impl<B: Drop> World<B> {
         ensures { world_of self.new ≡ left (world_of self.old) who outcome }
     {
         drop_coroutine(&mut self.coroutines, who);
-        if self.scopes.home_of(who).is_some() {
-            let _ = self.scopes.ended(who);
-        }
+        leave_home(&mut self.scopes, who);
         if who == 1 {
             self.ended = Some(outcome);
         }
+    }
+}
+
+impl<B: Body> World<B> {
+    /// A coroutine is given an answer and runs on to its next call or its end. None where it isn't there.
+    pub fn resume(&mut self, who: u64, given: Answer) -> Option<Next>
+        requires { IfSome (worlds.coroutine_of (world_of self.old) who) (λ c. 1 ≤ B.means.left c.body) }
+        ensures { Resumed B.means (world_of self.old) (world_of self.new) who given result }
+    {
+        run_at(&mut self.coroutines, who, given)
     }
 }

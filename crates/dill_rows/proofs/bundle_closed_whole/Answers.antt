@@ -4,4 +4,4 @@ use Rattle.dill_rows.proofs.bundle_closed_whole.Goals as goal
 
 pub returns : goal.returns
 unfolding digits
-returns c = record { run = refl }
+returns c = record { run = refl; debts = refl }

@@ -4,4 +4,4 @@ use Rattle.dill_rows.proofs.close_sleeper_and_yielder.Goals as goal
 
 pub returns : goal.returns
 unfolding digits
-returns c = record { run = refl; at_closing = refl; after_a_turn = refl; after_two = refl; after_three = refl }
+returns c = record { run = refl; debts = refl }

@@ -1,0 +1,34 @@
+use Rattle.std.proofs.Common.{◌≡◌, ◌∙◌, ◌+◌, ◌<◌, ap, sym, refl, subst}
+use Rattle.dill_rules.specs.Effects.{told}
+use Rattle.dill_rules.specs.Entering as entering
+use Rattle.dill_rules.specs.Refusals.{refuse}
+use Rattle.dill_rules.specs.Effects as effects
+use Rattle.dill_rules.specs.Taking.{bundle_named}
+use Rattle.dill_world.specs.Needs.{needs_memory}
+use Rattle.dill_world.specs.Store.{world_of}
+use Rattle.dill_world.proofs.Gifts.{bundle_gone}
+use Rattle.dill_world.proofs.Unrefused.{unrefused_room, bundle_go_few}
+use Rattle.dill_world.proofs.world.World.bundle_go.Goals as goal
+
+pub keep_for-requires : goal.keep_for-requires
+keep_for-requires g c = unrefused_room g.B.Body.means (world_of c.args.self.now) c.args.who c.requires.enters.view c.args.call.now (ap needs_memory c.requires.call) c.requires.enters.free
+
+pub bear-requires : goal.bear-requires
+bear-requires g c =
+    let free = ap (refuse g.B.Body.means (world_of c.args.self.now) c.args.who c.requires.enters.view) (sym c.requires.call) ∙ c.requires.enters.free in
+    subst (λ n. n + 1 < 18446744073709551616) (sym (ap (λ v. v.last_coroutine) c.in_ok-keep_for.ensures.ok)) (bundle_go_few g.B.Body.means (world_of c.args.self.now) c.args.who c.requires.enters.view c.args.bundle c.args.program c.args.args.now free)
+
+pub returns-clause-ok : goal.returns-clause-ok
+returns-clause-ok g c =
+    λ view has.
+    let k = entering.keep_for (world_of c.args.self.now) c.args.call.now in
+    let named = ap (λ v. bundle_named v c.args.bundle) (sym c.in_ok-keep_for.ensures.ok) ∙ sym c.in-Some.ensures in
+    let born = c.in_default-bear.ensures.ok ∙ ap (λ v. effects.bear v c.in_ok-child.child c.in-Some.home) c.in_ok-keep_for.ensures.ok in
+    let last = c.last-number.ensures.value ∙ ap (λ h. h.last) c.handles.ensures in
+    bundle_gone g.B.Body.means k (world_of c.bear.new.self) (world_of c.give_all.new.self) (world_of c.reply.new.self) c.args.who c.last_coroutine-owner.result c.args.bundle c.in-Some.home c.args.program view c.in_ok-child.child c.args.args.now
+    named
+    born
+    c.give_all.ensures
+    c.reply.ensures
+    (c.in_ok-child.ensures view has ∙ ap (λ n. g.B.Body.means.child view c.args.program (told (n + 1) c.args.args.now)) last)
+    (c.last_coroutine-owner.ensures ∙ ap (λ v. v.last_coroutine) born)
