@@ -9,3 +9,4 @@ pub mod Running
 pub mod Told
 pub mod Unrefused
 pub mod Gifts
+pub mod Passing

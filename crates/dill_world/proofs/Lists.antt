@@ -1,5 +1,5 @@
 -- What is found in a list, and what passed deadlines begin with.
-use Rattle.std.proofs.Common.{◌≡◌, ◌∙◌, ℕ, ◌==◌, List, [], ◌∷◌, map, find, filter_map, Bool, true, false, ◌&&◌, cond, Option, Some, None, option_map, refl, sym, ap, arith}
+use Rattle.std.proofs.Common.{◌≡◌, ◌∙◌, ℕ, ◌==◌, List, [], ◌∷◌, map, find, filter_map, Bool, true, false, ◌&&◌, cond, Option, Some, None, option_map, refl, sym, ap, arith, suc, ◌<◌, length, get_or, drop, drop-cons}
 use Rattle.std.specs.Option.{is_some}
 use Rattle.std.specs.List.{list_all, cons_option}
 use Rattle.dill_calls.specs.declared.call.Call.{Call}
@@ -9,21 +9,9 @@ use Rattle.dill_rules.specs.World.{pending_call}
 use Rattle.dill_rules.specs.Expiring as expiring
 use Rattle.dill_rules.specs.Expiring.{Timer, is_earlier, timer_of, due_of}
 use Rattle.dill_world.specs.declared.expiring.Late.{Late}
-use Rattle.dill_world.specs.Timing.{first_of, sooner, sooner_by, as_timer, due_at}
-use Rattle.dill_world.proofs.Each.{both}
+use Rattle.dill_world.specs.Timing.{first_of, sooner, sooner_by, as_timer, due_at, late_timer}
 
 module _ {X : Type 0} where
-  all_found_at : (p : X → Bool) (b : Bool) (x y : X) (rest : Option X) → cond b (Some x) rest ≡ Some y → p x ≡ true → (rest ≡ Some y → p y ≡ true) → p y ≡ true
-  all_found_at p true x y rest e f g = let it : x ≡ y = cc in ap p (sym it) ∙ f
-  all_found_at p false x y rest e f g = g e
-
-  -- what is found passes what each one passes
-  pub all_found : (p pick : X → Bool) (xs : List X) (y : X) → list_all p xs ≡ true → find pick xs ≡ Some y → p y ≡ true
-  all_found p pick [] y e f = cc
-  all_found p pick (x ∷ xs) y e f =
-      let h : (p x ≡ true) × (list_all p xs ≡ true) = both (p x) (list_all p xs) e in
-      all_found_at p (pick x) x y (find pick xs) f h.0 (λ g. all_found p pick xs y h.1 g)
-
   found_too_at : (q : X → Bool) (b : Bool) (x y : X) (xs : List X) (rest : Option X) → cond b (Some x) rest ≡ Some y → q y ≡ true → (rest ≡ Some y → is_some (find q xs) ≡ true) → is_some (cond (q x) (Some x) (find q xs)) ≡ true
   found_too_at q true x y xs rest e f g = let it : x ≡ y = cc in let same : q x ≡ true = ap q it ∙ f in rw same refl
   found_too_at q false x y xs rest e f g = kept (q x) (g e)
@@ -78,3 +66,12 @@ module _ where
   pub dues : {V : Type 0} (cs : List (Coroutine V)) → map (λ x. x.due) (filter_map timer_of cs) ≡ filter_map due_at cs
   dues [] = refl
   dues (c ∷ cs) = due_on c.number (pending_call c.mode) (filter_map timer_of cs) (filter_map due_at cs) (dues cs)
+
+-- one coroutine more is looked at
+pub late_step : {V : Type 0} (moment : ℕ) (cs : List (Coroutine V)) (j : ℕ) (x : Coroutine V) (first next : Option Late) → j < length cs → x ≡ get_or cs j x → option_map as_timer first ≡ first_of (expiring.in_order (filter_map (late_timer moment) (drop (suc j) cs))) → option_map as_timer next ≡ sooner_by (late_timer moment x) (option_map as_timer first) → option_map as_timer next ≡ first_of (expiring.in_order (filter_map (late_timer moment) (drop j cs)))
+late_step moment cs j x first next lt e inv step =
+    let cut : drop j cs ≡ x ∷ drop (suc j) cs = drop-cons cs j x lt ∙ ap (λ y. y ∷ drop (suc j) cs) (sym e) in
+    step
+    ∙ ap (sooner_by (late_timer moment x)) inv
+    ∙ sym (first_step (late_timer moment x) (filter_map (late_timer moment) (drop (suc j) cs)))
+    ∙ ap (λ ys. first_of (expiring.in_order (filter_map (late_timer moment) ys))) (sym cut)

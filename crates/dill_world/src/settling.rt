@@ -9,7 +9,7 @@ ghost use Rattle.dill_world.specs.Steps.{left};
 ghost use Rattle.dill_world.specs.Store.{world_of, may_wait, is_plain_mode, is_plain_row, is_short_answer, ArePlain};
 
 use crate::answers::copy_waiting;
-use crate::rows::{find_coroutine, find_dead_as};
+use crate::rows::find_dead_as;
 use crate::taking::is_ending;
 use crate::world::World;
 use dill_base::Errno;
@@ -28,24 +28,15 @@ fn copy_pending(mode: &Mode) -> Option<Call>
     }
 }
 
-/// A coroutine of a list in which each one stands plainly.
-fn find_plain<B>(coroutines: &[Coroutine<B>], who: u64) -> Option<&Coroutine<B>>
-    requires { ArePlain coroutines.now }
-    ensures found { option_copied result ≡ find (worlds.is_coroutine who) coroutines.now }
-    ensures plain { IfSome (option_copied result) (λ c. is_plain_row c ≡ true) }
-{
-    find_coroutine(coroutines, who)
-}
-
 impl<B> World<B> {
     /// A copy of the call that a coroutine is pending in.
     pub fn waits_in(&self, who: u64) -> Option<Call>
         ensures call { result ≡ worlds.call_of (world_of self.now) who }
         ensures waits { IfSome result (λ call. may_wait call ≡ true) }
     {
-        match find_plain(self.coroutines(), who) {
+        match self.call_of(who) {
             None => None,
-            Some(found) => copy_pending(&found.mode),
+            Some(call) => Some(copy_waiting(call)),
         }
     }
 }
