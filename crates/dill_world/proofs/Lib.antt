@@ -10,3 +10,7 @@ pub mod Told
 pub mod Unrefused
 pub mod Gifts
 pub mod Passing
+pub mod Going
+pub mod Shown
+pub mod Closing
+pub mod Releasing

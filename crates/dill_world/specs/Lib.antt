@@ -4,3 +4,6 @@ pub mod Ways
 pub mod Needs
 pub mod Timing
 pub mod Endings
+pub mod Turned
+pub mod Closings
+pub mod Releases

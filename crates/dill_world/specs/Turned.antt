@@ -37,6 +37,10 @@ abbrev pub without_text : Call → Call
 without_text (calls.Print text) = calls.Print []
 without_text call = call
 
+-- the lack of an entry that was refused memory or not
+abbrev pub at_entry : Bool → Option LackPlace
+at_entry lacks = if lacks then Some Entry else None
+
 -- the coroutine is there, and may be given an answer
 pub record MayGoOn {V : Type 0} (p : Program V) (w : World V) (who : ℕ) : Type 0 where
   pub one : Coroutine V

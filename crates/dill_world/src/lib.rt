@@ -12,6 +12,7 @@ mod refusals;
 mod rows;
 mod settling;
 mod taking;
+mod turning;
 mod world;
 
 pub use world::World;

@@ -1,20 +1,25 @@
-ghost use Rattle.std.specs.Prelude.{◌≡◌, find, option_copied, option_map, true, IfSome};
+ghost use Rattle.std.specs.Prelude.{◌≡◌, ◌+◌, ◌≤◌, ◌++◌, length, vec_capacity, find, option_copied, option_map, true, IfSome};
 ghost use Rattle.dill_maps.specs.Maps.{if_some, first_some};
 ghost use Rattle.dill_rules.specs.World as worlds;
 ghost use Rattle.dill_rules.specs.Owning as owning;
 ghost use Rattle.dill_rules.specs.Giving as giving;
 ghost use Rattle.dill_rules.specs.Settling as settling;
+ghost use Rattle.std.specs.Option.{option_to_list};
+ghost use Rattle.dill_world.specs.Closings.{closing_of, closings_of, retire_each, close_each};
+ghost use Rattle.dill_world.specs.Releases.{freed, owned_number, falling, retire_noted_one, retire_noted};
 ghost use Rattle.dill_world.specs.Endings.{ending_of};
 ghost use Rattle.dill_world.specs.Steps.{left};
 ghost use Rattle.dill_world.specs.Store.{world_of, may_wait, is_plain_mode, is_plain_row, is_short_answer, ArePlain};
 
 use crate::answers::copy_waiting;
 use crate::rows::find_dead_as;
-use crate::taking::is_ending;
+use crate::taking::{bundle_of, is_ending};
 use crate::world::World;
 use dill_base::Errno;
-use dill_calls::{Answer, Call, Word};
-use dill_rules::{Coroutine, Mode};
+use dill_calls::{Answer, Call, Note, Word};
+use dill_handles::{Entry, Handles};
+use dill_rules::{Closing, Coroutine, Mode, Thing};
+use dill_scope::Scopes;
 
 /// A copy of the call that is pending.
 fn copy_pending(mode: &Mode) -> Option<Call>
@@ -78,6 +83,97 @@ fn outcome_of(mode: &Mode) -> Option<Errno>
     match mode {
         Mode::Ending(outcome) => *outcome,
         _ => None,
+    }
+}
+
+/// The closing of a handle's bundle, where a coroutine owns it and it is one.
+fn closing_of(entry: &Entry<Thing>, who: u64) -> Option<Closing>
+    ensures { result ≡ closing_of who entry.now }
+{
+    if entry.owner == who {
+        match bundle_of(entry.thing) {
+            None => None,
+            Some(bundle) => Some(Closing {
+                bundle,
+                number: entry.number,
+            }),
+        }
+    } else {
+        None
+    }
+}
+
+/// The closing of a handle's bundle is added, where a coroutine owns it and it is one.
+fn add_closing(entry: &Entry<Thing>, who: u64, closings: &mut Vec<Closing>)
+    requires { length closings.old.items + 1 ≤ vec_capacity closings.old }
+    ensures items { closings.new.items ≡ closings.old.items ++ option_to_list (closing_of who entry.now) }
+    ensures capacity { vec_capacity closings.old ≤ vec_capacity closings.new }
+{
+    if let Some(closing) = closing_of(entry, who) {
+        let _ = closings.push(closing);
+    }
+}
+
+/// The closings of the bundles that a coroutine owns are added.
+fn add_closings(entries: &[Entry<Thing>], who: u64, closings: &mut Vec<Closing>)
+    requires { length closings.old.items + length entries.now ≤ vec_capacity closings.old }
+    ensures items { closings.new.items ≡ closings.old.items ++ closings_of who entries.now }
+    ensures capacity { vec_capacity closings.old ≤ vec_capacity closings.new }
+{
+    for entry in entries {
+        add_closing(entry, who, closings);
+    }
+}
+
+/// The numbers of closings are dead, and their bundles, which a coroutine owns, begin to close.
+fn close_each(handles: &mut Handles<Thing>, scopes: &mut Scopes, closings: &[Closing], who: u64)
+    ensures handles { handles.new ≡ retire_each handles.old closings.now }
+    ensures scopes { scopes.new ≡ close_each who scopes.old closings.now }
+{
+    for x in closings {
+        let _ = handles.retire(x.number);
+        scopes.take(x.bundle, who);
+        scopes.close(x.bundle);
+    }
+}
+
+/// The number of a handle is noted as released, if a coroutine owns it.
+fn note_one_freed(entry: &Entry<Thing>, who: u64, notes: &mut Vec<Note>)
+    requires { length notes.old.items + 1 ≤ vec_capacity notes.old }
+    ensures items { notes.new.items ≡ notes.old.items ++ freed (owned_number who entry.now) }
+    ensures capacity { vec_capacity notes.old ≤ vec_capacity notes.new }
+{
+    if entry.owner == who {
+        let _ = notes.push(Note::Freed(entry.number));
+    }
+}
+
+/// The numbers that a coroutine owns are noted as released, the highest first.
+fn note_freed(entries: &[Entry<Thing>], who: u64, notes: &mut Vec<Note>)
+    requires { length notes.old.items + length entries.now ≤ vec_capacity notes.old }
+    ensures items { notes.new.items ≡ notes.old.items ++ freed (falling who entries.now) }
+    ensures capacity { vec_capacity notes.old ≤ vec_capacity notes.new }
+{
+    for i in (0..entries.len()).rev() {
+        note_one_freed(&entries[i], who, notes);
+    }
+}
+
+/// The number that a note says was released is dead.
+fn retire_one_noted(handles: &mut Handles<Thing>, note: Note)
+    ensures { handles.new ≡ retire_noted_one handles.old note }
+{
+    if let Note::Freed(number) = note {
+        let _ = handles.retire(number);
+    }
+}
+
+/// The numbers that notes say were released are dead.
+fn retire_noted(handles: &mut Handles<Thing>, notes: &[Note])
+    ensures { handles.new ≡ retire_noted handles.old notes.now }
+{
+    for note in notes {
+        retire_one_noted(handles, *note);
     }
 }
 
@@ -168,13 +264,25 @@ impl<B: Drop> World<B> {
     fn release_all(&mut self, who: u64)
         ensures { world_of self.new ≡ settling.release_all (world_of self.old) who }
     {
-        let _ = who;
+        let first = self.notes.as_slice().len();
+        note_freed(self.handles.as_slice(), who, &mut self.notes);
+        retire_noted(&mut self.handles, &self.notes[first..]);
+    }
+
+    /// The bundles of a coroutine begin to close.
+    fn close_all(&mut self, who: u64)
+        ensures { world_of self.new ≡ settling.close_all (world_of self.old) who }
+    {
+        let first = self.closings.as_slice().len();
+        add_closings(self.handles.as_slice(), who, &mut self.closings);
+        close_each(&mut self.handles, &mut self.scopes, &self.closings[first..], who);
     }
 
     /// A program has ended: its bundles begin to close, and it waits for them.
     pub fn end(&mut self, who: u64, outcome: Option<Errno>)
         ensures { world_of self.new ≡ settling.end (world_of self.old) who outcome }
     {
+        self.close_all(who);
         self.set_mode(who, Mode::Ending(outcome));
     }
 

@@ -5,8 +5,8 @@ ghost use Rattle.dill_plain.specs.Plain.{is_plain};
 ghost use Rattle.dill_rules.specs.Entering as entering;
 ghost use Rattle.dill_rules.specs.Turning as turning;
 ghost use Rattle.dill_world.specs.Needs.{HasView};
-ghost use Rattle.dill_world.specs.Store.{world_of, is_plain_mode, is_short_answer};
-ghost use Rattle.dill_world.specs.Turned.{MovesAs, IsPlainNext, MayGoOn, WentSo, Gone, without_text};
+ghost use Rattle.dill_world.specs.Store.{world_of, is_short_answer};
+ghost use Rattle.dill_world.specs.Turned.{MovesAs, IsPlainNext, MayGoOn, WentSo, Gone, without_text, at_entry};
 
 use crate::answers::copy_answer;
 use crate::entering::entered;
@@ -14,7 +14,6 @@ use crate::world::World;
 use dill_base::{Errno, Octets};
 use dill_calls::{Answer, Body, Call, LackPlace, Next, Ran, Word};
 use dill_plain::PlainBody;
-use dill_rules::Mode;
 use std::alloc::Global;
 
 /// Where a turn was refused memory, if it was, how its program ended, if it did, and the text of the `print` that it enters.
@@ -23,18 +22,6 @@ pub struct Went {
     lack: Option<LackPlace>,
     outcome: Option<Option<Errno>>,
     text: Option<Octets>,
-}
-
-/// The answer that waits to be given, with the word of its call.
-fn given_of(mode: &Mode) -> (Word, Answer)
-    requires { is_plain_mode mode.now ≡ true }
-    ensures given { result ≡ turning.given_of mode.now }
-    ensures short { is_short_answer result.1 ≡ true }
-{
-    match mode {
-        Mode::Answered(word, answer) => (*word, copy_answer(answer)),
-        _ => (Word::Start, Answer::Number(0)),
-    }
 }
 
 /// The text of a `print`, and the call without it.
@@ -50,18 +37,14 @@ fn take_text(alloc: Global, call: Call) -> (Option<Octets>, Call)
     }
 }
 
-impl<B> World<B> {
-    /// The answer that a coroutine is given at its turn, with the word of its call.
-    fn answer_given(&self, who: u64) -> (Word, Answer)
-        ensures given { result ≡ turning.answer_given (world_of self.now) who }
-        ensures short { is_short_answer result.1 ≡ true }
-    {
-        match self.coroutine_of(who) {
-            None => (Word::Start, Answer::Number(0)),
-            Some(one) => given_of(&one.mode),
-        }
-    }
+/// The lack of an entry that was refused memory or not.
+fn entry_lack(lacks: bool) -> Option<LackPlace>
+    ensures { result ≡ at_entry lacks }
+{
+    if lacks { Some(LackPlace::Entry) } else { None }
+}
 
+impl<B> World<B> {
     /// What a coroutine hears that couldn't build the call of a word.
     fn lack_fault(&self, who: u64, word: Word) -> Errno
         ensures { result ≡ entering.lack_fault (world_of self.now) who word }
@@ -83,9 +66,8 @@ impl<B: Body> World<B> {
         let moment = self.moment();
         let (text, rest) = take_text(self.alloc(), call);
         let lacks = self.enter(who, entered(moment, rest));
-        let lack = if lacks { Some(LackPlace::Entry) } else { None };
         Went {
-            lack,
+            lack: entry_lack(lacks),
             outcome: None,
             text,
         }
