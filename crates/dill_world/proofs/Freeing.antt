@@ -32,7 +32,7 @@ placed_alike : (x : Closing) (ys all : List Closing) → without_each all (place
 placed_alike x [] all = refl
 placed_alike x (y ∷ ys) all =
     either_first (nat_lt x.number y.number) all x y ys (placed x ys) (
-      placed_alike x ys (without (is_closing_of y.bundle) all) ∙ ap (λ now. without_each now ys) (commute x.bundle y.bundle all)
+    placed_alike x ys (without (is_closing_of y.bundle) all) ∙ ap (λ now. without_each now ys) (commute x.bundle y.bundle all)
     )
 
 -- the order in which they go makes no difference to which are left
@@ -49,7 +49,7 @@ module _ (s : Scopes) (who : ℕ) where
   apart_at x y false e f g = refl
 
   passed_by : (x : Closing) (b : Bool) (y : Closing) (ys rest all : List Closing) → is_owned_closing s who y ≡ b → is_owned_closing s who x ≡ false → ((now : List Closing) → without_each (x ∷ now) rest ≡ x ∷ without_each now rest) → without_each (x ∷ all) (cond b (y ∷ rest) rest) ≡ x ∷ without_each all (cond b (y ∷ rest) rest)
-  passed_by x true y ys rest all e f h = rw (apart_at x y (x.bundle == y.bundle) refl f e) (h (without (is_closing_of y.bundle) all))
+  passed_by x true y ys rest all e f h = ap (λ b. without_each (cond b all (x ∷ without (is_closing_of y.bundle) all)) rest) (apart_at x y (x.bundle == y.bundle) refl f e) ∙ h (without (is_closing_of y.bundle) all)
   passed_by x false y ys rest all e f h = h all
 
   stays : (x : Closing) (ys all : List Closing) → is_owned_closing s who x ≡ false → without_each (x ∷ all) (filter (is_owned_closing s who) ys) ≡ x ∷ without_each all (filter (is_owned_closing s who) ys)
@@ -57,7 +57,7 @@ module _ (s : Scopes) (who : ℕ) where
   stays x (y ∷ ys) all f = passed_by x (is_owned_closing s who y) y ys (filter (is_owned_closing s who) ys) all refl f (λ now. stays x ys now f)
 
   others_at : (x : Closing) (xs : List Closing) (b : Bool) → is_owned_closing s who x ≡ b → without_each xs (filter (is_owned_closing s who) xs) ≡ others_of s who xs → without_each (x ∷ xs) (cond b (x ∷ filter (is_owned_closing s who) xs) (filter (is_owned_closing s who) xs)) ≡ cond (not b) (x ∷ others_of s who xs) (others_of s who xs)
-  others_at x xs true e h = let it : (x.bundle == x.bundle) ≡ true = grind arith in rw it h
+  others_at x xs true e h = let it : (x.bundle == x.bundle) ≡ true = grind arith in ap (λ b. without_each (cond b xs (x ∷ without (is_closing_of x.bundle) xs)) (filter (is_owned_closing s who) xs)) it ∙ h
   others_at x xs false e h = stays x xs xs e ∙ ap (λ ys. x ∷ ys) h
 
   others_left : (xs : List Closing) → without_each xs (filter (is_owned_closing s who) xs) ≡ others_of s who xs

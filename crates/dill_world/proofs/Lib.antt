@@ -14,3 +14,5 @@ pub mod Going
 pub mod Shown
 pub mod Closing
 pub mod Releasing
+pub mod Freeing
+pub mod Passed

@@ -7,3 +7,4 @@ pub mod Endings
 pub mod Turned
 pub mod Closings
 pub mod Releases
+pub mod Freeings

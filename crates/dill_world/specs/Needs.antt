@@ -27,4 +27,3 @@ pub record Enters {V : Type 0} (p : Program V) (w : World V) (who : ℕ) (call :
   pub view : V
   pub has : HasView w who view
   pub free : refuse p w who view call ≡ None
-

@@ -2,10 +2,11 @@
 use Rattle.std.specs.Prelude.{◌≡◌, ℕ, ◌<◌, List, [], ◌∷◌, Option, Some, None, if◌then◌else◌, nat_le}
 use Rattle.dill_maps.specs.Maps.{if_some}
 use Rattle.dill_rules.specs.declared.coroutine.Coroutine.{Coroutine}
-use Rattle.dill_rules.specs.Expiring.{Timer, is_earlier, timer_of, due_of}
+use Rattle.dill_rules.specs.Expiring.{Timer, is_earlier, timer_of, due_of, passed, expire_one}
 use Rattle.dill_rules.specs.World.{pending_call}
 use Rattle.dill_rules.specs.Waiting.{Waiter}
 use Rattle.dill_calls.specs.declared.word.Word.{Word}
+use Rattle.dill_world.specs.Store.{Store, world_of, ArePlain}
 use Rattle.dill_world.specs.declared.expiring.Late.{Late}
 
 -- what a list begins with
@@ -43,3 +44,7 @@ as_pair x = (x.who, x.word)
 abbrev pub Rises : {V : Type 0} → ℕ → List (Coroutine V) → Type 0
 Rises low [] = Unit {0}
 Rises low (c ∷ cs) = (low < c.number) × Rises c.number cs
+
+-- Where the numbers rise, the passed deadlines are given up one after the other: the others stay passed.
+abbrev pub PassesOneByOne : (V : Type 0) → Type 0
+PassesOneByOne V = (k : Store V) (who : ℕ) (rest : List ℕ) → ArePlain k.coroutines → Rises 0 k.coroutines → passed (world_of k) ≡ who ∷ rest → passed (expire_one (world_of k) who) ≡ rest

@@ -5,7 +5,7 @@ ghost use Rattle.dill_rules.specs.World as worlds;
 ghost use Rattle.dill_rules.specs.Expiring as expiring;
 ghost use Rattle.dill_rules.specs.Waiting as waiting;
 ghost use Rattle.dill_world.specs.Store.{world_of, may_wait};
-ghost use Rattle.dill_world.specs.Timing.{first_of, late_timer, as_timer, sooner, sooner_by, due_at};
+ghost use Rattle.dill_world.specs.Timing.{first_of, late_timer, as_timer, sooner, sooner_by, due_at, PassesOneByOne};
 
 use crate::entering::late_answer;
 use crate::taking::pending_call;
@@ -141,3 +141,8 @@ impl<B: Drop> World<B> {
         }
     }
 }
+
+/// The passed deadlines are given up one after the other: each time the next of those that were passed is the first.
+pub fn passes_one_by_one<B: Drop>()
+    ensures { PassesOneByOne B }
+{}

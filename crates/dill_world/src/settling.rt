@@ -275,7 +275,12 @@ impl<B: Drop> World<B> {
     {
         let first = self.closings.as_slice().len();
         add_closings(self.handles.as_slice(), who, &mut self.closings);
-        close_each(&mut self.handles, &mut self.scopes, &self.closings[first..], who);
+        close_each(
+            &mut self.handles,
+            &mut self.scopes,
+            &self.closings[first..],
+            who,
+        );
     }
 
     /// A program has ended: its bundles begin to close, and it waits for them.
