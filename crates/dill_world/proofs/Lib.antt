@@ -16,3 +16,4 @@ pub mod Closing
 pub mod Releasing
 pub mod Freeing
 pub mod Passed
+pub mod Gathered

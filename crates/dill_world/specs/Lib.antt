@@ -8,3 +8,4 @@ pub mod Turned
 pub mod Closings
 pub mod Releases
 pub mod Freeings
+pub mod Gathering

@@ -1,4 +1,4 @@
-ghost use Rattle.std.specs.Prelude.{◌≡◌, ◌+◌, ◌≤◌, ◌++◌, length, vec_capacity, find, option_copied, option_map, true, IfSome};
+ghost use Rattle.std.specs.Prelude.{◌≡◌, ◌+◌, ◌<◌, ◌≤◌, List, ◌∷◌, ◌++◌, length, vec_capacity, find, option_copied, option_map, true, IfSome};
 ghost use Rattle.dill_maps.specs.Maps.{if_some, first_some};
 ghost use Rattle.dill_rules.specs.World as worlds;
 ghost use Rattle.dill_rules.specs.Owning as owning;
@@ -7,6 +7,10 @@ ghost use Rattle.dill_rules.specs.Settling as settling;
 ghost use Rattle.std.specs.Option.{option_to_list};
 ghost use Rattle.dill_world.specs.Closings.{closing_of, closings_of, retire_each, close_each};
 ghost use Rattle.dill_world.specs.Releases.{freed, owned_number, falling, retire_noted_one, retire_noted};
+ghost use Rattle.dill_rules.specs.declared.coroutine.Closing.{Closing};
+ghost use Rattle.dill_rules.specs.Settling.{placed};
+ghost use Rattle.dill_world.specs.Freeings.{drop_each, notes_of, is_owned_closing, others_of};
+ghost use Rattle.dill_world.specs.Gathering.{spot, gathered};
 ghost use Rattle.dill_world.specs.Endings.{ending_of};
 ghost use Rattle.dill_world.specs.Steps.{left};
 ghost use Rattle.dill_world.specs.Store.{world_of, may_wait, is_plain_mode, is_plain_row, is_short_answer, ArePlain};
@@ -177,6 +181,79 @@ fn retire_noted(handles: &mut Handles<Thing>, notes: &[Note])
     }
 }
 
+/// Whether the bundle of a closing has this owner.
+fn is_owned_closing(scopes: &Scopes, who: u64, x: Closing) -> bool
+    ensures { result ≡ is_owned_closing scopes.now who x }
+{
+    match scopes.owner_of(x.bundle) {
+        None => false,
+        Some(owner) => owner == who,
+    }
+}
+
+/// How many closings have a higher number, up to the first that has not.
+fn spot(closings: &[Closing], number: u64) -> usize
+    ensures value { result ≡ spot number closings.now }
+    ensures within { result ≤ length closings.now }
+{
+    for i in 0..closings.len() {
+        if closings[i].number <= number {
+            return i;
+        }
+    }
+    closings.len()
+}
+
+/// A closing goes behind the others, which end before a place, to where its number is in order.
+fn move_behind(closings: &mut Vec<Closing>, i: usize, from: usize)
+    requires before { i < from }
+    requires within { from ≤ length closings.old.items }
+    ensures items { (front mid tail : List Closing) (x : Closing) → closings.old.items ≡ front ++ x ∷ (mid ++ tail) → length front ≡ i → i + 1 + length mid ≡ from → closings.new.items ≡ front ++ (mid ++ placed x tail) }
+    ensures len { length closings.new.items ≡ length closings.old.items }
+    ensures capacity { vec_capacity closings.old ≤ vec_capacity closings.new }
+{
+    let x = closings.remove(i);
+    let at = from - 1 + spot(&closings[from - 1..], x.number);
+    let _ = closings.insert(at, x);
+}
+
+/// The closings of an owner's bundles go behind the others, the highest number first. Answers where they begin.
+fn gather(closings: &mut Vec<Closing>, scopes: &Scopes, who: u64) -> usize
+    ensures items { closings.new.items ≡ gathered scopes.now who closings.old.items }
+    ensures from { result ≡ length (others_of scopes.now who closings.old.items) }
+    ensures len { length closings.new.items ≡ length closings.old.items }
+    ensures capacity { vec_capacity closings.old ≤ vec_capacity closings.new }
+{
+    let mut from = closings.as_slice().len();
+    for i in (0..closings.as_slice().len()).rev() {
+        if is_owned_closing(scopes, who, closings[i]) {
+            move_behind(closings, i, from);
+            from -= 1;
+        }
+    }
+    from
+}
+
+/// The bundles of closings are gone.
+fn drop_each(scopes: &mut Scopes, closings: &[Closing])
+    ensures { scopes.new ≡ drop_each scopes.old closings.now }
+{
+    for x in closings {
+        scopes.drop_bundle(x.bundle);
+    }
+}
+
+/// It is noted that the bundles of closings are gone.
+fn note_each(notes: &mut Vec<Note>, closings: &[Closing])
+    requires { length notes.old.items + length closings.now ≤ vec_capacity notes.old }
+    ensures items { notes.new.items ≡ notes.old.items ++ notes_of closings.now }
+    ensures capacity { vec_capacity notes.old ≤ vec_capacity notes.new }
+{
+    for x in closings {
+        let _ = notes.push(Note::Freed(x.number));
+    }
+}
+
 /// What settles next.
 impl<B> World<B> {
     /// Whether nobody lives in a bundle of a coroutine.
@@ -257,7 +334,10 @@ impl<B: Drop> World<B> {
     fn free_all(&mut self, who: u64)
         ensures { world_of self.new ≡ settling.free_all (world_of self.old) who }
     {
-        let _ = who;
+        let first = gather(&mut self.closings, &self.scopes, who);
+        drop_each(&mut self.scopes, &self.closings[first..]);
+        note_each(&mut self.notes, &self.closings[first..]);
+        self.closings.truncate(first);
     }
 
     /// The other handles of a coroutine are released, the highest number first.
