@@ -318,7 +318,8 @@ impl<B: Body> World<B> {
     /// A call of a coroutine is entered. It answers whether memory was refused it.
     pub fn enter(&mut self, who: u64, call: Call) -> bool
         requires { is_plain call ≡ true }
-        ensures { (view : B) → HasView (world_of self.old) who view → world_of self.new ≡ entering.enter B.means result (world_of self.old) who view call }
+        ensures met { result ≡ true → (view : B) → HasView (world_of self.old) who view → entering.may_lack_entry B.means (world_of self.old) who view call ≡ true }
+        ensures entered { (view : B) → HasView (world_of self.old) who view → world_of self.new ≡ entering.enter B.means result (world_of self.old) who view call }
     {
         let refused = match self.coroutine_of(who) {
             None => return false,
