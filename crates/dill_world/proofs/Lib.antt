@@ -17,3 +17,4 @@ pub mod Releasing
 pub mod Freeing
 pub mod Passed
 pub mod Gathered
+pub mod Waiters

@@ -1,11 +1,12 @@
 -- Which passed deadline comes first, and what a list of the passed ones begins with.
-use Rattle.std.specs.Prelude.{◌≡◌, ℕ, ◌<◌, List, [], ◌∷◌, Option, Some, None, if◌then◌else◌, nat_le}
+use Rattle.std.specs.Prelude.{◌≡◌, ℕ, ◌<◌, List, [], ◌∷◌, Option, Some, None, option_map, if◌then◌else◌, nat_le}
 use Rattle.dill_maps.specs.Maps.{if_some}
 use Rattle.dill_rules.specs.declared.coroutine.Coroutine.{Coroutine}
 use Rattle.dill_rules.specs.Expiring.{Timer, is_earlier, timer_of, due_of, passed, expire_one}
 use Rattle.dill_rules.specs.World.{pending_call}
 use Rattle.dill_rules.specs.Waiting.{Waiter}
 use Rattle.dill_calls.specs.declared.word.Word.{Word}
+use Rattle.dill_calls.specs.CallTable.{word_of}
 use Rattle.dill_world.specs.Store.{Store, world_of, ArePlain}
 use Rattle.dill_world.specs.declared.expiring.Late.{Late}
 
@@ -39,6 +40,10 @@ due_at c = if_some (pending_call c.mode) None due_of
 -- who waits, and in the call of which word
 abbrev pub as_pair : Waiter → ℕ × Word
 as_pair x = (x.who, x.word)
+
+-- a coroutine that waits, and in the call of which word
+abbrev pub pair_of : {V : Type 0} → Coroutine V → Option (ℕ × Word)
+pair_of c = option_map (λ call. (c.number, word_of call)) (pending_call c.mode)
 
 -- the numbers of coroutines rise
 abbrev pub Rises : {V : Type 0} → ℕ → List (Coroutine V) → Type 0

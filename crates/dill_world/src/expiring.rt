@@ -1,11 +1,11 @@
-ghost use Rattle.std.specs.Prelude.{◌≡◌, filter_map, option_map, min, true};
+ghost use Rattle.std.specs.Prelude.{◌≡◌, filter_map, find, option_map, min, nat_lt, true};
 ghost use Rattle.std.specs.List.{reduce};
 ghost use Rattle.dill_maps.specs.Maps.{if_some};
 ghost use Rattle.dill_rules.specs.World as worlds;
 ghost use Rattle.dill_rules.specs.Expiring as expiring;
 ghost use Rattle.dill_rules.specs.Waiting as waiting;
 ghost use Rattle.dill_world.specs.Store.{world_of, may_wait};
-ghost use Rattle.dill_world.specs.Timing.{first_of, late_timer, as_timer, sooner, sooner_by, due_at, PassesOneByOne};
+ghost use Rattle.dill_world.specs.Timing.{first_of, late_timer, as_timer, sooner, sooner_by, due_at, as_pair, pair_of, PassesOneByOne};
 
 use crate::entering::late_answer;
 use crate::taking::pending_call;
@@ -111,7 +111,34 @@ fn least_of<B>(coroutines: &[Coroutine<B>]) -> Option<u64>
     coroutines.iter().filter_map(|c| due_in(&c.mode)).min()
 }
 
+/// A coroutine that waits, and the word of its call.
+fn waiter<B>(c: &Coroutine<B>) -> Option<(u64, Word)>
+    ensures { result ≡ pair_of c.now }
+{
+    match pending_call(&c.mode) {
+        None => None,
+        Some(call) => Some((c.number, call.word())),
+    }
+}
+
+/// The first coroutine above a number that waits, and the word of its call.
+fn first_waiter<B>(coroutines: &[Coroutine<B>], after: u64) -> Option<(u64, Word)>
+    ensures { result ≡ find (λ x. nat_lt after x.0) (filter_map pair_of coroutines.now) }
+{
+    coroutines
+        .iter()
+        .filter_map(|c| waiter(c))
+        .find(|x| after < x.0)
+}
+
 impl<B> World<B> {
+    /// The least coroutine above a number that waits, and the word of its call.
+    pub fn waiting(&self, after: u64) -> Option<(u64, Word)>
+        ensures { result ≡ option_map as_pair (waiting.waiting (world_of self.now) after) }
+    {
+        first_waiter(self.coroutines(), after)
+    }
+
     /// The coroutine whose deadline is the first of those that are passed.
     pub fn first_passed(&self) -> Option<u64>
         ensures { result ≡ first_of (expiring.passed (world_of self.now)) }
