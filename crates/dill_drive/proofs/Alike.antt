@@ -1,5 +1,5 @@
--- Two machines of which nothing different is seen tell the same story, where one of them is never refused memory.
-use Rattle.std.proofs.Common.{◌≡◌, ◌∙◌, ℕ, zero, suc, ◌-◌, List, [], ◌∷◌, ◌++◌, length, take, flat_map, Option, Some, None, Bool, true, false, ◌&&◌, ◌||◌, ◌==◌, not, if◌then◌else◌, is_some, refl, sym, ap, subst}
+-- Two machines of which nothing different is seen tell the same story.
+use Rattle.std.proofs.Common.{◌≡◌, ◌⊎◌, inl, inr, ◌∙◌, ℕ, zero, suc, ◌+◌, ◌-◌, List, [], ◌∷◌, ◌++◌, length, take, flat_map, Option, Some, None, Bool, true, false, ◌&&◌, ◌||◌, ◌==◌, not, if◌then◌else◌, is_some, refl, sym, ap, subst, arith}
 use Rattle.rand_core.specs.Stream.{Stream}
 use Rattle.dill_base.specs.declared.errno.Errno.{Errno}
 use Rattle.dill_base.specs.declared.status.Status.{Status}
@@ -17,25 +17,30 @@ use Rattle.dill_kernel.specs.declared.replies.KernelReply.TheVariants as told
 use Rattle.dill_kernel.specs.Entry.{Entry}
 use Rattle.relay_trace.specs.Lines.{ran_bytes, note_line, waiting_line}
 use Rattle.dill_drive.specs.declared.tally.Tally.{Tally}
-use Rattle.dill_drive.specs.Machine.{Machine}
+use Rattle.dill_drive.specs.Machine.{Machine, may_be}
 use Rattle.dill_drive.specs.Story.{here, no_tally, after_turn, after_last, Place, Round, Asking, Trying, Turns, Due, Stopping, Closing, Last, Closes, Writing, Over, Config, is_sink, is_well, is_empty, showing, notes_of, waiting_lines, moved, stopped, final, summary_of, is_spent, after_test, after_wait, after_try, turned, halted, one_round, one_turn, one_last, lacks_by, before_round, before_turn, at}
 use Rattle.dill_kernel.specs.Replay.{reply_to, replies_after}
-use Rattle.dill_drive.specs.Play.{Lack, Playing, play, advance, advance_at, asks_try, asks_wait, writes, opening, lack_at, lack_of, lacks_after, halt_within, turn_number}
-use Rattle.dill_drive.specs.Tells.{Tells, replies_of}
+use Rattle.dill_drive.specs.Play.{Lack, Playing, play, advance, advance_at, asks_try, asks_wait, writes, turns_one, opening, lack_at, lacks_after, halt_within, turn_number}
+use Rattle.dill_drive.specs.Tells.{Concludes, NamesErrno, replies_of}
+use Rattle.dill_drive.specs.declared.run_end.RunEnd.{RunEnd}
+use Rattle.dill_drive.proofs.Counting.{number_turn, number_last}
+use Rattle.dill_drive.proofs.Lacking.{IsPast, past_some, past_stays}
+use Rattle.dill_drive.proofs.Turning.{none_of}
+use Rattle.std.proofs.lemmas.Bool.Decides.{nat_tests}
 
--- Each state of the one stands for some of the other: what is seen of both is the same, and steps keep it so. What is seen only before `main` has ended may differ after.
+-- Each state of the one stands for some of the other: what is seen of both is the same, and steps keep it so. What is seen only before `main` has ended may differ after, and the other may be refused memory more often.
 pub record Alike {S T : Type 0} (m : Machine S) (n : Machine T) (R : S → T → Type 0) : Type 0 where
-  pub quiet : (s : S) (place : LackPlace) → m.may_lack s place ≡ false
   pub ended : (s : S) (t : T) → R s t → n.ended t ≡ m.ended s
   pub answered : (s : S) (t : T) → R s t → n.answered t ≡ m.answered s
-  pub stuck : (s : S) (t : T) → R s t → is_some (m.ended s) ≡ false → n.stuck t ≡ m.stuck s
-  pub limit : (s : S) (t : T) → R s t → is_some (m.ended s) ≡ false → n.limit t ≡ m.limit s
+  pub stuck : (s : S) (t : T) → R s t → m.ended s ≡ None → n.stuck t ≡ m.stuck s
+  pub limit : (s : S) (t : T) → R s t → m.ended s ≡ None → n.limit t ≡ m.limit s
   pub woke : (s : S) (t : T) (moment : ℕ) (ready : List Ready) → R s t → R (m.woke s moment ready) (n.woke t moment ready)
   pub next_try : (s : S) (t : T) → R s t → n.next_try t ≡ m.next_try s
   pub hear : (s : S) (t : T) (ask : KernelAsk) (reply : KernelReply) (keys : Stream) → R s t → m.next_try s ≡ Some ask → R (m.hear s ask reply keys).0 (n.hear t ask reply keys).0 × ((n.hear t ask reply keys).1 ≡ (m.hear s ask reply keys).1)
   pub expire : (s : S) (t : T) → R s t → R (m.expire s) (n.expire t)
-  pub ran : (s : S) (t : T) → R s t → is_some (m.ended s) ≡ false → n.ran t None ≡ m.ran s None
-  pub turn : (s : S) (t : T) (keys : Stream) → R s t → is_some (m.ended s) ≡ false → R (m.turn s None keys).0 (n.turn t None keys).0 × ((n.turn t None keys).1 ≡ (m.turn s None keys).1)
+  pub may_lack : (s : S) (t : T) (place : LackPlace) → R s t → m.ended s ≡ None → m.may_lack s place ≡ true → n.may_lack t place ≡ true
+  pub ran : (s : S) (t : T) (lack : Option LackPlace) → R s t → m.ended s ≡ None → may_be m s lack ≡ true → n.ran t lack ≡ m.ran s lack
+  pub turn : (s : S) (t : T) (lack : Option LackPlace) (keys : Stream) → R s t → m.ended s ≡ None → may_be m s lack ≡ true → R (m.turn s lack keys).0 (n.turn t lack keys).0 × ((n.turn t lack keys).1 ≡ (m.turn s lack keys).1)
   pub shut : (s : S) (t : T) → R s t → R (m.shut s) (n.shut t)
   pub notes : (s : S) (t : T) → R s t → n.notes t ≡ m.notes s
   pub waiting : (s : S) (t : T) → R s t → n.waiting t ≡ m.waiting s
@@ -50,15 +55,30 @@ Steady Last = ⊥
 Steady (Writing next) = ⊥
 Steady other = Unit {0}
 
--- no refusal of memory is met where none may come
-lack_none : (turn : ℕ) (lacks : List Lack) (may : LackPlace → Bool) → ((place : LackPlace) → may place ≡ false) → lack_at may turn lacks ≡ None
-lack_none turn [] may quiet = refl
-lack_none turn (lack ∷ lacks) may quiet = picks (lack.0 == turn) (may lack.1) (quiet lack.1)
-  where
-    picks : (a b : Bool) → b ≡ false → (if a && b then Some lack.1 else None) ≡ None
-    picks true false e = refl
-    picks false false e = refl
-    picks a true e = cc
+-- The refusal that is next is met by both or by neither, or the other alone meets it, and it is left.
+data Meets (turn : ℕ) (lacks : List Lack) (k k' : Option LackPlace) : Type 0 where
+  both_meet : k' ≡ k → Meets turn lacks k k'
+  one_misses : lacks_after k lacks ≡ lacks → IsPast (turn + 1) lacks → Meets turn lacks k k'
+
+meets_by : (lack : Lack) (lacks : List Lack) (turn : ℕ) (a b b' : Bool) → lack.0 == turn ≡ a → (b ≡ true → b' ≡ true) → Meets turn (lack ∷ lacks) (if a && b then Some lack.1 else None) (if a && b' then Some lack.1 else None)
+meets_by lack lacks turn false b b' is may = both_meet refl
+meets_by lack lacks turn true true true is may = both_meet refl
+meets_by lack lacks turn true true false is may = cc (may refl)
+meets_by lack lacks turn true false b' is may = one_misses refl (grind (arith, nat_tests, is))
+
+meets : (turn : ℕ) (lacks : List Lack) (may may' : LackPlace → Bool) → ((place : LackPlace) → may place ≡ true → may' place ≡ true) → Meets turn lacks (lack_at may turn lacks) (lack_at may' turn lacks)
+meets turn [] may may' more = both_meet refl
+meets turn (lack ∷ lacks) may may' more = meets_by lack lacks turn (lack.0 == turn) (may lack.1) (may' lack.1) refl (more lack.1)
+
+-- what is met may come
+may_by : {S : Type 0} (m : Machine S) (s : S) (lack : Lack) (a b : Bool) → m.may_lack s lack.1 ≡ b → may_be m s (if a && b then Some lack.1 else None) ≡ true
+may_by m s lack true true e = e
+may_by m s lack true false e = refl
+may_by m s lack false b e = refl
+
+may_meet : {S : Type 0} (m : Machine S) (s : S) (turn : ℕ) (lacks : List Lack) → may_be m s (lack_at (m.may_lack s) turn lacks) ≡ true
+may_meet m s turn [] = refl
+may_meet m s turn (lack ∷ lacks) = may_by m s lack (lack.0 == turn) (m.may_lack s lack.1) refl
 
 module _ {S T : Type 0} (m : Machine S) (n : Machine T) (traced : Bool) (most : ℕ) (R : S → T → Type 0) (alike : Alike m n R) where
   -- the place is one where the state may stand
@@ -132,7 +152,7 @@ module _ {S T : Type 0} (m : Machine S) (n : Machine T) (traced : Bool) (most : 
       let w = at n traced most (carried c t) Asking in
       let e : before_round n traced most (carried c t) ≡ (if is_some (m.ended c.state) then x else (if m.stuck c.state then y else (if d then z else w))) =
       ap (λ (o : Option (Option Errno)). if is_some o then x else (if n.stuck t then y else (if d then z else w))) (alike.ended c.state t r)
-      ∙ chosen (is_some (m.ended c.state)) (m.stuck c.state) (n.stuck t) d x y z w (λ off. alike.stuck c.state t r off) in
+      ∙ chosen (is_some (m.ended c.state)) (m.stuck c.state) (n.stuck t) d x y z w (λ off. alike.stuck c.state t r (none_of (m.ended c.state) off)) in
       subst (λ (k : Config T). Same (before_round m traced most c) k) (sym e) (rounds_by (is_some (m.ended c.state)) (m.stuck c.state) d c t r refl)
 
   -- before a turn
@@ -193,23 +213,24 @@ module _ {S T : Type 0} (m : Machine S) (n : Machine T) (traced : Bool) (most : 
       (moves (record c { tally = record c.tally { lacks = lacks_by reply c.tally.lacks }; keys = old.1 }) t old.0 (n.hear t ask reply c.keys).0 c.place heard.0 is)
 
   -- a turn
-  goes : (c : Config S) (t : T) (tally : Tally) (next : Place) → R c.state t → is_some (m.ended c.state) ≡ false → Steady next → Same (turned m traced most c None tally next) (turned n traced most (carried c t) None tally next)
-  goes c t tally next r on is =
-      let step = alike.turn c.state t c.keys r on in
-      let old = m.turn c.state None c.keys in
-      let new = n.turn t None c.keys in
+  goes : (c : Config S) (t : T) (lack : Option LackPlace) (tally : Tally) (next : Place) → R c.state t → is_some (m.ended c.state) ≡ false → may_be m c.state lack ≡ true → Steady next → Same (turned m traced most c lack tally next) (turned n traced most (carried c t) lack tally next)
+  goes c t lack tally next r on may is =
+      let off = none_of (m.ended c.state) on in
+      let step = alike.turn c.state t lack c.keys r off may in
+      let old = m.turn c.state lack c.keys in
+      let new = n.turn t lack c.keys in
       let lines : Ran → List Note → List ℕ = λ ran notes. ran_bytes traced ran ++ (if traced then flat_map note_line notes else []) in
-      let same_lines : lines (n.ran t None) (n.notes new.0) ≡ lines (m.ran c.state None) (m.notes old.0) = ap (λ ran. lines ran (n.notes new.0)) (alike.ran c.state t r on) ∙ ap (lines (m.ran c.state None)) (alike.notes old.0 new.0 step.0) in
-      let to : Stream → Config T = λ keys. showing n traced most (record (carried c t) { state = new.0; tally = tally; keys = keys }) next (lines (n.ran t None) (n.notes new.0)) in
-      subst (λ (k : Config T). Same (turned m traced most c None tally next) k) (sym (ap to step.1))
-      (shows (record c { state = old.0; tally = tally; keys = old.1 }) new.0 next (lines (m.ran c.state None) (m.notes old.0)) (lines (n.ran t None) (n.notes new.0)) same_lines step.0 is)
+      let same_lines : lines (n.ran t lack) (n.notes new.0) ≡ lines (m.ran c.state lack) (m.notes old.0) = ap (λ ran. lines ran (n.notes new.0)) (alike.ran c.state t lack r off may) ∙ ap (lines (m.ran c.state lack)) (alike.notes old.0 new.0 step.0) in
+      let to : Stream → Config T = λ keys. showing n traced most (record (carried c t) { state = new.0; tally = tally; keys = keys }) next (lines (n.ran t lack) (n.notes new.0)) in
+      subst (λ (k : Config T). Same (turned m traced most c lack tally next) k) (sym (ap to step.1))
+      (shows (record c { state = old.0; tally = tally; keys = old.1 }) new.0 next (lines (m.ran c.state lack) (m.notes old.0)) (lines (n.ran t lack) (n.notes new.0)) same_lines step.0 is)
 
-  -- the whole of a run: the replies, what went out and what was asked are the same, and no memory is refused
+  -- the whole of a run: the replies, the refusals, what went out and what was asked are the same
   abbrev holding : Config S → List KernelReply → List Lack → Option ℕ → List KernelAsk → List ℕ → Playing S
   holding c replies lacks halt asks bytes = record { config = c; replies = replies; lacks = lacks; halt = halt; asks = asks; bytes = bytes }
 
   abbrev followed : Playing S → Config T → Playing T
-  followed p d = record { config = d; replies = p.replies; lacks = []; halt = p.halt; asks = p.asks; bytes = p.bytes }
+  followed p d = record { config = d; replies = p.replies; lacks = p.lacks; halt = p.halt; asks = p.asks; bytes = p.bytes }
 
   record Follows (p : Playing S) (q : Playing T) : Type 0 where
     config : Config T
@@ -256,16 +277,35 @@ module _ {S T : Type 0} (m : Machine S) (n : Machine T) (traced : Bool) (most : 
       halts Closes is = cut (is_well c.status) Closes is
       halts (Writing after) is = absurd is
 
-  -- a turn is refused nothing
-  turning : (c : Config S) (t : T) (left : ℕ) (replies : List KernelReply) (lacks : List Lack) (halt : Option ℕ) (asks : List KernelAsk) (bytes : List ℕ) → R c.state t → is_some (m.ended c.state) ≡ false → (k : Option LackPlace) → k ≡ None
-      → Follows (record (holding c replies lacks halt asks bytes) { config = after_turn m traced most c left k; lacks = lacks_after k lacks }) (followed (holding c replies lacks halt asks bytes) (after_turn n traced most (carried c t) left None))
-  turning c t left replies lacks halt asks bytes r on None e = by_config _ _ replies lacks halt asks bytes (goes c t (one_turn c.tally None) (Turns (left - 1)) r on tt)
-  turning c t left replies lacks halt asks bytes r on (Some place) e = cc
+  -- they go on together, or the one has missed a refusal
+  abbrev Together : Playing S → Playing T → Type 0
+  Together p q = Follows p q ⊎ IsPast (turn_number m traced most p.config) p.lacks
 
-  turning_last : (c : Config S) (t : T) (replies : List KernelReply) (lacks : List Lack) (halt : Option ℕ) (asks : List KernelAsk) (bytes : List ℕ) → R c.state t → is_some (m.ended c.state) ≡ false → (k : Option LackPlace) → k ≡ None
-      → Follows (record (holding c replies lacks halt asks bytes) { config = after_last m traced most c k; lacks = lacks_after k lacks }) (followed (holding c replies lacks halt asks bytes) (after_last n traced most (carried c t) None))
-  turning_last c t replies lacks halt asks bytes r on None e = by_config _ _ replies lacks halt asks bytes (goes c t (one_last c.tally None) Closing r on tt)
-  turning_last c t replies lacks halt asks bytes r on (Some place) e = cc
+  turning_by : (c : Config S) (replies : List KernelReply) (lacks : List Lack) (halt : Option ℕ) (asks : List KernelAsk) (bytes : List ℕ) (after : Option LackPlace → Config S) (after' : Option LackPlace → Config T) (k k' : Option LackPlace)
+      → ((lack : Option LackPlace) → turn_number m traced most (after lack) ≡ turn_number m traced most c + 1) → Same (after k) (after' k) → Meets (turn_number m traced most c) lacks k k'
+      → Together (record (holding c replies lacks halt asks bytes) { config = after k; lacks = lacks_after k lacks })
+      (record { config = after' k'; replies = replies; lacks = lacks_after k' lacks; halt = halt; asks = asks; bytes = bytes })
+  turning_by c replies lacks halt asks bytes after after' k k' counts same (both_meet is) =
+      let to : Option LackPlace → Playing T = λ x. record { config = after' x; replies = replies; lacks = lacks_after x lacks; halt = halt; asks = asks; bytes = bytes } in
+      inl (subst (λ (q : Playing T). Follows (record (holding c replies lacks halt asks bytes) { config = after k; lacks = lacks_after k lacks }) q) (sym (ap to is)) (by_config (after k) (after' k) replies (lacks_after k lacks) halt asks bytes same))
+  turning_by c replies lacks halt asks bytes after after' k k' counts same (one_misses left past) =
+      inr (subst (λ (l : List Lack). IsPast (turn_number m traced most (after k)) l) (sym left) (subst (λ (x : ℕ). IsPast x lacks) (sym (counts k)) past))
+
+  turning : (c : Config S) (t : T) (left : ℕ) (replies : List KernelReply) (lacks : List Lack) (halt : Option ℕ) (asks : List KernelAsk) (bytes : List ℕ) → R c.state t → is_some (m.ended c.state) ≡ false
+      → Together (turns_one m traced most (holding c replies lacks halt asks bytes) (after_turn m traced most c left)) (turns_one n traced most (followed (holding c replies lacks halt asks bytes) (carried c t)) (after_turn n traced most (carried c t) left))
+  turning c t left replies lacks halt asks bytes r on =
+      let turn = turn_number m traced most c in
+      let k = lack_at (m.may_lack c.state) turn lacks in
+      turning_by c replies lacks halt asks bytes (after_turn m traced most c left) (after_turn n traced most (carried c t) left) k (lack_at (n.may_lack t) turn lacks) (number_turn m traced most c left)
+      (goes c t k (one_turn c.tally k) (Turns (left - 1)) r on (may_meet m c.state turn lacks) tt) (meets turn lacks (m.may_lack c.state) (n.may_lack t) (λ place. alike.may_lack c.state t place r (none_of (m.ended c.state) on)))
+
+  turning_last : (c : Config S) (t : T) (replies : List KernelReply) (lacks : List Lack) (halt : Option ℕ) (asks : List KernelAsk) (bytes : List ℕ) → R c.state t → is_some (m.ended c.state) ≡ false
+      → Together (turns_one m traced most (holding c replies lacks halt asks bytes) (after_last m traced most c)) (turns_one n traced most (followed (holding c replies lacks halt asks bytes) (carried c t)) (after_last n traced most (carried c t)))
+  turning_last c t replies lacks halt asks bytes r on =
+      let turn = turn_number m traced most c in
+      let k = lack_at (m.may_lack c.state) turn lacks in
+      turning_by c replies lacks halt asks bytes (after_last m traced most c) (after_last n traced most (carried c t)) k (lack_at (n.may_lack t) turn lacks) (number_last m traced most c)
+      (goes c t k (one_last c.tally k) Closing r on (may_meet m c.state turn lacks) tt) (meets turn lacks (m.may_lack c.state) (n.may_lack t) (λ place. alike.may_lack c.state t place r (none_of (m.ended c.state) on)))
 
   waiting : (c : Config S) (t : T) (replies : List KernelReply) (lacks : List Lack) (halt : Option ℕ) (asks : List KernelAsk) (bytes : List ℕ) → R c.state t → is_some (m.ended c.state) ≡ false
       → Follows (asks_wait m traced most (holding c replies lacks halt asks bytes)) (asks_wait n traced most (followed (holding c replies lacks halt asks bytes) (carried c t)))
@@ -274,81 +314,90 @@ module _ {S T : Type 0} (m : Machine S) (n : Machine T) (traced : Bool) (most : 
       let asked : Limit → Playing T = λ l. record {
         config = after_wait n traced most (carried c t) (reply_to (Wait l) replies);
         replies = replies_after (Wait l) replies;
-        lacks = [];
+        lacks = lacks;
         halt = halt;
         asks = asks ++ Wait l ∷ [];
         bytes = bytes;
       } in
-      subst (λ (q : Playing T). Follows (asks_wait m traced most (holding c replies lacks halt asks bytes)) q) (sym (ap asked (alike.limit c.state t r on)))
+      subst (λ (q : Playing T). Follows (asks_wait m traced most (holding c replies lacks halt asks bytes)) q) (sym (ap asked (alike.limit c.state t r (none_of (m.ended c.state) on))))
       (by_config _ _ (replies_after (Wait limit) replies) lacks halt (asks ++ Wait limit ∷ []) bytes (woken c t (reply_to (Wait limit) replies) r))
 
   -- both take a step
   advances : (place : Place) (s : S) (t : T) (due : List ℕ) (st : Status) (tally : Tally) (keys : Stream) (replies : List KernelReply) (lacks : List Lack) (halt : Option ℕ) (asks : List KernelAsk) (bytes : List ℕ) → R s t → Apt s place
-      → Follows (advance_at m traced most (holding (placed s place due st tally keys) replies lacks halt asks bytes) place)
+      → Together (advance_at m traced most (holding (placed s place due st tally keys) replies lacks halt asks bytes) place)
       (advance_at n traced most (followed (holding (placed s place due st tally keys) replies lacks halt asks bytes) (carried (placed s place due st tally keys) t)) place)
-  advances Round s t due st tally keys replies lacks halt asks bytes r apt = by_config _ _ replies lacks halt asks bytes (rounds (placed s Round due st tally keys) t r)
-  advances Asking s t due st tally keys replies lacks halt asks bytes r apt = waiting (placed s Asking due st tally keys) t replies lacks halt asks bytes r apt
+  advances Round s t due st tally keys replies lacks halt asks bytes r apt = inl (by_config _ _ replies lacks halt asks bytes (rounds (placed s Round due st tally keys) t r))
+  advances Asking s t due st tally keys replies lacks halt asks bytes r apt = inl (waiting (placed s Asking due st tally keys) t replies lacks halt asks bytes r apt)
   advances Trying s t due st tally keys replies lacks halt asks bytes r apt =
       let c = placed s Trying due st tally keys in
-      subst (λ (a : Option KernelAsk). Follows (asks_try m traced most (holding c replies lacks halt asks bytes) (m.next_try s)) (asks_try n traced most (followed (holding c replies lacks halt asks bytes) (carried c t)) a)) (sym (alike.next_try s t r))
-      (tries c t (m.next_try s) replies lacks halt asks bytes r tt refl (moves c t (m.expire s) (n.expire t) (Turns 64) (alike.expire s t r) tt))
-  advances (Turns left) s t due st tally keys replies lacks halt asks bytes r apt = by_config _ _ replies lacks halt asks bytes (turns left (placed s (Turns left) due st tally keys) t r)
-  advances (Due left) s t due st tally keys replies lacks halt asks bytes r apt =
-      let c = placed s (Due left) due st tally keys in
-      turning c t left replies lacks halt asks bytes r apt (lack_of m traced most (holding c replies lacks halt asks bytes)) (lack_none (turn_number m traced most c) lacks (m.may_lack s) (alike.quiet s))
-  advances Stopping s t due st tally keys replies lacks halt asks bytes r apt = by_config _ _ replies lacks halt asks bytes (stops (placed s Stopping due st tally keys) t st r)
-  advances Closing s t due st tally keys replies lacks halt asks bytes r apt = by_config _ _ replies lacks halt asks bytes (closings (placed s Closing due st tally keys) t r)
-  advances Last s t due st tally keys replies lacks halt asks bytes r apt =
-      let c = placed s Last due st tally keys in
-      turning_last c t replies lacks halt asks bytes r apt (lack_of m traced most (holding c replies lacks halt asks bytes)) (lack_none (turn_number m traced most c) lacks (m.may_lack s) (alike.quiet s))
+      inl (subst (λ (a : Option KernelAsk). Follows (asks_try m traced most (holding c replies lacks halt asks bytes) (m.next_try s)) (asks_try n traced most (followed (holding c replies lacks halt asks bytes) (carried c t)) a)) (sym (alike.next_try s t r))
+      (tries c t (m.next_try s) replies lacks halt asks bytes r tt refl (moves c t (m.expire s) (n.expire t) (Turns 64) (alike.expire s t r) tt)))
+  advances (Turns left) s t due st tally keys replies lacks halt asks bytes r apt = inl (by_config _ _ replies lacks halt asks bytes (turns left (placed s (Turns left) due st tally keys) t r))
+  advances (Due left) s t due st tally keys replies lacks halt asks bytes r apt = turning (placed s (Due left) due st tally keys) t left replies lacks halt asks bytes r apt
+  advances Stopping s t due st tally keys replies lacks halt asks bytes r apt = inl (by_config _ _ replies lacks halt asks bytes (stops (placed s Stopping due st tally keys) t st r))
+  advances Closing s t due st tally keys replies lacks halt asks bytes r apt = inl (by_config _ _ replies lacks halt asks bytes (closings (placed s Closing due st tally keys) t r))
+  advances Last s t due st tally keys replies lacks halt asks bytes r apt = turning_last (placed s Last due st tally keys) t replies lacks halt asks bytes r apt
   advances Closes s t due st tally keys replies lacks halt asks bytes r apt =
       let c = placed s Closes due st tally keys in
-      subst (λ (a : Option KernelAsk). Follows (asks_try m traced most (holding c replies lacks halt asks bytes) (m.next_try s)) (asks_try n traced most (followed (holding c replies lacks halt asks bytes) (carried c t)) a)) (sym (alike.next_try s t r))
-      (tries c t (m.next_try s) replies lacks halt asks bytes r tt refl (ends c t r))
-  advances (Writing next) s t due st tally keys replies lacks halt asks bytes r apt = writing (placed s (Writing next) due st tally keys) t next (halt_within halt (length bytes) (length due)) replies lacks halt asks bytes r apt
-  advances Over s t due st tally keys replies lacks halt asks bytes r apt = by_config _ _ replies lacks halt asks bytes (record { other = t; stands = r; apt = tt; same = refl })
+      inl (subst (λ (a : Option KernelAsk). Follows (asks_try m traced most (holding c replies lacks halt asks bytes) (m.next_try s)) (asks_try n traced most (followed (holding c replies lacks halt asks bytes) (carried c t)) a)) (sym (alike.next_try s t r))
+      (tries c t (m.next_try s) replies lacks halt asks bytes r tt refl (ends c t r)))
+  advances (Writing next) s t due st tally keys replies lacks halt asks bytes r apt = inl (writing (placed s (Writing next) due st tally keys) t next (halt_within halt (length bytes) (length due)) replies lacks halt asks bytes r apt)
+  advances Over s t due st tally keys replies lacks halt asks bytes r apt = inl (by_config _ _ replies lacks halt asks bytes (record { other = t; stands = r; apt = tt; same = refl }))
 
-  steps : (p : Playing S) (q : Playing T) → Follows p q → Follows (advance m traced most p) (advance n traced most q)
+  steps : (p : Playing S) (q : Playing T) → Follows p q → Together (advance m traced most p) (advance n traced most q)
   steps p q f =
       let c = p.config in
       let now = f.alike_now in
-      subst (λ (x : Playing T). Follows (advance m traced most p) (advance n traced most x)) (sym (f.rest ∙ ap (followed p) now.same))
+      subst (λ (x : Playing T). Together (advance m traced most p) (advance n traced most x)) (sym (f.rest ∙ ap (followed p) now.same))
       (advances c.place c.state now.other c.due c.status c.tally c.keys p.replies p.lacks p.halt p.asks p.bytes now.stands now.apt)
 
-  plays : (k : ℕ) (p : Playing S) (q : Playing T) → Follows p q → Follows (play m traced most k p) (play n traced most k q)
-  plays zero p q f = f
-  plays (suc k) p q f = plays k (advance m traced most p) (advance n traced most q) (steps p q f)
+  -- where all refusals are met in the end, both meet them
+  goes_on : (k : ℕ) (p : Playing S) (q : Playing T) → ((p : Playing S) (q : Playing T) → Follows p q → (play m traced most k p).lacks ≡ [] → Follows (play m traced most k p) (play n traced most k q))
+      → Together p q → (play m traced most k p).lacks ≡ [] → Follows (play m traced most k p) (play n traced most k q)
+  goes_on k p q more (inl f) used = more p q f used
+  goes_on k p q more (inr past) used = absurd (past_some (turn_number m traced most p.config) p.lacks past (sym (past_stays m traced most k p past) ∙ used))
+
+  plays : (k : ℕ) (p : Playing S) (q : Playing T) → Follows p q → (play m traced most k p).lacks ≡ [] → Follows (play m traced most k p) (play n traced most k q)
+  plays zero p q f used = f
+  plays (suc k) p q f used = goes_on k (advance m traced most p) (advance n traced most q) (plays k) (steps p q f) used
 
 module _ {S T K : Type 0} (m : Machine S) (n : Machine T) (kernel_step : K → Entry → K → Type 0) (traced : Bool) (most : ℕ) (R : S → T → Type 0) (alike : Alike m n R) where
   -- a run of the one is a run of the other
-  pub tells_alike : (a b : K) (s : S) (t : T) (keys keys' : Stream) (told now : Option (List ℕ)) (st : Status) → R s t → Tells m kernel_step a b traced most s keys keys' told now st → Tells n kernel_step a b traced most t keys keys' told now st
-  tells_alike a b s t keys keys' told now st r tells =
+  pub concludes_alike : (a b : K) (s : S) (t : T) (keys keys' : Stream) (told now : Option (List ℕ)) (end : RunEnd) → R s t → Concludes m kernel_step a b traced most s keys keys' told now end → Concludes n kernel_step a b traced most t keys keys' told now end
+  concludes_alike a b s t keys keys' told now end r whole =
+      let tells = whole.tells in
       let story = tells.story in
       let replies = replies_of tells.entries in
       let p = play m traced most story.steps (opening m traced most s keys replies story.lacks story.halt) in
-      let q = play n traced most story.steps (opening n traced most t keys replies [] story.halt) in
+      let q = play n traced most story.steps (opening n traced most t keys replies story.lacks story.halt) in
+      let all : p.lacks ≡ [] = ap (λ (x : Playing S). x.lacks) story.plays ∙ story.used in
       let f : Follows m n traced most R alike p q =
-      plays m n traced most R alike story.steps (opening m traced most s keys replies story.lacks story.halt) (opening n traced most t keys replies [] story.halt)
-      (record { config = here t Round status.Well no_tally keys; alike_now = record { other = t; stands = r; apt = tt; same = refl }; rest = refl }) in
+      plays m n traced most R alike story.steps (opening m traced most s keys replies story.lacks story.halt) (opening n traced most t keys replies story.lacks story.halt)
+      (record { config = here t Round status.Well no_tally keys; alike_now = record { other = t; stands = r; apt = tt; same = refl }; rest = refl }) all in
       let config = f.alike_now.same in
+      let outcome : n.ended q.config.state ≡ m.ended story.played.config.state =
+      ap (λ (x : Playing T). n.ended x.config.state) f.rest ∙ ap (λ (d : Config T). n.ended d.state) config ∙ alike.ended p.config.state f.alike_now.other f.alike_now.stands ∙ ap (λ (x : Playing S). m.ended x.config.state) story.plays in
       record {
-        entries = tells.entries;
-        bytes = tells.bytes;
-        went = tells.went;
-        story = record {
-          lacks = [];
-          halt = story.halt;
-          steps = story.steps;
-          played = q;
-          plays = refl;
-          over = ap (λ (x : Playing T). x.config.place) f.rest ∙ ap (λ (d : Config T). d.place) config ∙ ap (λ (x : Playing S). x.config.place) story.plays ∙ story.over;
-          asks = ap (λ (x : Playing T). x.asks) f.rest ∙ ap (λ (x : Playing S). x.asks) story.plays ∙ story.asks;
-          shows = ap (λ (x : Playing T). x.bytes) f.rest ∙ ap (λ (x : Playing S). x.bytes) story.plays ∙ story.shows;
-          ends = ap (λ (x : Playing T). x.config.status) f.rest ∙ ap (λ (d : Config T). d.status) config ∙ ap (λ (x : Playing S). x.config.status) story.plays ∙ story.ends;
-          words = ap (λ (x : Playing T). x.config.keys) f.rest ∙ ap (λ (d : Config T). d.keys) config ∙ ap (λ (x : Playing S). x.config.keys) story.plays ∙ story.words;
-          heard = ap (λ (x : Playing T). x.replies) f.rest ∙ ap (λ (x : Playing S). x.replies) story.plays ∙ story.heard;
-          used = ap (λ (x : Playing T). x.lacks) f.rest;
-          met = ap (λ (x : Playing T). x.halt) f.rest ∙ ap (λ (x : Playing S). x.halt) story.plays ∙ story.met;
+        tells = record {
+          entries = tells.entries;
+          bytes = tells.bytes;
+          went = tells.went;
+          story = record {
+            lacks = story.lacks;
+            halt = story.halt;
+            steps = story.steps;
+            played = q;
+            plays = refl;
+            over = ap (λ (x : Playing T). x.config.place) f.rest ∙ ap (λ (d : Config T). d.place) config ∙ ap (λ (x : Playing S). x.config.place) story.plays ∙ story.over;
+            asks = ap (λ (x : Playing T). x.asks) f.rest ∙ ap (λ (x : Playing S). x.asks) story.plays ∙ story.asks;
+            shows = ap (λ (x : Playing T). x.bytes) f.rest ∙ ap (λ (x : Playing S). x.bytes) story.plays ∙ story.shows;
+            ends = ap (λ (x : Playing T). x.config.status) f.rest ∙ ap (λ (d : Config T). d.status) config ∙ ap (λ (x : Playing S). x.config.status) story.plays ∙ story.ends;
+            words = ap (λ (x : Playing T). x.config.keys) f.rest ∙ ap (λ (d : Config T). d.keys) config ∙ ap (λ (x : Playing S). x.config.keys) story.plays ∙ story.words;
+            heard = ap (λ (x : Playing T). x.replies) f.rest ∙ ap (λ (x : Playing S). x.replies) story.plays ∙ story.heard;
+            used = ap (λ (x : Playing T). x.lacks) f.rest ∙ all;
+            met = ap (λ (x : Playing T). x.halt) f.rest ∙ ap (λ (x : Playing S). x.halt) story.plays ∙ story.met;
+          };
+          out = tells.out;
         };
-        out = tells.out;
+        errno = subst (λ (o : Option (Option Errno)). NamesErrno o end) (sym outcome) whole.errno;
       }

@@ -9,9 +9,9 @@ use Rattle.dill_kernel.specs.declared.replies.KernelReply.TheVariants as reply
 use Rattle.dill_kernel.specs.Entry.{fits}
 use Rattle.relay_trace.specs.Lines.{ran_bytes}
 use Rattle.dill_drive.specs.declared.tally.Tally.{Tally}
-use Rattle.dill_drive.specs.Machine.{Machine}
+use Rattle.dill_drive.specs.Machine.{Machine, may_be}
 use Rattle.dill_drive.specs.Story.{Place, Round, Asking, Trying, Turns, Due, Stopping, Closing, Last, Closes, Writing, Over, Config, is_sink, is_well, is_empty, showing, notes_of, stopped, finished, has_ended, is_spent, waiting_lines, after_test, after_wait, after_try, written, halted, final, summary_of, one_round, one_turn, one_last, lacks_by}
-use Rattle.dill_drive.specs.Leading.{Event, Passed, Replied, Turned, Wrote, Halted, step, unless_try, by_test, asked, heard, by_reply, may_be, by_turn, by_write, by_halt, bytes_by, is_proper_part}
+use Rattle.dill_drive.specs.Leading.{Event, Passed, Replied, Turned, Wrote, Halted, step, unless_try, by_test, asked, heard, by_reply, by_turn, by_write, by_halt, bytes_by, is_proper_part}
 
 -- places behind a stop
 abbrev pub ends : Place → Bool
@@ -130,9 +130,9 @@ module _ {S : Type 0} (m : Machine S) (traced : Bool) (most : ℕ) where
   turned_by c lack tally = record c { state = (m.turn c.state lack c.keys).0; tally = tally; keys = (m.turn c.state lack c.keys).1 }
 
   turned_good : (c : Config S) (place : Place) (lack : Option LackPlace) (next : Config S) → c.place ≡ place → Good c → by_turn m traced most c place lack ≡ Some next → Good next
-  turned_good c (Due left) lack next is good e = subst Good (tested (may_be m traced most c.state lack) e).1
+  turned_good c (Due left) lack next is good e = subst Good (tested (may_be m c.state lack) e).1
       (shows_good (turned_by c lack (one_turn c.tally lack)) (Turns (left - 1)) (ran_bytes traced (m.ran c.state lack) ++ notes_of m traced most (m.turn c.state lack c.keys).0) (inl (is_early c (Due left) is refl good)) refl)
-  turned_good c Last lack next is good e = subst Good (tested (may_be m traced most c.state lack) e).1
+  turned_good c Last lack next is good e = subst Good (tested (may_be m c.state lack) e).1
       (shows_good (turned_by c lack (one_last c.tally lack)) Closing (ran_bytes traced (m.ran c.state lack) ++ notes_of m traced most (m.turn c.state lack c.keys).0) (inr refl) refl)
   turned_good c Round lack next is good e = cc
   turned_good c Asking lack next is good e = cc
@@ -279,7 +279,7 @@ module _ {S : Type 0} (m : Machine S) (traced : Bool) (most : ℕ) where
   replied_silent c (Some ask) r next due silent e = heard_silent c c.place ask r next refl due silent (tested (fits ask r) e).1
 
   turned_silent : (c : Config S) (place : Place) (lack : Option LackPlace) (next : Config S) → c.place ≡ place → Silent c → by_turn m traced most c place lack ≡ Some next → Silent next
-  turned_silent c Last lack next is silent e = silent_at (turned_by c lack (one_last c.tally lack)) next Closing (ran_bytes traced (m.ran c.state lack) ++ notes_of m traced most (m.turn c.state lack c.keys).0) silent.failed refl (tested (may_be m traced most c.state lack) e).1
+  turned_silent c Last lack next is silent e = silent_at (turned_by c lack (one_last c.tally lack)) next Closing (ran_bytes traced (m.ran c.state lack) ++ notes_of m traced most (m.turn c.state lack c.keys).0) silent.failed refl (tested (may_be m c.state lack) e).1
   turned_silent c (Due left) lack next is silent e = cc (ap ends is, silent.place)
   turned_silent c Round lack next is silent e = cc
   turned_silent c Asking lack next is silent e = cc

@@ -1,5 +1,5 @@
 -- A program that prints, run by the rules, is seen to do what its own machine does.
-use Rattle.std.proofs.Common.{◌≡◌, ◌∙◌, ℕ, ◌+◌, List, [], ◌∷◌, fold, max, Option, Some, None, Bool, true, false, not, if◌then◌else◌, is_some, refl, sym, ap}
+use Rattle.std.proofs.Common.{◌≡◌, ◌∙◌, ℕ, ◌+◌, ◌<◌, ◌≤◌, ◌^◌, arith, length, List, [], ◌∷◌, fold, max, Option, Some, None, Bool, true, false, not, if◌then◌else◌, is_some, refl, sym, ap}
 use Rattle.rand_core.specs.Stream.{Stream}
 use Rattle.dill_calls.specs.declared.answer.Answer.TheVariants.{Number}
 use Rattle.dill_calls.specs.declared.word.Word.{Word}
@@ -19,7 +19,14 @@ use Rattle.dill_rules.specs.Links.{change_link, heated}
 use Rattle.dill_rules.specs.Seen.{turn_seen, ran_seen, ask_seen, waiting_seen, notes_seen, made_seen, gone_seen}
 use Rattle.dill_rules.specs.State.{State, Stamp, opening_state, expired, shut, woke, is_answered}
 use Rattle.dill_rules.specs.Waiting.{is_stuck, limit}
-use Rattle.dill_drive.specs.Prints.{View, prints, printing, prints_turn, prints_ran, starting}
+use Rattle.dill_base.specs.declared.status.Status.TheVariants.{Stuck}
+use Rattle.dill_calls.specs.declared.ran.LackPlace.{LackPlace}
+use Rattle.dill_drive.specs.declared.run_end.RunEnd.{RunEnd}
+use Rattle.dill_drive.specs.declared.run_end.RunEnd.TheVariants as ends
+use Rattle.dill_drive.specs.Machine.{may_be}
+use Rattle.dill_drive.specs.Progress.{IsEnd, IsStop, WasStuck}
+use Rattle.dill_drive.specs.Tells.{NamesErrno, status_of}
+use Rattle.dill_drive.specs.Prints.{View, end_by, prints, printing, prints_turn, prints_ran, starting, owed}
 use Rattle.dill_drive.specs.ByRules.{machine_of}
 use Rattle.dill_drive.proofs.Alike.{Alike}
 
@@ -121,10 +128,6 @@ turn_at [] word r (Some at) keys = refl
 turn_at (text ∷ left) word r None keys = refl
 turn_at (text ∷ left) word r (Some at) keys = refl
 
--- how a program that prints has ended
-abbrev end_by : Bool → Option (Option Errno)
-end_by over = if over then Some None else None
-
 -- what is seen
 module _ (left : List (List ℕ)) (word : Word) (r : Rest) where
   ended_at : (over : Bool) → (state_at over left word r).world.ended ≡ (if over then Some None else None)
@@ -174,22 +177,31 @@ module _ (left : List (List ℕ)) (word : Word) (r : Rest) where
   turn_by false keys on = turn_at left word r r.closing keys
   turn_by true keys on = cc
 
+-- no turn of it is refused memory
+turn_refused : (v : View) (t : State View) (lack : Option LackPlace) (keys : Stream) → Stands v t → prints.ended v ≡ None → may_be prints v lack ≡ true → Stands (prints.turn v lack keys).0 (turn_seen printing t lack keys).0 × ((turn_seen printing t lack keys).1 ≡ (prints.turn v lack keys).1)
+turn_refused v t None keys (r, is) on may =
+    let made = ap (λ (s : State View). turn_seen printing s None keys) is ∙ turn_by v.left v.word r v.ended keys (ap is_some on) in
+    ((after_turn v.left r keys, ap (λ (x : State View × Stream). x.0) made), ap (λ (x : State View × Stream). x.1) made)
+turn_refused v t (Some place) keys (r, is) on may = cc
+
+ran_refused : (v : View) (t : State View) (lack : Option LackPlace) → Stands v t → prints.ended v ≡ None → may_be prints v lack ≡ true → ran_seen printing t lack ≡ prints.ran v lack
+ran_refused v t None (r, is) on may = ap (λ (s : State View). ran_seen printing s None) is ∙ ran_by v.left v.word r v.ended (ap is_some on)
+ran_refused v t (Some place) (r, is) on may = cc
+
 -- The rules, and the machine of a program that prints: nothing different is seen of the two.
 pub alike : Alike prints (machine_of printing) Stands
 alike = record {
-  quiet = λ v place. refl;
   ended = λ v t (r, is). ap (λ (s : State View). s.world.ended) is ∙ ended_at v.left v.word r v.ended;
   answered = λ v t (r, is). ap is_answered is ∙ answered_at v.left v.word r v.ended;
-  stuck = λ v t (r, is) on. ap is_stuck is ∙ stuck_at v.left v.word r v.ended on;
-  limit = λ v t (r, is) on. ap limit is ∙ limit_at v.left v.word r v.ended on;
+  stuck = λ v t (r, is) on. ap is_stuck is ∙ stuck_at v.left v.word r v.ended (ap is_some on);
+  limit = λ v t (r, is) on. ap limit is ∙ limit_at v.left v.word r v.ended (ap is_some on);
   woke = λ v t moment ready (r, is). (_, ap (λ (s : State View). woke s moment ready) is ∙ woken_at v.ended v.left v.word r moment ready);
   next_try = λ v t (r, is). ap ask_seen is ∙ asks_at v.left v.word r v.ended r.closing;
   hear = λ v t ask reply keys stands due. cc;
   expire = λ v t (r, is). (_, ap expired is ∙ expired_at v.ended v.left v.word r r.closing);
-  ran = λ v t (r, is) on. ap (λ (s : State View). ran_seen printing s None) is ∙ ran_by v.left v.word r v.ended on;
-  turn = λ v t keys (r, is) on.
-      let made = ap (λ (s : State View). turn_seen printing s None keys) is ∙ turn_by v.left v.word r v.ended keys on in
-      ((after_turn v.left r keys, ap (λ (x : State View × Stream). x.0) made), ap (λ (x : State View × Stream). x.1) made);
+  may_lack = λ v t place stands on may. cc;
+  ran = ran_refused;
+  turn = turn_refused;
   shut = λ v t (r, is). (_, ap shut is ∙ shut_at v.ended v.left v.word r r.closing);
   notes = λ v t (r, is). ap notes_seen is ∙ notes_at v.left v.word r v.ended;
   waiting = λ v t (r, is). ap waiting_seen is ∙ waiting_at v.left v.word r v.ended;
@@ -200,3 +212,24 @@ alike = record {
 -- before the first turn
 pub stands_first : (texts : List (List ℕ)) (keys : Stream) → Stands (starting texts) (opening_state (starting texts) keys)
 stands_first texts keys = (record { place = world.at_start; wrote = []; words = keys; moment = 0; closing = None; stamp = 0; next = 1 }, refl)
+
+-- it can't wait, and ends with no errno
+pub stops_so : (end : RunEnd) (v : View) → IsEnd (status_of end) → (status_of end ≡ Stuck → WasStuck prints) → NamesErrno (prints.ended v) end → IsStop (status_of end)
+stops_so ends.Ended v is was names = tt
+stops_so (ends.Faulted errno) v is was names = by_end v.ended errno names
+  where
+    by_end : (over : Bool) (errno : Errno) → end_by over ≡ Some (Some errno) → ⊥
+    by_end true errno e = cc
+    by_end false errno e = cc
+stops_so ends.Stuck v is was names = let never = (was refl).stuck in cc
+stops_so ends.Spent v is was names = tt
+stops_so ends.WaitFault v is was names = tt
+stops_so ends.WriteFault v is was names = tt
+stops_so ends.NoMemory v is was names = is
+
+pub owed_few : (v : View) → length v.left < 2 ^ 32 → owed v ≤ 2 ^ 48
+owed_few v few = by_end v.ended
+  where
+    by_end : (over : Bool) → (if over then 0 else length v.left + 1) ≤ 2 ^ 48
+    by_end true = omega arith
+    by_end false = omega (arith, few)

@@ -1,5 +1,5 @@
 -- A part of a run, told by what happened in it one thing after the other. By this the driver's loops are proved; what a whole run is, `Play` says.
-use Rattle.std.specs.Prelude.{◌≡◌, ℕ, List, [], ◌∷◌, ◌++◌, length, take, Option, Some, None, Bool, true, ◌&&◌, nat_lt, if◌then◌else◌}
+use Rattle.std.specs.Prelude.{◌≡◌, ℕ, List, [], ◌∷◌, ◌++◌, length, take, Option, Some, None, Bool, ◌&&◌, nat_lt, if◌then◌else◌}
 use Rattle.std.specs.Str.{bytes_eq}
 use Rattle.std.specs.Io.KnownBytes.{Appends}
 use Rattle.dill_calls.specs.declared.ran.LackPlace.{LackPlace}
@@ -7,7 +7,7 @@ use Rattle.dill_kernel.specs.declared.replies.KernelAsk.{KernelAsk}
 use Rattle.dill_kernel.specs.declared.replies.KernelAsk.TheVariants.{Wait}
 use Rattle.dill_kernel.specs.declared.replies.KernelReply.{KernelReply}
 use Rattle.dill_kernel.specs.Entry.{Entry, fits}
-use Rattle.dill_drive.specs.Machine.{Machine}
+use Rattle.dill_drive.specs.Machine.{Machine, may_be}
 use Rattle.dill_drive.specs.Story.{Place, Round, Asking, Trying, Turns, Due, Stopping, Closing, Last, Closes, Writing, Config, after_test, after_wait, after_try, after_turn, after_last, written, halted}
 
 -- what happens
@@ -56,13 +56,9 @@ module _ {S : Type 0} (m : Machine S) (traced : Bool) (most : ℕ) where
   by_reply c None reply = None
   by_reply c (Some ask) reply = if fits ask reply then Some (heard c c.place ask reply) else None
 
-  abbrev pub may_be : S → Option LackPlace → Bool
-  may_be state None = true
-  may_be state (Some place) = m.may_lack state place
-
   abbrev pub by_turn : Config S → Place → Option LackPlace → Option (Config S)
-  by_turn c (Due left) lack = if may_be c.state lack then Some (after_turn m traced most c left lack) else None
-  by_turn c Last lack = if may_be c.state lack then Some (after_last m traced most c lack) else None
+  by_turn c (Due left) lack = if may_be m c.state lack then Some (after_turn m traced most c left lack) else None
+  by_turn c Last lack = if may_be m c.state lack then Some (after_last m traced most c lack) else None
   by_turn c other lack = None
 
   abbrev pub by_write : Config S → Place → Option (Config S)

@@ -108,7 +108,7 @@ pub record HandlesRunOut : Type 0 where
   pub cancelled_giver : refused (cancelled (kept_handles 65531)) (calls.PrefixDetach 5 ∷ []) ≡ Some Emfile ∷ []
   pub cancelled_with_room : refused (cancelled (kept_handles 65530)) (calls.PrefixDetach 5 ∷ []) ≡ None ∷ []
 
--- Numbers of handles end at 2,147,483,647, links are 4,096 at most, and numbers of links and of coroutines end at 18,446,744,073,709,551,615.
+-- Numbers of handles end at 2,147,483,647. Links are 4,096 and coroutines 65,536 at most, and their numbers end at 18,446,744,073,709,551,615.
 pub record NumbersRunOut : Type 0 where
   pub last_number : refused (last_given 0 2147483646) draw_one ≡ each None draw_one
   pub no_number : refused (last_given 0 2147483647) draw_one ≡ each (Some Emfile) draw_one

@@ -21,6 +21,7 @@ pub mod Asked
 pub mod Scripted
 pub mod LongInput
 pub mod Settled
+pub mod Answered
 pub mod Stops
 pub mod Ends
 pub mod Orders

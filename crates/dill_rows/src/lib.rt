@@ -11,7 +11,8 @@ ghost use Rattle.dill_rows.specs.Readings.{Occupied, DeadClause, GiveUps, Cancel
 ghost use Rattle.dill_rows.specs.Lacks.{LacksChangeNothing};
 ghost use Rattle.dill_rows.specs.Limits.{LimitsAreExact};
 ghost use Rattle.dill_rows.specs.Settled.{CloseFrameMet, HeadsWithoutCase, AnothersStack, MovedFirst, TakesAwaited};
-ghost use Rattle.dill_rows.specs.LongInput.{LongLines, LongMessages, LongHeads};
+ghost use Rattle.dill_rows.specs.Answered.{AnswersOfScopes, AnswersOfLinks, AnswersOfDetaches, AnswersOfHeads};
+ghost use Rattle.dill_rows.specs.LongInput.{LongLines, LongMessages, LongHeads, LongItems};
 ghost use Rattle.dill_rows.specs.Full.{HandlesRunOut, NumbersRunOut, LastHandle};
 ghost use Rattle.dill_rows.specs.InUse.{HandshakeKinds, LeavingOccupies, EndsAreSends, HeadsInUse};
 ghost use Rattle.dill_rows.specs.Stops.{RootClosingNotes, QueuedPongs, RefusedHeatsNothing, RepliesUsedUp, AllWaitersTold, ClosedBeforeStuck};
@@ -33,7 +34,7 @@ ghost use Rattle.dill_rows.specs.Stories.{WorkedStories};
 ghost use Rattle.dill_rows.specs.Failing.{OutputFails};
 ghost use Rattle.dill_rows.specs.Asked.{AsksCarry};
 ghost use Rattle.dill_rows.specs.Scripted.{ScriptsRun, ScriptsPlay, ScriptsOverLinks};
-ghost use Rattle.dill_rows.specs.SameStories.{SameStories};
+ghost use Rattle.dill_rows.specs.SameStories.{SameStories, NetworkStories};
 
 /// Three deadlines at one moment pass in the order of the coroutines.
 pub fn equal_deadlines_lower_first()
@@ -218,6 +219,14 @@ pub fn no_room_is_refused()
     ensures run { LastHandle }
 {}
 
+/// Answers of calls, each in a run of its own.
+pub fn answers_of_calls()
+    ensures scopes { AnswersOfScopes }
+    ensures links { AnswersOfLinks }
+    ensures detaches { AnswersOfDetaches }
+    ensures heads { AnswersOfHeads }
+{}
+
 /// Places that could be read in two ways.
 pub fn settled_places()
     ensures close_frame { CloseFrameMet }
@@ -232,6 +241,7 @@ pub fn long_input()
     ensures lines { LongLines }
     ensures messages { LongMessages }
     ensures heads { LongHeads }
+    ensures items { LongItems }
 {}
 
 /// A WebSocket server over one connection, up to a frame that it refuses.
@@ -509,6 +519,11 @@ pub fn lines_over_a_link()
 /// The story of a run over the rules writes and asks what the worked run does.
 pub fn stories_of_worked_runs()
     ensures { SameStories }
+{}
+
+/// Runs over the network in memory do what their stories do over its replies.
+pub fn stories_over_the_network()
+    ensures { NetworkStories }
 {}
 
 /// Which calls take a random word.

@@ -1,5 +1,5 @@
 -- The first element that passes two tests, whichever is asked first.
-use Rattle.std.proofs.Common.{◌≡◌, Bool, true, false, List, [], ◌∷◌, Option, Some, refl, cond}
+use Rattle.std.proofs.Common.{◌≡◌, Bool, true, false, List, [], ◌∷◌, refl, cond}
 use Rattle.std.specs.Prelude.{find, filter}
 
 module _ {X : Type 0} (p q : X → Bool) where

@@ -1,4 +1,12 @@
+pub mod Carrying
 pub mod Chains
 pub mod Climbing
+pub mod Elements
 pub mod Firsts
 pub mod Found
+pub mod Growing
+pub mod Leaving
+pub mod Numbered
+pub mod Shutting
+pub mod Taking
+pub mod Trees

@@ -1,2 +1,3 @@
 pub mod Scopes
 pub mod Forest
+pub mod Keeping

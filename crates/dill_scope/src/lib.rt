@@ -4,12 +4,21 @@
 ghost use Rattle.dill_scope.specs.Forest.{SearchIsInside, SearchIsCancelled};
 
 mod forest;
+mod laws;
 mod places;
 mod scopes;
 #[cfg(test)]
 mod tests;
 
 pub use forest::{Bundle, Home};
+pub use laws::{
+    an_insider_may_not_take, bundle_keeps_the_forest, bundle_moves_nobody,
+    close_cancels_who_is_inside, close_keeps_the_forest, close_moves_nobody, drop_keeps_the_forest,
+    drop_moves_nobody, ended_keeps_the_forest, ended_moves_no_other, enter_keeps_the_forest,
+    enter_moves_no_other, enter_places_the_new_one, open_keeps_the_forest, opening_is_a_forest,
+    take_cancels_nobody, take_cancels_only_inside, take_frees_nobody, take_keeps_the_forest,
+    tree_lists_who_is_inside,
+};
 pub use scopes::Scopes;
 
 /// In a forest the search finds exactly those who are inside a bundle.

@@ -40,8 +40,6 @@ fn leaves(rt: &impl Abort, scopes: &mut Scopes, who: u64, bundle: u64) {
 
 #[test]
 fn a_bundle_holds_who_lives_in_it_and_what_they_own(rt: HostRuntime) -> Result<(), Fail> {
-    search_is_inside();
-    search_is_cancelled();
     let mut scopes = family(rt.alloc())?;
     shows(&rt, &scopes, 0, &[1, 2, 3, 4, 5]);
     shows(&rt, &scopes, 1, &[2, 3, 5]);

@@ -1,5 +1,6 @@
-pub mod Store
+pub mod Brief
 pub mod Steps
+pub mod Store
 pub mod Ways
 pub mod Needs
 pub mod Timing

@@ -12,6 +12,8 @@ mod refusals;
 mod rows;
 mod settling;
 mod taking;
+#[cfg(test)]
+mod tests;
 mod turning;
 mod world;
 

@@ -1,4 +1,7 @@
-use Rattle.std.proofs.Common.{refl}
+use Rattle.std.proofs.Common.{refl, ap}
+use Rattle.std.specs.Prelude.{ℕ, Option, Some, None, false, ◌||◌, if◌then◌else◌, nat_lt}
+use Rattle.dill_base.specs.declared.errno.Errno.{Errno}
+use Rattle.dill_base.specs.declared.errno.Errno.TheVariants.{Einval, Emsgsize}
 use Rattle.std.specs.Fmt.{digits}
 use lib.Utf8.{encode}
 use Rattle.std.specs.Str.{is_utf8, chars}
@@ -24,19 +27,33 @@ use Rattle.base64.specs.Decode.{groups_error, groups_bytes, scan_steps}
 use Rattle.base64.specs.GeneralPurpose.{decoded_of}
 use Rattle.dill_ws.specs.HeadLines.{next_line, lines_at, behind, head_stop, head_front_by}
 use Rattle.dill_ws.specs.Offers.{client_asks, server_agrees, key_of}
-use Rattle.dill_ws.specs.Handshakes.{client_front, server_front}
+use Rattle.dill_http.specs.Writing.{line_due}
+use Rattle.dill_ws.specs.Handshakes.{client_front, server_front, client_due, head_fault_of}
 use Rattle.dill_stack.specs.Greeting.{greet, greeted}
 use Rattle.dill_loop.specs.Steps.{network_reply, network_after}
 use Rattle.dill_rows.proofs.long_input.Goals as goal
 
+-- the refusal of so many bytes
+abbrev over : Errno → ℕ → Option Errno
+over e n = if nat_lt 1048576 n || false then Some e else None
+
 pub returns-clause-lines : goal.returns-clause-lines
-unfolding digits network_reply network_after is_utf8 chars encode next_u32 prefix_front prefix_due suffix_front suffix_due is_token_byte front_of_line request_cut status_cut field_cut head_front composed is_invalid is_refused is_too_long attach_fault send_fault line_fault done_fault read_fault detach_fault frame line done withdraw ws_front passed shown read_list dropped read attach greet_fault expect_greet parting_fault detach_start detach_finish first_words schedule rounds compress hash_after digest_bytes sha1 encode_symbols groups_error groups_bytes scan_steps decoded_of next_line lines_at behind head_stop head_front_by client_asks server_agrees key_of client_front server_front greet greeted
-returns-clause-lines c = record { waits = refl; refused = refl; longest = refl; longest_waits = refl; too_long = refl; line_feed_beyond = refl; return_beyond = refl; byte_beyond = refl; line_feed_within = refl }
+unfolding digits network_reply network_after is_utf8 chars encode next_u32 prefix_front prefix_due suffix_front suffix_due is_token_byte front_of_line request_cut status_cut field_cut head_front composed is_invalid is_refused is_too_long attach_fault send_fault line_fault done_fault read_fault detach_fault frame line done withdraw ws_front passed shown read_list dropped read attach greet_fault expect_greet parting_fault detach_start detach_finish first_words schedule rounds compress hash_after digest_bytes sha1 encode_symbols groups_error groups_bytes scan_steps decoded_of next_line lines_at behind head_stop head_front_by client_asks server_agrees key_of client_front server_front greet greeted line_due
+returns-clause-lines c = record { waits = refl; refused = refl; longest = refl; longest_waits = refl; too_long = refl; line_feed_beyond = refl; return_beyond = refl; byte_beyond = refl; line_feed_within = refl; request = refl; status = refl; field = refl }
 
 pub returns-clause-messages : goal.returns-clause-messages
 unfolding digits network_reply network_after is_utf8 chars encode next_u32 prefix_front prefix_due suffix_front suffix_due is_token_byte front_of_line request_cut status_cut field_cut head_front composed is_invalid is_refused is_too_long attach_fault send_fault line_fault done_fault read_fault detach_fault frame line done withdraw ws_front passed shown read_list dropped read attach greet_fault expect_greet parting_fault detach_start detach_finish first_words schedule rounds compress hash_after digest_bytes sha1 encode_symbols groups_error groups_bytes scan_steps decoded_of next_line lines_at behind head_stop head_front_by client_asks server_agrees key_of client_front server_front greet greeted
 returns-clause-messages c = record { longest = refl; too_long = refl; longest_sent = refl; too_long_sent = refl }
 
 pub returns-clause-heads : goal.returns-clause-heads
+unfolding digits network_reply network_after is_utf8 chars encode next_u32 prefix_front prefix_due suffix_front suffix_due is_token_byte front_of_line request_cut status_cut field_cut head_front composed is_invalid is_refused is_too_long attach_fault send_fault line_fault done_fault read_fault detach_fault frame line done withdraw ws_front passed shown read_list dropped read attach greet_fault expect_greet parting_fault detach_start detach_finish first_words schedule rounds compress hash_after digest_bytes sha1 encode_symbols groups_error groups_bytes scan_steps decoded_of next_line lines_at behind head_stop head_front_by client_asks server_agrees key_of client_front server_front greet greeted client_due head_fault_of
+returns-clause-heads c = record { client = refl; server = refl; longest = refl; too_long = refl; sent = refl }
+
+pub returns-clause-items : goal.returns-clause-items
 unfolding digits network_reply network_after is_utf8 chars encode next_u32 prefix_front prefix_due suffix_front suffix_due is_token_byte front_of_line request_cut status_cut field_cut head_front composed is_invalid is_refused is_too_long attach_fault send_fault line_fault done_fault read_fault detach_fault frame line done withdraw ws_front passed shown read_list dropped read attach greet_fault expect_greet parting_fault detach_start detach_finish first_words schedule rounds compress hash_after digest_bytes sha1 encode_symbols groups_error groups_bytes scan_steps decoded_of next_line lines_at behind head_stop head_front_by client_asks server_agrees key_of client_front server_front greet greeted
-returns-clause-heads c = record { client = refl; server = refl; longest = refl; too_long = refl }
+returns-clause-items c = record {
+  longest = λ bytes e. ap (over Einval) e;
+  too_long = λ bytes e. ap (over Einval) e;
+  longest_sent = λ bytes e. ap (over Emsgsize) e;
+  too_long_sent = λ bytes e. ap (over Emsgsize) e;
+}

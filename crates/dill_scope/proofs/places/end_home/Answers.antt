@@ -1,5 +1,4 @@
-use Rattle.std.proofs.Common.{sym, ap, ◌∙◌, Some, find}
-use Rattle.std.specs.Prelude.{option_map}
+use Rattle.std.proofs.Common.{sym, ap, ◌∙◌, Some}
 use Rattle.dill_scope.specs.Scopes.{is_home}
 use Rattle.dill_scope.proofs.Found.{place, no_place}
 use Rattle.dill_scope.proofs.places.end_home.Goals as goal

@@ -1,4 +1,4 @@
-use Rattle.std.proofs.Common.{◌≡◌, ℕ, suc, ◌+◌, ◌-◌, sym, ◌∙◌, arith}
+use Rattle.std.proofs.Common.{◌≡◌, suc, ◌+◌, ◌-◌, sym, ◌∙◌, arith}
 use Rattle.dill_scope.proofs.Climbing.{climb}
 use Rattle.dill_scope.proofs.scopes.Scopes.inside.Goals as goal
 

@@ -1,4 +1,4 @@
-use Rattle.std.proofs.Common.{◌≡◌, ◌-◌, ◌≤◌, length}
+use Rattle.std.proofs.Common.{◌≡◌, ◌-◌, length}
 use Rattle.dill_scope.specs.Scopes as scopes
 use Rattle.dill_scope.proofs.scopes.Scopes.inside.Given as goal
 

@@ -1,0 +1,10 @@
+pub mod Built
+pub mod Counted
+pub mod Joining
+pub mod Known
+pub mod Making
+pub mod Stacking
+pub mod Stepping
+pub mod Telling
+pub mod Turning
+pub mod Turned

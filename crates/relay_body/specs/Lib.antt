@@ -1,0 +1,14 @@
+pub mod Answered
+pub mod Bools
+pub mod Building
+pub mod Lawful
+pub mod Modes
+pub mod Opened
+pub mod Plainly
+pub mod Runnable
+pub mod Running
+pub mod Seen
+pub mod Stacks
+pub mod Steps
+pub mod Stopping
+pub mod Walked

@@ -1,0 +1,5 @@
+pub mod Cutting
+pub mod Nested
+pub mod Reasons
+pub mod Said
+pub mod Stepping

@@ -1,0 +1,38 @@
+use Rattle.std.proofs.Common.{◌≡◌, ◌++◌, Some, sym, subst}
+use Rattle.dill_script.specs.Contexts.{Context, behind}
+use Rattle.dill_script.specs.Refusals.{first_reason}
+use Rattle.dill_script.specs.Statements.{line_of}
+use Rattle.relay_words.specs.Spelled.{line_in}
+use Rattle.relay_reader.specs.Built.{is_built_so_far}
+use Rattle.relay_reader.specs.Parts.{word_faults, spelling_faults, limit_faults}
+use Rattle.relay_reader.specs.Telling.{Tells}
+use Rattle.relay_reader.proofs.Reasons.{faults_first, faults_later, tells_later, told_error, behind_is}
+use Rattle.relay_reader.proofs.context.Context.read_heading.Goals as goal
+
+pub returns-in_err-keyword : goal.returns-in_err-keyword
+returns-in_err-keyword c =
+    let state = c.args.self.now in
+    let heading = c.args.heading.now in
+    let word = word_faults is_built_so_far state.open_blocks c.args.last heading.word in
+    let rest = spelling_faults state.whole (line_of heading) ++ limit_faults (behind state (Some heading)) in
+    told_error c.from_residual.result c.in_err-keyword.field-0.0 _ _ c.from_residual.ensures.1 (faults_first _ word rest c.in_err-keyword.ensures)
+
+pub returns-in_err-line : goal.returns-in_err-line
+returns-in_err-line c =
+    let state = c.args.self.now in
+    let heading = c.args.heading.now in
+    let word = word_faults is_built_so_far state.open_blocks c.args.last heading.word in
+    let spelling = spelling_faults state.whole (line_of heading) in
+    let rest = limit_faults (behind state (Some heading)) in
+    told_error c.from_residual-in_err-line.result c.in_err-line.field-0.0 _ _ c.from_residual-in_err-line.ensures.1 (faults_later _ word (spelling ++ rest) c.in_ok-keyword.ensures.0 (faults_first _ spelling rest c.in_err-line.ensures))
+
+pub returns : goal.returns
+returns c =
+    let state = c.args.self.now in
+    let heading = c.args.heading.now in
+    let word = word_faults is_built_so_far state.open_blocks c.args.last heading.word in
+    let spelling = spelling_faults state.whole (line_of heading) in
+    let rest = limit_faults (behind state (Some heading)) in
+    let here = behind_is state heading c.in_ok-keyword.keyword (line_in c.in_ok-line.line) c.in_ok-keyword.ensures.1 c.in_ok-line.ensures.1 in
+    let On : Context → Type 0 = λ context. Tells c.go_on.result (first_reason (limit_faults context)) (λ _. c.go_on.new.self ≡ context) in
+    tells_later c.go_on.result word (spelling ++ rest) _ c.in_ok-keyword.ensures.0 (tells_later c.go_on.result spelling rest _ c.in_ok-line.ensures.0 (subst On (sym here) c.go_on.ensures))

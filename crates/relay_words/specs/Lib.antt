@@ -1,0 +1,10 @@
+pub mod Addresses
+pub mod Clauses
+pub mod Cutting
+pub mod Pairs
+pub mod Prefixes
+pub mod Shapes
+pub mod Spelled
+pub mod Targets
+pub mod Texts
+pub mod Tokens
