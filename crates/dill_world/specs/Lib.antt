@@ -3,3 +3,10 @@ pub mod Steps
 pub mod Store
 pub mod Ways
 pub mod Needs
+pub mod Timing
+pub mod Endings
+pub mod Turned
+pub mod Closings
+pub mod Releases
+pub mod Freeings
+pub mod Gathering

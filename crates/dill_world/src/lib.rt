@@ -4,14 +4,17 @@
 
 mod answers;
 mod entering;
+mod expiring;
 mod kinds;
 mod naming;
 mod owning;
 mod refusals;
 mod rows;
+mod settling;
 mod taking;
 #[cfg(test)]
 mod tests;
+mod turning;
 mod world;
 
 pub use world::World;
