@@ -1,0 +1,6 @@
+//! Stand-in of the core.
+#![tactic(auto)]
+
+mod whole;
+
+pub use whole::run;
