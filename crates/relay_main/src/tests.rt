@@ -14,25 +14,25 @@ const BUDGET: u64 = 1_000_000_000;
 /// A script under the name `x`, and the calls of the outside that fail: of the shelf, of out, and of err by their numbers
 /// (0: none), and the wait.
 #[derive(Clone, Copy)]
-struct Case<'a> {
-    script: &'a [u8],
-    traced: bool,
-    turns: u64,
-    shelf_fails: u64,
-    out_fails: u64,
-    err_fails: u64,
-    wait_fails: Option<u64>,
+pub struct Case<'a> {
+    pub script: &'a [u8],
+    pub traced: bool,
+    pub turns: u64,
+    pub shelf_fails: u64,
+    pub out_fails: u64,
+    pub err_fails: u64,
+    pub wait_fails: Option<u64>,
 }
 
 /// What a run came to.
 #[derive(Clone, Copy)]
-struct End<'a> {
-    status: Status,
-    shown: &'a str,
-    said: &'a str,
+pub struct End<'a> {
+    pub status: Status,
+    pub shown: &'a str,
+    pub said: &'a str,
 }
 
-fn plain(script: &[u8]) -> Case<'_> {
+pub fn plain(script: &[u8]) -> Case<'_> {
     Case {
         script,
         traced: false,
@@ -59,7 +59,7 @@ fn sink(alloc: Global, fails: u64) -> Result<MemSink, Fail> {
 }
 
 /// Runs the file of a name, and compares what it came to.
-fn ends(
+pub fn ends(
     rt: &(impl Abort + AllocGlobal),
     name: &str,
     case: Case<'_>,
@@ -117,23 +117,43 @@ fn two_prints(rt: HostRuntime) -> Result<(), Fail> {
 }
 
 #[test]
-fn refused_first_lines(rt: HostRuntime) -> Result<(), Fail> {
-    let cases: [(&[u8], &str); 7] = [
+fn refused_scripts(rt: HostRuntime) -> Result<(), Fail> {
+    let cases: [(&[u8], &str); 12] = [
         (b"", "dillrelay: script line 1: no version\n"),
         (b"dill 2\n", "dillrelay: script line 1: no version\n"),
         (b"dill 1\n", "dillrelay: script line 1: no main\n"),
         (b"dill 1", "dillrelay: script line 1: no main\n"),
         (
             b"dill 1\nprogram main 1\nend\n",
-            "dillrelay: script line 2: not built\n",
+            "dillrelay: script line 2: bad operand\n",
         ),
         (
-            b"dill 1\nprogram main 0\nprint \"a\"\nnow\nend\n",
+            b"dill 1\nprogram main 0\nprint \"a\"\nchmake\nend\n",
             "dillrelay: script line 4: not built\n",
         ),
         (
             b"dill 1\nprogram main 0\nprint \"a\"\n",
-            "dillrelay: script line 3: not built\n",
+            "dillrelay: script line 3: bad block\n",
+        ),
+        (
+            b"dill 1\nprogram main 0\nwrite \"a\"\nend\n",
+            "dillrelay: script line 3: unknown word\n",
+        ),
+        (
+            b"dill 1\nprogram main 0\nprint \"a\nend\n",
+            "dillrelay: script line 3: bad text\n",
+        ),
+        (
+            b"dill 1\nprogram main 0\nprint \x07\nend\n",
+            "dillrelay: script line 3: bad byte\n",
+        ),
+        (
+            b"dill 1\nprogram main 0\nend\nprogram main 0\nend\n",
+            "dillrelay: script line 4: repeated name\n",
+        ),
+        (
+            b"dill 1\nprogram main 0\ngo child\nend\n",
+            "dillrelay: script line 3: no program\n",
         ),
     ];
     for (script, said) in cases {
