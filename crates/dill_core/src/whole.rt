@@ -1,6 +1,12 @@
-ghost use Rattle.std.specs.Prelude.{◌≡◌, ◌≤◌};
+ghost use Rattle.std.specs.Prelude.{◌≡◌, ◌≤◌, true, false};
 ghost use Rattle.dill_calls.specs.Program.{Begins};
-ghost use Rattle.dill_core.specs.Run.{CameTo};
+ghost use Rattle.dill_kernel.specs.Entry.{ReplyHasCause};
+ghost use Rattle.dill_rules.specs.State.{opening_state};
+ghost use Rattle.dill_drive.specs.ByRules.{machine_of};
+ghost use Rattle.dill_drive.specs.Progress.{is_wait};
+ghost use Rattle.dill_drive.specs.Story.{is_sink};
+ghost use Rattle.dill_drive.specs.Tells.{Concludes, status_of};
+ghost use Rattle.dill_core.specs.Begun.{has_begun, IsUntouched};
 
 use dill_base::Sink;
 use dill_drive::RunEnd;
@@ -11,17 +17,27 @@ use std::alloc::Global;
 
 /// Runs.
 pub fn run<B: PlainBody, K: Kernel, W: Sink, R: Rng>(
-    _alloc: Global,
-    _first: B,
-    _traced: bool,
+    alloc: Global,
+    first: B,
+    traced: bool,
     turns: u64,
-    _kernel: &mut K,
-    _out: &mut W,
-    _keys: &mut R,
+    kernel: &mut K,
+    out: &mut W,
+    keys: &mut R,
 ) -> RunEnd
-    requires begins { Begins B.means _first }
+    requires begins { Begins B.means first }
     requires limit { turns ≤ 999999999999999999 }
-    ensures { CameTo B.means K.step K.faults W.told W.faults _kernel.old _kernel.new _traced turns _first (R.stream _keys.old) (R.stream _keys.new) _out.old _out.new result }
+    ensures refused { has_begun result ≡ false → IsUntouched kernel.old kernel.new out.old out.new keys.old keys.new }
+    ensures runs { has_begun result ≡ true → Concludes (machine_of B.means) K.step kernel.old kernel.new traced turns (opening_state first (R.stream keys.old)) (R.stream keys.old) (R.stream keys.new) (W.told out.old) (W.told out.new) result }
+    ensures cause { ReplyHasCause (W.faults out.old) (W.faults out.new) (is_sink (status_of result)) }
+    ensures kernel_cause { K.faults kernel.old ≤ K.faults kernel.new }
+    ensures wait { is_sink (status_of result) ≡ false → ReplyHasCause (K.faults kernel.old) (K.faults kernel.new) (is_wait (status_of result)) }
 {
+    let _a = alloc;
+    let _f = first;
+    let _t = traced;
+    let _k = kernel;
+    let _o = out;
+    let _r = keys;
     RunEnd::NoMemory
 }
