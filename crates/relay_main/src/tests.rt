@@ -1,4 +1,5 @@
-use crate::top::{dillrelay, run_over};
+use crate::running::run_over;
+use crate::top::dillrelay;
 use dill_base::{MemShelf, MemSink, Octets, Status};
 use dill_kernel::IdleKernel;
 use rand::rngs::StdRng;

@@ -8,7 +8,7 @@ use Rattle.dill_meaning.specs.Views.{ScriptView, main_of}
 use Rattle.relay_body.specs.Running.{running}
 use Rattle.relay_main.specs.Outcome.{Still}
 use Rattle.relay_main.proofs.Shown.{unmoved}
-use Rattle.relay_main.proofs.top.run_script.Goals as goal
+use Rattle.relay_main.proofs.running.run_script.Goals as goal
 
 pub returns-in_default : goal.returns-in_default
 returns-in_default g c = record {
