@@ -1,0 +1,4 @@
+pub mod Endings
+pub mod Needs
+pub mod Timing
+pub mod Turned

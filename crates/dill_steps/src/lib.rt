@@ -1,0 +1,13 @@
+//! The steps of the machine on what it keeps: a call is entered, endings finish and answers are given, deadlines pass, and a
+//! coroutine has its turn. Each one equals its definition. The calls of channels and links are no part of it yet.
+#![tactic(auto)]
+
+mod entering;
+mod expiring;
+mod settling;
+mod turning;
+
+pub use entering::enter;
+pub use expiring::{expire_one, first_passed, least_due, passes_one_by_one, waiting};
+pub use settling::{can_finish, first_answer, is_clear, settle, settle_one};
+pub use turning::turn;
