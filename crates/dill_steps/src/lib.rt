@@ -5,6 +5,8 @@
 mod entering;
 mod expiring;
 mod settling;
+#[cfg(test)]
+mod tests;
 mod turning;
 
 pub use entering::enter;

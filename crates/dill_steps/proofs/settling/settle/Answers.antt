@@ -12,6 +12,7 @@ loop-preserved g c =
     record {
       end = c.loop.invariant.end;
       rest = rw one at c.loop.invariant.rest ∙ ap (settle_within left) (sym c.settle_one.ensures.settled);
+      few = omega (arith, c.loop.invariant.few, c.settle_one.ensures.few);
     }
 
 pub returns-clause-settled : goal.returns-clause-settled

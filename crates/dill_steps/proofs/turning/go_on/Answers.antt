@@ -1,5 +1,6 @@
-use Rattle.std.proofs.Common.{◌≤◌, sym, subst, IfSome}
+use Rattle.std.proofs.Common.{◌≡◌, ◌≤◌, length, sym, subst, arith, IfSome, Some}
 use Rattle.dill_world.specs.Store.{world_of}
+use Rattle.dill_steps.proofs.Counting.{resumed}
 use Rattle.dill_steps.proofs.Shown.{somebody, goes_plainly, gone}
 use Rattle.dill_steps.proofs.turning.go_on.Goals as goal
 
@@ -14,3 +15,19 @@ make_move-requires g c = goes_plainly g.B.Body.means (world_of c.args.world.now)
 
 pub returns-in-Some-clause-gone : goal.returns-in-Some-clause-gone
 returns-in-Some-clause-gone g c = gone g.B.Body.means (world_of c.args.world.now) (world_of c.resume.new.self) (world_of c.make_move.new.world) c.args.who c.args.given c.in-Some.next c.make_move.result c.requires c.in-Some.ensures c.make_move.ensures.went
+
+pub returns-in-Some-clause-few : goal.returns-in-Some-clause-few
+returns-in-Some-clause-few g c = λ e.
+    let same : length c.resume.new.self.coroutines ≡ length c.args.world.now.coroutines = resumed g.B.Body.means (world_of c.args.world.now) (world_of c.resume.new.self) c.args.who c.args.given (Some c.in-Some.next) c.in-Some.ensures in
+    omega (arith, same, c.make_move.ensures.few e)
+
+pub returns-in-Some-clause-one : goal.returns-in-Some-clause-one
+returns-in-Some-clause-one g c =
+    let same : length c.resume.new.self.coroutines ≡ length c.args.world.now.coroutines = resumed g.B.Body.means (world_of c.args.world.now) (world_of c.resume.new.self) c.args.who c.args.given (Some c.in-Some.next) c.in-Some.ensures in
+    omega (arith, same, c.make_move.ensures.one)
+
+pub returns-in-None-clause-few : goal.returns-in-None-clause-few
+returns-in-None-clause-few g c = absurd (somebody g.B.Body.means (world_of c.args.world.now) (world_of c.resume.new.self) c.args.who c.args.given c.requires c.in-None.ensures)
+
+pub returns-in-None-clause-one : goal.returns-in-None-clause-one
+returns-in-None-clause-one g c = absurd (somebody g.B.Body.means (world_of c.args.world.now) (world_of c.resume.new.self) c.args.who c.args.given c.requires c.in-None.ensures)

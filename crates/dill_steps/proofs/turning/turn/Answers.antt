@@ -1,8 +1,9 @@
-use Rattle.std.proofs.Common.{◌≡◌, sym, ap, ◌∙◌, subst}
+use Rattle.std.proofs.Common.{◌≡◌, length, sym, ap, ◌∙◌, subst, arith}
 use Rattle.dill_rules.specs.World.{begin}
 use Rattle.dill_rules.specs.Turning.{answer_given}
 use Rattle.dill_world.specs.Store.{world_of}
 use Rattle.dill_steps.specs.Turned.{MayGoOn, Gone}
+use Rattle.dill_steps.proofs.Counting.{crew}
 use Rattle.dill_steps.proofs.Shown.{turned, shows}
 use Rattle.dill_steps.proofs.turning.turn.Goals as goal
 
@@ -22,3 +23,13 @@ returns-clause-shown g c = λ view has.
     let same : c.copy_answer.result ≡ (answer_given w c.args.who).1 = c.copy_answer.ensures ∙ ap (λ x. x.1) c.answer_given-word.ensures.value in
     let gone = subst (λ a. Gone g.B.Body.means (begin w) (world_of c.go_on-went.new.world) c.args.who a c.go_on-went.result) same (rw c.begin.ensures at c.go_on-went.ensures.gone) in
     rw c.answer_given-word.ensures.value (shows g.B.Body.means w (world_of c.go_on-went.new.world) c.args.who c.go_on-went.result gone view has)
+
+pub returns-clause-few : goal.returns-clause-few
+returns-clause-few g c = λ e.
+    let begun : length c.begin.new.self.coroutines ≡ length c.args.world.now.coroutines = ap crew c.begin.ensures in
+    omega (arith, begun, c.go_on-went.ensures.few e, c.settle.ensures.few)
+
+pub returns-clause-one : goal.returns-clause-one
+returns-clause-one g c =
+    let begun : length c.begin.new.self.coroutines ≡ length c.args.world.now.coroutines = ap crew c.begin.ensures in
+    omega (arith, begun, c.go_on-went.ensures.one, c.settle.ensures.few)
