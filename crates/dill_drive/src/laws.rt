@@ -1,12 +1,13 @@
+ghost use Rattle.std.specs.Prelude.{ℕ, Bool};
 ghost use Rattle.dill_drive.specs.ByRules.{machine_of};
 ghost use Rattle.dill_drive.specs.Play.{OneEnd};
-ghost use Rattle.dill_drive.specs.Prints.{printing};
 ghost use Rattle.dill_drive.specs.Rows.{Rows};
-ghost use Rattle.std.specs.Prelude.{ℕ, Bool};
 
-/// What comes from outside determines a run of a program that prints.
-pub fn one_end()
-    ensures { (traced : Bool) (most : ℕ) → OneEnd (machine_of printing) traced most }
+use dill_calls::Body;
+
+/// What comes from outside determines a run.
+pub fn one_end<B: Body>()
+    ensures { (traced : Bool) (most : ℕ) → OneEnd (machine_of B.means) traced most }
 {}
 
 /// Runs that the definitions compute.
