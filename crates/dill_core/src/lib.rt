@@ -1,6 +1,0 @@
-//! Stand-in of the core.
-#![tactic(auto)]
-
-mod whole;
-
-pub use whole::run;
