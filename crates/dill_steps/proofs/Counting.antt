@@ -1,5 +1,5 @@
 -- How many coroutines there are after a step: only a new one makes them more, and that takes memory.
-use Rattle.std.proofs.Common.{◌≡◌, ◌∙◌, ◌+◌, ◌≤◌, ℕ, suc, List, [], ◌∷◌, ◌++◌, length, length-append, fold, filter, reverse, find, Bool, true, false, cond, Option, Some, None, if◌then◌else◌, IsSomeAnd, MatchOption, refl, ap, arith, ◌==◌}
+use Rattle.std.proofs.Common.{◌≡◌, ◌∙◌, ◌+◌, ◌≤◌, ℕ, suc, List, [], ◌∷◌, ◌++◌, length, length-append, fold, filter, reverse, find, Bool, true, false, cond, Option, Some, None, if◌then◌else◌, IsSomeAnd, MatchOption, refl, ap, subst, arith, ◌==◌}
 use Rattle.dill_base.specs.declared.errno.Errno.{Errno}
 use Rattle.dill_calls.specs.declared.answer.Answer.{Answer}
 use Rattle.dill_calls.specs.declared.answer.Answer.TheVariants.{Number}
@@ -26,7 +26,7 @@ use Rattle.dill_rules.specs.Kinds.{value_of}
 use Rattle.dill_rules.specs.Owning.{entry_of, take_thing, move, drop, release, close_bundle, free_bundle, is_dead_as}
 use Rattle.dill_rules.specs.Taking.{bundle_of, bundle_named}
 use Rattle.dill_rules.specs.Naming.{gifts_of}
-use Rattle.dill_rules.specs.Effects.{add_bundle, next_number, told, give_all, start, close_thing, passed_answer}
+use Rattle.dill_rules.specs.Effects.{make, add_bundle, next_number, told, give_all, start, close_thing, passed_answer}
 use Rattle.dill_rules.specs.Entering.{keep_for, perform, is_too_late, late_answer, meet_deadline}
 use Rattle.dill_rules.specs.Giving.{give}
 use Rattle.dill_rules.specs.Settling.{close_owned, close_all, end, highest_first, is_owned_by, free_all, release_all}
@@ -48,7 +48,7 @@ module _ {V : Type 0} where
   changed test f [] = refl
   changed test f (c ∷ cs) = change_at (test c) c (f c) cs (change test f cs) (changed test f cs)
 
-  without_at : (b : Bool) (c : Coroutine V) (cs ds : List (Coroutine V)) → length ds ≤ length cs → length (cond b cs (c ∷ ds)) ≤ 1 + length cs
+  without_at : (b : Bool) (c : Coroutine V) (cs ds : List (Coroutine V)) → length ds ≤ length cs → length (cond b cs (c ∷ ds)) ≤ suc (length cs)
   without_at true c cs ds h = omega arith
   without_at false c cs ds h = omega (arith, h)
 
@@ -106,12 +106,17 @@ module _ {V : Type 0} where
   pub ended : (w : World V) (who : ℕ) (outcome : Option Errno) → crew (end w who outcome) ≡ crew w
   ended w who outcome = stands (close_all w who) who (modes.Ending outcome) ∙ closed_all w who
 
+  gone : (w : World V) (who : ℕ) (outcome : Option Errno) → crew (left w who outcome) ≤ crew w
+  gone w who outcome = fewer (is_coroutine who) w.coroutines
+
+  bare : (w : World V) (who : ℕ) → crew (release_all (free_all w who) who) ≡ crew w
+  bare w who =
+      fold_same release (reverse (handles.numbers_of (free_all w who).handles who)) (free_all w who) (λ v n. released v n)
+      ∙ fold_same free_bundle (highest_first (filter (is_owned_by w who) w.closings)) w (λ v x. refl)
+
   -- an ending that finishes leaves nobody more
   pub finished : (w : World V) (who : ℕ) (outcome : Option Errno) → crew (left (release_all (free_all w who) who) who outcome) ≤ crew w
-  finished w who outcome =
-      let bare : crew (release_all (free_all w who) who) ≡ crew w = fold_same release (reverse (handles.numbers_of (free_all w who).handles who)) (free_all w who) (λ v n. released v n) ∙ fold_same free_bundle (highest_first (filter (is_owned_by w who) w.closings)) w (λ v x. refl) in
-      let less = fewer (is_coroutine who) (release_all (free_all w who) who).coroutines in
-      omega (arith, bare, less)
+  finished w who outcome = subst (λ n. crew (left (release_all (free_all w who) who) who outcome) ≤ n) (bare w who) (gone (release_all (free_all w who) who) who outcome)
 
   -- nor does an answer
   pub given : (w : World V) (who : ℕ) (call : Call) (answer : Answer) → may_wait call ≡ true → crew (give w who call answer) ≡ crew w
@@ -166,7 +171,7 @@ module _ {V : Type 0} where
 
   -- what wants memory makes one at most
   pub performed_with : (p : Program V) (w : World V) (who : ℕ) (view : V) (call : Call) → needs_memory call ≡ true → crew (perform p w who view call) ≤ crew w + 1
-  performed_with p w who view (calls.Hmake kind value) n = let r : crew (perform p w who view (calls.Hmake kind value)) ≡ crew w = replied _ who _ _ in omega (arith, r)
+  performed_with p w who view (calls.Hmake kind value) n = let r : crew (perform p w who view (calls.Hmake kind value)) ≡ crew w = replied (make w (things.Value kind value) who) who _ _ in omega (arith, r)
   performed_with p w who view (calls.Hown number) n = let r : crew (perform p w who view (calls.Hown number)) ≡ crew w = replied (move w number who) who _ _ ∙ moved w number who in omega (arith, r)
   performed_with p w who view calls.Bundle n = let r : crew (perform p w who view calls.Bundle) ≡ crew w = replied (add_bundle w who) who _ _ in omega (arith, r)
   performed_with p w who view (calls.Go program args) n =

@@ -333,12 +333,16 @@ fn admit<B: Body>(world: &mut World<B>, who: u64, call: &Call, spare: bool) -> b
         world.reply(who, call.word(), Answer::Fault(Errno::Enomem));
         return true;
     }
-    if perform_with(world, who, call).is_err() {
-        world.reply(who, call.word(), Answer::Fault(Errno::Enomem));
-        return true;
+    match perform_with(world, who, call) {
+        Ok(()) => {
+            meet_deadline(world, who);
+            false
+        }
+        Err(_) => {
+            world.reply(who, call.word(), Answer::Fault(Errno::Enomem));
+            true
+        }
     }
-    meet_deadline(world, who);
-    false
 }
 
 /// A call of a coroutine is entered. Where the caller has no room to spare for one coroutine more, a call that may want memory
