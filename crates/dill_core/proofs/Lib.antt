@@ -1,6 +1,9 @@
+pub mod Alike
 pub mod Late
 pub mod Places
 pub mod Queue
 pub mod Shown
+pub mod Starting
+pub mod Trying
 pub mod Waits
 pub mod Waking

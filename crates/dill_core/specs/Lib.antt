@@ -1,2 +1,3 @@
-pub mod Holding
+pub mod Begun
 pub mod CoreMachine
+pub mod Holding

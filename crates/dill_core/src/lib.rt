@@ -3,5 +3,8 @@
 #![tactic(auto)]
 
 mod crew;
+mod running;
+mod stepping;
 
 pub use crew::Core;
+pub use running::run;

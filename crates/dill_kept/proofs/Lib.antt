@@ -12,5 +12,5 @@ mod Stepping
 mod Lining
 mod Resuming
 mod Keeping
-mod Following
+pub mod Following
 mod Settling
