@@ -1,5 +1,5 @@
 -- How many coroutines there are after a step: only a new one makes them more, and that takes memory.
-use Rattle.std.proofs.Common.{◌≡◌, ◌∙◌, ◌+◌, ◌≤◌, ℕ, suc, List, [], ◌∷◌, ◌++◌, length, length-append, fold, filter, reverse, find, Bool, true, false, cond, Option, Some, None, if◌then◌else◌, IsSomeAnd, MatchOption, refl, ap, subst, arith, ◌==◌}
+use Rattle.std.proofs.Common.{◌≡◌, ◌∙◌, ◌+◌, ◌≤◌, ℕ, suc, List, [], ◌∷◌, length, length-append, fold, filter, reverse, find, Bool, true, false, cond, Option, Some, None, if◌then◌else◌, MatchOption, refl, ap, subst, arith}
 use Rattle.dill_base.specs.declared.errno.Errno.{Errno}
 use Rattle.dill_calls.specs.declared.answer.Answer.{Answer}
 use Rattle.dill_calls.specs.declared.answer.Answer.TheVariants.{Number}
@@ -11,9 +11,8 @@ use Rattle.dill_calls.specs.declared.ran.Note.TheVariants.{Moved, Freed}
 use Rattle.dill_calls.specs.declared.word.Word.{Word}
 use Rattle.dill_calls.specs.declared.word.Word.TheVariants.{Start}
 use Rattle.dill_calls.specs.CallTable.{word_of}
-use Rattle.dill_calls.specs.Program.{Program, Turns}
+use Rattle.dill_calls.specs.Program.{Program}
 use Rattle.dill_handles.specs.Handles as handles
-use Rattle.dill_handles.specs.declared.entry.Entry.{Entry}
 use Rattle.dill_maps.specs.Maps.{if_some, change, without}
 use Rattle.dill_plain.specs.Plain.{is_plain}
 use Rattle.dill_rules.specs.declared.coroutine.Coroutine.{Coroutine}
@@ -26,13 +25,13 @@ use Rattle.dill_rules.specs.Kinds.{value_of}
 use Rattle.dill_rules.specs.Owning.{entry_of, take_thing, move, drop, release, close_bundle, free_bundle, is_dead_as}
 use Rattle.dill_rules.specs.Taking.{bundle_of, bundle_named}
 use Rattle.dill_rules.specs.Naming.{gifts_of}
-use Rattle.dill_rules.specs.Effects.{make, add_bundle, next_number, told, give_all, start, close_thing, passed_answer}
-use Rattle.dill_rules.specs.Entering.{keep_for, perform, is_too_late, late_answer, meet_deadline}
+use Rattle.dill_rules.specs.Effects.{make, add_bundle, next_number, told, give_all, start, close_thing}
+use Rattle.dill_rules.specs.Entering.{perform, is_too_late, late_answer, meet_deadline}
 use Rattle.dill_rules.specs.Giving.{give}
 use Rattle.dill_rules.specs.Settling.{close_owned, close_all, end, highest_first, is_owned_by, free_all, release_all}
 use Rattle.dill_rules.specs.Turning.{as_running, resume}
 use Rattle.dill_world.specs.Store.{may_wait}
-use Rattle.dill_world.specs.Steps.{left, keep_outcome, Resumed, WentOn}
+use Rattle.dill_world.specs.Steps.{left, Resumed, WentOn}
 use Rattle.dill_steps.specs.Needs.{needs_memory}
 
 module _ {V : Type 0} where

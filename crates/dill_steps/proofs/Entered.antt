@@ -1,5 +1,5 @@
 -- A call is entered in one of three ways: refused, refused memory, or done.
-use Rattle.std.proofs.Common.{◌≡◌, ◌∙◌, ◌+◌, ℕ, Bool, true, false, ◌&&◌, Option, Some, None, is_none, if◌then◌else◌, refl, ap, sym, arith}
+use Rattle.std.proofs.Common.{◌≡◌, ◌∙◌, ◌+◌, ℕ, Bool, true, false, ◌&&◌, Some, None, is_none, if◌then◌else◌, refl, ap, sym, arith}
 use Rattle.dill_base.specs.declared.errno.Errno.{Errno}
 use Rattle.dill_base.specs.declared.errno.Errno.TheVariants.{Enomem}
 use Rattle.dill_calls.specs.declared.answer.Answer.TheVariants.{Fault}
@@ -7,7 +7,6 @@ use Rattle.dill_calls.specs.declared.call.Call.{Call}
 use Rattle.dill_calls.specs.declared.call.Call.TheVariants as calls
 use Rattle.dill_calls.specs.CallTable.{word_of, takes_memory}
 use Rattle.dill_calls.specs.Program.{Program}
-use Rattle.dill_handles.specs.Handles as handles
 use Rattle.dill_maps.specs.Maps.{if_some}
 use Rattle.dill_plain.specs.Plain.{is_plain}
 use Rattle.dill_rules.specs.World.{World, reply}

@@ -1,5 +1,5 @@
 -- Giving before a child is there, or behind it, is the same; and what is kept and given back was never kept.
-use Rattle.std.proofs.Common.{◌≡◌, ◌∙◌, ◌+◌, ◌-◌, ℕ, List, [], ◌∷◌, fold, Option, Some, None, refl, ap, sym, arith}
+use Rattle.std.proofs.Common.{◌≡◌, ◌∙◌, ◌+◌, ℕ, List, [], ◌∷◌, Option, Some, None, refl, ap, sym}
 use Rattle.dill_calls.specs.declared.ran.Note.TheVariants.{Moved}
 use Rattle.dill_handles.specs.Handles as handles
 use Rattle.dill_handles.specs.declared.entry.Entry.{Entry}

@@ -1,25 +1,16 @@
 -- A turn is what the code does of it: the answer is given, the move is made, and the world settles.
-use Rattle.std.proofs.Common.{◌≡◌, ◌∙◌, ℕ, ◌≤◌, ◌==◌, List, [], ◌∷◌, find, Bool, true, false, ◌&&◌, cond, Option, Some, None, if◌then◌else◌, IsSomeAnd, MatchOption, IfSome, refl, sym, ap, subst}
-use Rattle.dill_calls.specs.declared.answer.Answer.{Answer}
-use Rattle.dill_calls.specs.declared.body.Next.{Next}
+use Rattle.std.proofs.Common.{◌≡◌, ◌∙◌, ℕ, ◌==◌, List, [], ◌∷◌, find, Bool, true, false, cond, Option, Some, None, refl, sym, ap}
 use Rattle.dill_calls.specs.declared.body.Next.TheVariants as nexts
 use Rattle.dill_calls.specs.declared.call.Call.{Call}
 use Rattle.dill_calls.specs.declared.call.Call.TheVariants as calls
-use Rattle.dill_calls.specs.declared.ran.LackPlace.{LackPlace}
-use Rattle.dill_calls.specs.declared.ran.LackPlace.TheVariants.{Build, Entry}
-use Rattle.dill_calls.specs.declared.ran.Ran.{Ran}
-use Rattle.dill_calls.specs.Program.{Program, Move, Calls, Ends, Turns}
-use Rattle.dill_maps.specs.Maps.{if_some, change}
-use Rattle.dill_plain.specs.Plain.{is_plain, MovesPlain, MakesPlain}
+use Rattle.dill_calls.specs.Program.{Program, Calls}
+use Rattle.dill_maps.specs.Maps.{change}
 use Rattle.dill_rules.specs.declared.coroutine.Coroutine.{Coroutine}
-use Rattle.dill_rules.specs.World.{World, is_coroutine, coroutine_of, begin}
+use Rattle.dill_rules.specs.World.{World, is_coroutine, coroutine_of}
 use Rattle.dill_rules.specs.Entering.{entered, enter, may_lack_entry}
-use Rattle.dill_rules.specs.Settling.{settle}
-use Rattle.dill_rules.specs.Turning.{is_build, is_entry, text_of, end_of, as_running, resume, may_lack_build, may_lack_move, make_move, lack_move, answer_given, go_on, turn, lack_met, shown}
-use Rattle.dill_steps.specs.declared.turning.Went.{Went}
+use Rattle.dill_rules.specs.Turning.{text_of, as_running, resume}
 use Rattle.dill_steps.specs.Needs.{HasView}
-use Rattle.dill_world.specs.Steps.{Resumed, WentOn}
-use Rattle.dill_steps.specs.Turned.{MovesAs, IsPlainNext, MayGoOn, Meets, WentSo, Gone, gone_on, without_text, at_entry}
+use Rattle.dill_steps.specs.Turned.{WentSo, without_text, at_entry}
 
 module _ {V : Type 0} where
   -- who goes on is there, with its new view

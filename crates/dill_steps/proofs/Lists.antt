@@ -1,7 +1,6 @@
 -- What passed deadlines begin with.
-use Rattle.std.proofs.Common.{◌≡◌, ◌∙◌, ℕ, ◌==◌, List, [], ◌∷◌, map, find, filter_map, Bool, true, false, ◌&&◌, cond, Option, Some, None, option_map, refl, sym, ap, arith, suc, ◌<◌, length, get_or, drop, drop-cons}
-use Rattle.std.specs.Option.{is_some}
-use Rattle.std.specs.List.{list_all, cons_option}
+use Rattle.std.proofs.Common.{◌≡◌, ◌∙◌, ℕ, List, [], ◌∷◌, map, filter_map, Bool, true, false, cond, Option, Some, None, option_map, refl, sym, ap, suc, ◌<◌, length, get_or, drop, drop-cons}
+use Rattle.std.specs.List.{cons_option}
 use Rattle.dill_calls.specs.declared.call.Call.{Call}
 use Rattle.dill_maps.specs.Maps.{if_some}
 use Rattle.dill_rules.specs.declared.coroutine.Coroutine.{Coroutine}

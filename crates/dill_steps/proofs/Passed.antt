@@ -1,6 +1,6 @@
 -- Where the numbers of coroutines rise, one that is answered is gone from the passed deadlines, and the others stay.
 use Rattle.std.proofs.Common.{◌≡◌, ◌∙◌, ℕ, ◌<◌, ◌==◌, List, [], ◌∷◌, map, find, filter_map, Bool, true, false, cond, Option, Some, None, if◌then◌else◌, nat_le, refl, sym, ap, subst, arith}
-use Rattle.std.specs.List.{cons_option, list_all}
+use Rattle.std.specs.List.{cons_option}
 use Rattle.dill_calls.specs.declared.answer.Answer.{Answer}
 use Rattle.dill_calls.specs.declared.call.Call.{Call}
 use Rattle.dill_calls.specs.declared.call.Call.TheVariants as calls
@@ -10,7 +10,7 @@ use Rattle.dill_maps.specs.Maps.{if_some, change, without}
 use Rattle.dill_rules.specs.declared.coroutine.Coroutine.{Coroutine}
 use Rattle.dill_rules.specs.declared.coroutine.Mode.{Mode}
 use Rattle.dill_rules.specs.declared.coroutine.Mode.TheVariants as modes
-use Rattle.dill_rules.specs.World.{World, is_coroutine, with_mode, pending_call, coroutine_of, call_of, reply}
+use Rattle.dill_rules.specs.World.{is_coroutine, with_mode, pending_call, coroutine_of, call_of, reply}
 use Rattle.dill_rules.specs.Owning.{free_bundle, is_dead_as}
 use Rattle.dill_rules.specs.Entering.{late_answer}
 use Rattle.dill_rules.specs.Giving.{give}

@@ -1,12 +1,11 @@
 -- What a turn leads to and shows, from what the code does of it.
-use Rattle.std.proofs.Common.{◌≡◌, ◌∙◌, ℕ, Bool, true, false, ◌&&◌, Option, Some, None, if◌then◌else◌, IsSomeAnd, MatchOption, IfSome, refl, sym, ap, subst}
+use Rattle.std.proofs.Common.{◌≡◌, ◌∙◌, ℕ, Bool, true, false, ◌&&◌, Option, Some, None, if◌then◌else◌, MatchOption, refl, sym, ap, subst}
 use Rattle.dill_calls.specs.declared.answer.Answer.{Answer}
 use Rattle.dill_calls.specs.declared.body.Next.{Next}
 use Rattle.dill_calls.specs.declared.body.Next.TheVariants as nexts
 use Rattle.dill_calls.specs.declared.ran.LackPlace.{LackPlace}
 use Rattle.dill_calls.specs.declared.ran.LackPlace.TheVariants.{Build, Entry}
 use Rattle.dill_calls.specs.declared.ran.Ran.{Ran}
-use Rattle.dill_calls.specs.declared.word.Word.{Word}
 use Rattle.dill_calls.specs.Program.{Program, Move, Calls, Ends, Turns}
 use Rattle.dill_maps.specs.Maps.{if_some}
 use Rattle.dill_plain.specs.Plain.{MovesPlain}
@@ -14,7 +13,7 @@ use Rattle.dill_rules.specs.declared.coroutine.Coroutine.{Coroutine}
 use Rattle.dill_rules.specs.World.{World, coroutine_of, begin}
 use Rattle.dill_rules.specs.Entering.{entered, may_lack_entry}
 use Rattle.dill_rules.specs.Settling.{settle}
-use Rattle.dill_rules.specs.Turning.{is_build, is_entry, text_of, end_of, resume, may_lack_build, may_lack_move, make_move, lack_move, answer_given, go_on, turn, lack_met, shown}
+use Rattle.dill_rules.specs.Turning.{is_build, is_entry, resume, may_lack_build, may_lack_move, make_move, lack_move, answer_given, go_on, turn, lack_met, shown}
 use Rattle.dill_steps.specs.declared.turning.Went.{Went}
 use Rattle.dill_steps.specs.Needs.{HasView}
 use Rattle.dill_world.specs.Steps.{Resumed, WentOn}

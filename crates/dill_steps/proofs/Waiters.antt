@@ -1,5 +1,5 @@
 -- Who waits, as pairs.
-use Rattle.std.proofs.Common.{◌≡◌, ◌∙◌, ℕ, List, [], ◌∷◌, find, filter_map, cond, Bool, true, false, Option, Some, None, option_map, nat_lt, refl}
+use Rattle.std.proofs.Common.{◌≡◌, ℕ, List, [], ◌∷◌, find, filter_map, cond, Bool, true, false, Option, Some, None, option_map, nat_lt, refl}
 use Rattle.std.specs.List.{cons_option}
 use Rattle.dill_calls.specs.declared.call.Call.{Call}
 use Rattle.dill_calls.specs.declared.word.Word.{Word}

@@ -1,3 +1,4 @@
+pub mod Briefly
 pub mod Endings
 pub mod Needs
 pub mod Timing

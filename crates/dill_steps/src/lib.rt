@@ -11,5 +11,5 @@ mod turning;
 
 pub use entering::enter;
 pub use expiring::{expire_one, first_passed, least_due, passes_one_by_one, waiting};
-pub use settling::{can_finish, first_answer, is_clear, settle, settle_one};
+pub use settling::settle;
 pub use turning::turn;

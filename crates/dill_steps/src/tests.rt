@@ -1,6 +1,7 @@
-use crate::{enter, expire_one, first_passed, least_due, settle, waiting};
+use crate::{enter, expire_one, first_passed, least_due, settle, turn, waiting};
 use dill_base::{Deadline, Errno, NoMemory};
 use dill_calls::{Answer, Args, Body, Call, Next, Word};
+use dill_plain::PlainBody;
 use dill_rules::Mode;
 use dill_world::World;
 use std::alloc::Global;
@@ -39,6 +40,12 @@ impl Body for Brief {
     fn most(&self) -> u64 {
         1
     }
+}
+
+impl PlainBody for Brief {
+    ghost use Rattle.dill_steps.specs.Briefly.{brief_is_plain};
+
+    ghost plain = { brief_is_plain };
 }
 
 /// `main` owns bundle 1 by number 1, in which coroutine 2 lives.
@@ -119,5 +126,18 @@ fn no_child_is_made_without_room_to_spare(rt: HostRuntime) -> Result<(), Fail> {
     assert!(rt; enter(&mut world, 1, &call, false));
     assert!(rt; is_answered(&world, 1, Word::Go, Some(Errno::Enomem)));
     assert_eq!(rt; world.coroutines().len(), 2);
+    Ok(())
+}
+
+#[test]
+fn main_that_ends_at_its_start_is_gone_after_its_turn(rt: HostRuntime) -> Result<(), Fail> {
+    let Ok(mut world) = World::new(rt.alloc(), Brief { name: 1 }) else {
+        return Err(Fail::from("memory"));
+    };
+    let ran = turn(&mut world, 1, true);
+    assert!(rt; ran.word == Word::Start && ran.lack.is_none());
+    assert!(rt; matches!(ran.end, Some(None)));
+    assert!(rt; matches!(world.ended(), Some(None)));
+    assert_eq!(rt; world.coroutines().len(), 0);
     Ok(())
 }

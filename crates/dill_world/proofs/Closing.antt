@@ -1,12 +1,11 @@
 -- What closing handles one after the other comes to, and how many are left.
-use Rattle.std.proofs.Common.{◌≡◌, ◌∙◌, ℕ, ◌+◌, ◌≤◌, ◌==◌, List, [], ◌∷◌, ◌++◌, length, map, filter, filter_map, fold, cond, Bool, true, false, Option, Some, None, if◌then◌else◌, refl, sym, ap, arith, append_assoc, length-append, take, drop, ◌-◌}
+use Rattle.std.proofs.Common.{◌≡◌, ◌∙◌, ℕ, ◌+◌, ◌≤◌, ◌==◌, List, [], ◌∷◌, ◌++◌, length, map, filter, fold, cond, Bool, true, false, Option, Some, None, if◌then◌else◌, refl, sym, ap, arith, append_assoc, length-append, take, drop, ◌-◌}
 use Rattle.std.proofs.lemmas.List.{append-nil, take_all}
 use Rattle.std.proofs.Math.Seq.{drop-append_seam}
 use Rattle.std.specs.List.{cons_option}
 use Rattle.dill_handles.specs.Handles as handles
 use Rattle.dill_handles.specs.Handles.{Handles}
 use Rattle.dill_handles.specs.declared.entry.Entry.{Entry}
-use Rattle.dill_scope.specs.Scopes as scopes
 use Rattle.dill_scope.specs.Scopes.{Scopes}
 use Rattle.dill_maps.specs.Maps.{if_some, without}
 use Rattle.dill_rules.specs.declared.coroutine.Closing.{Closing}

@@ -1,5 +1,5 @@
 -- What freeing the bundles of an ending comes to: in whatever order, the closings of other owners are left.
-use Rattle.std.proofs.Common.{◌≡◌, ◌∙◌, ℕ, ◌==◌, List, [], ◌∷◌, ◌++◌, map, filter, fold, cond, Bool, true, false, not, Option, if◌then◌else◌, nat_lt, refl, sym, ap, arith, append_assoc}
+use Rattle.std.proofs.Common.{◌≡◌, ◌∙◌, ℕ, ◌==◌, List, [], ◌∷◌, ◌++◌, filter, fold, cond, Bool, true, false, not, nat_lt, refl, sym, ap, arith, append_assoc}
 use Rattle.std.proofs.lemmas.List.{append-nil}
 use Rattle.dill_calls.specs.declared.ran.Note.TheVariants.{Freed}
 use Rattle.dill_scope.specs.Scopes as scopes
@@ -8,7 +8,7 @@ use Rattle.dill_maps.specs.Maps.{if_some, without}
 use Rattle.dill_rules.specs.declared.coroutine.Closing.{Closing}
 use Rattle.dill_rules.specs.World.{World}
 use Rattle.dill_rules.specs.Owning.{free_bundle, is_closing_of}
-use Rattle.dill_rules.specs.Settling.{placed, highest_first, is_owned_by, free_all}
+use Rattle.dill_rules.specs.Settling.{placed, highest_first, free_all}
 use Rattle.dill_world.specs.Freeings.{drop_each, without_each, notes_of, is_owned_closing, others_of}
 
 is_same : (m n : ℕ) → (m == n) ≡ true → m ≡ n

@@ -1,5 +1,5 @@
 -- A closing that is moved behind the others stands there in order.
-use Rattle.std.proofs.Common.{◌≡◌, ◌∙◌, ℕ, suc, ◌+◌, ◌-◌, ◌≤◌, List, [], ◌∷◌, ◌++◌, length, take, drop, cond, Bool, true, false, nat_lt, refl, sym, ap, arith, length-append, slice_index_or, if◌then◌else◌, length-drop}
+use Rattle.std.proofs.Common.{◌≡◌, ◌∙◌, ℕ, suc, ◌+◌, ◌-◌, List, [], ◌∷◌, ◌++◌, length, take, drop, cond, Bool, true, false, nat_lt, refl, sym, ap, arith, length-append, slice_index_or, if◌then◌else◌, length-drop}
 use Rattle.std.proofs.Math.Seq.{drop-append_seam, drop-append-add}
 use Rattle.std.proofs.lemmas.List.{take_all}
 use Rattle.std.proofs.lemmas.List.Edits.{insert-append_right, remove-append_right}
@@ -11,7 +11,6 @@ use Rattle.dill_rules.specs.Settling.{placed, free_all}
 use Rattle.dill_world.specs.Store.{Store, world_of}
 use Rattle.dill_world.specs.Freeings.{drop_each, notes_of, others_of}
 use Rattle.dill_world.specs.Gathering.{spot, going, gathered}
-use Rattle.dill_world.proofs.Closing.{part_behind}
 use Rattle.dill_world.proofs.Freeing.{frees_all}
 
 spot_at : (b : Bool) (x y : Closing) (ys : List Closing) (k : ℕ) → insert ys k x ≡ placed x ys → insert (y ∷ ys) (cond b (1 + k) 0) x ≡ cond b (y ∷ placed x ys) (x ∷ y ∷ ys)

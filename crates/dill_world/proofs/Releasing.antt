@@ -1,5 +1,5 @@
 -- What releasing numbers one after the other comes to.
-use Rattle.std.proofs.Common.{◌≡◌, ◌∙◌, ℕ, suc, ◌+◌, ◌≤◌, ◌==◌, List, [], ◌∷◌, ◌++◌, length, map, filter, fold, reverse, find, cond, Bool, true, false, Option, Some, None, if◌then◌else◌, refl, sym, ap, arith, append_assoc, length-append}
+use Rattle.std.proofs.Common.{◌≡◌, ◌∙◌, ℕ, suc, ◌+◌, ◌≤◌, ◌==◌, List, [], ◌∷◌, ◌++◌, length, filter, fold, reverse, find, cond, Bool, true, false, Option, Some, None, if◌then◌else◌, refl, sym, ap, arith, append_assoc, length-append}
 use Rattle.std.proofs.lemmas.List.{append-nil, reverse-append}
 use Rattle.dill_calls.specs.declared.ran.Note.{Note}
 use Rattle.dill_calls.specs.declared.ran.Note.TheVariants.{Freed}
@@ -9,11 +9,11 @@ use Rattle.dill_handles.specs.declared.entry.Entry.{Entry}
 use Rattle.dill_maps.specs.Maps.{if_some, without}
 use Rattle.dill_rules.specs.declared.thing.Thing.{Thing}
 use Rattle.dill_rules.specs.declared.thing.Thing.TheVariants as things
-use Rattle.dill_rules.specs.World.{World, note}
+use Rattle.dill_rules.specs.World.{note}
 use Rattle.dill_rules.specs.Owning.{drop, release}
 use Rattle.dill_rules.specs.Settling.{release_all}
 use Rattle.dill_world.specs.Store.{Store, world_of}
-use Rattle.dill_world.specs.Releases.{freed, owned_number, falling, retire_all, retire_noted_one, retire_noted}
+use Rattle.dill_world.specs.Releases.{freed, owned_number, falling, retire_all, retire_noted}
 use Rattle.dill_world.proofs.Closing.{bit, times, numbers, without_times, without_length, itself}
 
 times_append : (k : ℕ) (ms ns : List ℕ) → times k (ms ++ ns) ≡ times k ms + times k ns

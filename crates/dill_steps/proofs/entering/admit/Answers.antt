@@ -28,13 +28,13 @@ returns-then-not-spare-clause-few g c = λ e.
     omega (arith, same)
 
 pub returns-then-not-needs_memory-clause-one : goal.returns-then-not-needs_memory-clause-one
-returns-then-not-needs_memory-clause-one g c = 
+returns-then-not-needs_memory-clause-one g c =
     let view = c.requires.enters.view in
     let same : length c.meet_deadline.new.world.coroutines ≡ length c.args.world.now.coroutines = ap crew c.meet_deadline.ensures ∙ met (world_of c.perform.new.world) c.args.who ∙ ap crew (c.perform.ensures view) ∙ performed g.B.Body.means (world_of c.args.world.now) c.args.who view c.args.call.now c.requires.plain (sym c.if-not-needs_memory.ensures) in
     omega (arith, same)
 
 pub returns-then-not-spare-clause-one : goal.returns-then-not-spare-clause-one
-returns-then-not-spare-clause-one g c = 
+returns-then-not-spare-clause-one g c =
     let same : length c.reply.new.self.coroutines ≡ length c.args.world.now.coroutines = ap crew c.reply.ensures ∙ replied (world_of c.args.world.now) c.args.who c.word.result (Fault Enomem) in
     omega (arith, same)
 

@@ -1,4 +1,4 @@
-use Rattle.std.proofs.Common.{◌≡◌, ◌∙◌, ◌+◌, ◌<◌, ◌≤◌, length, ap, sym, refl, subst, arith}
+use Rattle.std.proofs.Common.{◌≡◌, ◌∙◌, ◌+◌, ◌<◌, ◌≤◌, length, ap, sym, subst, arith}
 use Rattle.dill_rules.specs.Effects.{told}
 use Rattle.dill_rules.specs.Entering as entering
 use Rattle.dill_rules.specs.Naming.{draws_of, gifts_of}

@@ -1,4 +1,4 @@
-use Rattle.std.proofs.Common.{◌≡◌, ◌∙◌, length, refl, sym, ap}
+use Rattle.std.proofs.Common.{◌∙◌, length, refl, sym, ap}
 use Rattle.dill_steps.specs.Needs.{HasView}
 use Rattle.dill_world.specs.Store.{world_of}
 use Rattle.dill_steps.proofs.Told.{told_length}

@@ -10,6 +10,6 @@ returns-in-Some-Some-clause-few g c = λ e.
     omega (arith, same)
 
 pub returns-in-Some-Some-clause-one : goal.returns-in-Some-Some-clause-one
-returns-in-Some-Some-clause-one g c = 
+returns-in-Some-Some-clause-one g c =
     let same : length c.reply.new.self.coroutines ≡ length c.args.world.now.coroutines = ap crew c.reply.ensures ∙ replied (world_of c.args.world.now) c.args.who c.word.result (Fault c.in-Some-Some.errno) in
     omega (arith, same)

@@ -1,7 +1,6 @@
-use Rattle.std.proofs.Common.{◌≡◌, ◌∙◌, ◌+◌, ap, sym, refl}
+use Rattle.std.proofs.Common.{◌∙◌, ◌+◌, ap}
 use Rattle.dill_rules.specs.Effects.{told}
 use Rattle.dill_rules.specs.Entering as entering
-use Rattle.dill_rules.specs.World.{World}
 use Rattle.dill_world.specs.Steps.{bear_apart}
 use Rattle.dill_world.specs.Store.{world_of}
 use Rattle.dill_steps.proofs.Gifts.{gone}

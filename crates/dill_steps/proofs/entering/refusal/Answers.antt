@@ -1,4 +1,4 @@
-use Rattle.std.proofs.Common.{◌∙◌, ap, sym, refl}
+use Rattle.std.proofs.Common.{◌∙◌, sym, refl}
 use Rattle.dill_steps.proofs.Entered.{some_of}
 use Rattle.dill_steps.proofs.entering.refusal.Goals as goal
 

@@ -1,6 +1,6 @@
-use Rattle.std.proofs.Common.{◌≡◌, ◌∙◌, ◌-◌, ◌+◌, length, zero, suc, sym, ap, subst, arith}
+use Rattle.std.proofs.Common.{◌≡◌, ◌∙◌, ◌-◌, ◌+◌, length, suc, sym, ap, subst, arith}
 use Rattle.dill_rules.specs.Settling.{settle_within}
-use Rattle.dill_world.specs.Store.{world_of, ArePlain}
+use Rattle.dill_world.specs.Store.{ArePlain}
 use Rattle.dill_steps.proofs.Passing.{settled}
 use Rattle.dill_steps.proofs.settling.settle.Goals as goal
 

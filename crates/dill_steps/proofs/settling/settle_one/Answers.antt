@@ -1,4 +1,4 @@
-use Rattle.std.proofs.Common.{◌≡◌, ◌≤◌, length, ap, subst, sym}
+use Rattle.std.proofs.Common.{◌≤◌, length, subst, sym}
 use Rattle.dill_world.specs.Store.{world_of}
 use Rattle.dill_steps.proofs.Counting.{crew, finished}
 use Rattle.dill_steps.proofs.settling.settle_one.Goals as goal

@@ -1,5 +1,3 @@
-use Rattle.std.proofs.Common.{sym, ap, ◌∙◌, subst}
-use Rattle.dill_rules.specs.Entering.{entered}
 use Rattle.dill_world.specs.Store.{world_of}
 use Rattle.dill_steps.proofs.Going.{called}
 use Rattle.dill_steps.proofs.turning.make_call.Goals as goal

@@ -1,8 +1,8 @@
-use Rattle.std.proofs.Common.{◌≡◌, length, sym, ap, ◌∙◌, subst, arith}
+use Rattle.std.proofs.Common.{◌≡◌, length, ap, ◌∙◌, subst, arith}
 use Rattle.dill_rules.specs.World.{begin}
 use Rattle.dill_rules.specs.Turning.{answer_given}
 use Rattle.dill_world.specs.Store.{world_of}
-use Rattle.dill_steps.specs.Turned.{MayGoOn, Gone}
+use Rattle.dill_steps.specs.Turned.{Gone}
 use Rattle.dill_steps.proofs.Counting.{crew}
 use Rattle.dill_steps.proofs.Shown.{turned, shows}
 use Rattle.dill_steps.proofs.turning.turn.Goals as goal

@@ -1,4 +1,4 @@
-use Rattle.std.proofs.Common.{◌≡◌, ◌∙◌, ◌++◌, length-append, ap, sym, refl, length, arith}
+use Rattle.std.proofs.Common.{◌≡◌, ◌∙◌, ◌++◌, length-append, ap, refl, length, arith}
 use Rattle.dill_world.specs.Gathering.{going}
 use Rattle.dill_world.specs.Freeings.{others_of, notes_of}
 use Rattle.dill_world.proofs.Closing.{part_behind}
