@@ -1,0 +1,3 @@
+mod Crew
+mod Lists
+mod Evolving
