@@ -1,3 +1,5 @@
 mod Crew
 mod Lists
 mod Evolving
+mod Entering
+mod Walking
