@@ -3,3 +3,4 @@ mod Lists
 mod Evolving
 mod Entering
 mod Walking
+mod Settling
