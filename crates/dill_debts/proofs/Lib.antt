@@ -4,3 +4,4 @@ mod Evolving
 mod Entering
 mod Walking
 mod Settling
+mod Shutting
