@@ -29,7 +29,7 @@ use Rattle.dill_rules.specs.Effects.{make, add_bundle, close_thing, start, give_
 use Rattle.dill_rules.specs.Entering.{keep_for, perform, is_late, is_too_late, late_answer, meet_deadline, done, enter}
 use Rattle.dill_kept.specs.Plain.{may_wait}
 use Rattle.dill_debts.proofs.Crew.{SameCrew, crew_then, move_crew, release_crew, give_all_crew}
-use Rattle.dill_debts.proofs.Entering.{by_quiet, refusal_lowers, unrefused_quiet, starts_nobody, is_called_off_at_once}
+use Rattle.dill_debts.proofs.Entering.{by_quiet, refusal_lowers, unrefused_quiet, starts_nobody, is_called_off_at_once, go_known, bundle_go_known}
 use Rattle.dill_debts.proofs.Evolving.{Evolves, stays, turns, begins, goes_on}
 use Rattle.dill_debts.proofs.Lists.{found_changed, find_append}
 
@@ -49,37 +49,6 @@ told_length : (next : ℕ) (args : List Arg) → length (told next args) ≡ len
 told_length next [] = refl
 told_length next (Show number ∷ args) = ap suc (told_length next args)
 told_length next (Give number ∷ args) = ap suc (told_length (next + 1) args)
-
-picks_none : {A : Type 0} (b : Bool) (x : A) (rest : Option A) → cond b (Some x) rest ≡ None → (b ≡ false) × (rest ≡ None)
-picks_none true x rest e = cc
-picks_none false x rest e = (refl, e)
-
-or_false : (a b : Bool) → (a || b) ≡ false → a ≡ false
-or_false true b e = cc
-or_false false b e = refl
-
-not_true : (a b : Bool) → not (a && not b) ≡ false → a ≡ true
-not_true true b e = refl
-not_true false b e = cc
-
-module _ {V : Type 0} (p : Program V) where
-  fourth_none : (f : Errno → Bool) (a b c d : Errno) (rest : List Errno) → find f (a ∷ b ∷ c ∷ d ∷ rest) ≡ None → f d ≡ false
-  fourth_none f a b c d rest e =
-      let one = picks_none (f a) a (find f (b ∷ c ∷ d ∷ rest)) e in
-      let two = picks_none (f b) b (find f (c ∷ d ∷ rest)) one.1 in
-      let three = picks_none (f c) c (find f (d ∷ rest)) two.1 in
-      (picks_none (f d) d (find f rest) three.1).0
-
-  -- what isn't refused starts a program that is known
-  go_known : (w : World V) (who : ℕ) (view : V) (program : ℕ) (args : List Arg) → refuse p w who view (calls.Go program args) ≡ None → p.knows view program (length args) ≡ true
-  go_known w who view program args f =
-      let held = fourth_none (holds p w who view (calls.Go program args)) errnos.Ecanceled errnos.Ebadf errnos.Enotsup errnos.Einval (errnos.Ebusy ∷ errnos.Epipe ∷ errnos.Econnreset ∷ errnos.Emsgsize ∷ errnos.Emfile ∷ []) f in
-      not_true (p.knows view program (length args)) (has_twice (gifts_of args)) (or_false (is_invalid p view (calls.Go program args)) (is_refused_by_stack w (calls.Go program args) errnos.Einval) held)
-
-  bundle_go_known : (w : World V) (who : ℕ) (view : V) (number program : ℕ) (args : List Arg) → refuse p w who view (calls.BundleGo number program args) ≡ None → p.knows view program (length args) ≡ true
-  bundle_go_known w who view number program args f =
-      let held = fourth_none (holds p w who view (calls.BundleGo number program args)) errnos.Ecanceled errnos.Ebadf errnos.Enotsup errnos.Einval (errnos.Ebusy ∷ errnos.Epipe ∷ errnos.Econnreset ∷ errnos.Emsgsize ∷ errnos.Emfile ∷ []) f in
-      not_true (p.knows view program (length args)) (has_twice (gifts_of args)) (or_false (is_invalid p view (calls.BundleGo number program args)) (is_refused_by_stack w (calls.BundleGo number program args) errnos.Einval) held)
 
 pub unlike : {A : Type 0} (b : Bool) → b ≡ false → b ≡ true → A
 unlike true e f = cc
