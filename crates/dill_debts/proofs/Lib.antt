@@ -5,3 +5,4 @@ mod Entering
 mod Walking
 mod Settling
 mod Shutting
+mod Standing
