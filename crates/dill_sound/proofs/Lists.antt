@@ -1,8 +1,6 @@
 -- Tests that hold of all of a list, what is found in it, and how often a number occurs.
-use Rattle.std.proofs.Common.{◌≡◌, ◌∙◌, ℕ, ◌+◌, ◌≤◌, ◌==◌, List, [], ◌∷◌, ◌++◌, map, find, filter_map, Bool, true, false, not, ◌&&◌, cond, Option, Some, None, refl, sym, ap, arith, eq-eqb}
-use Rattle.std.specs.List.{list_all, list_any}
-use Rattle.std.specs.Prelude.{is_some, option_map}
-use Rattle.dill_maps.specs.Maps.{if_some, change, without}
+use Rattle.std.proofs.Common.{◌≡◌, ℕ, ◌+◌, ◌≤◌, ◌==◌, List, [], ◌∷◌, map, find, Bool, true, false, ◌&&◌, cond, Option, Some, refl, arith}
+use Rattle.std.specs.List.{list_all}
 use Rattle.dill_kept.specs.Well.{bit, occurs}
 
 pub both : (a b : Bool) → (a && b) ≡ true → (a ≡ true) × (b ≡ true)

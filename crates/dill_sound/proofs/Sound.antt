@@ -1,30 +1,26 @@
 -- A world in order is sound, and where its root is closing everybody is cancelled.
-use Rattle.std.proofs.Common.{◌≡◌, ◌∙◌, ℕ, ◌+◌, ◌≤◌, ◌==◌, List, [], ◌∷◌, map, find, Bool, true, false, ◌&&◌, cond, Option, Some, None, refl, sym, ap, subst, arith, eq-eqb}
-use Rattle.std.specs.Prelude.{is_some, option_map, Contains, nat_le}
-use Rattle.std.specs.List.{list_all}
+use Rattle.std.proofs.Common.{◌≡◌, ◌∙◌, ℕ, ◌+◌, ◌≤◌, ◌==◌, List, [], ◌∷◌, map, find, Bool, true, false, cond, Option, Some, None, refl, sym, ap, subst, arith}
+use Rattle.std.specs.Prelude.{is_some, option_map, nat_le}
 use Rattle.std.proofs.lemmas.Bool.Decides.{nat_tests}
 use Rattle.dill_handles.specs.declared.entry.Entry.{Entry}
 use Rattle.dill_scope.specs.declared.forest.Bundle.{Bundle}
 use Rattle.dill_scope.specs.declared.forest.Home.{Home}
 use Rattle.dill_scope.specs.Scopes.{Scopes, is_home, is_bundle, home_of, owner_of, is_cancelled}
-use Rattle.dill_scope.specs.Forest.{Inside, lives, under, Rooted, at_root, below, Cancelled, IsForest}
+use Rattle.dill_scope.specs.Forest.{Inside, lives, under, Rooted, at_root, below, IsForest}
 use Rattle.dill_scope.proofs.Chains.{search_is_cancelled}
 use Rattle.dill_scope.proofs.Numbered.{found_in, found_number}
 use Rattle.dill_maps.specs.Maps.{if_some}
-use Rattle.dill_rules.specs.declared.coroutine.Coroutine.{Coroutine}
 use Rattle.dill_rules.specs.declared.thing.Thing.{Thing}
-use Rattle.dill_rules.specs.declared.thing.Thing.TheVariants as things
-use Rattle.dill_rules.specs.Laws.{IsSound}
-use Rattle.dill_rules.specs.Owning.{entry_of, OneOwner}
+use Rattle.dill_rules.specs.Owning.{entry_of}
 use Rattle.dill_rules.specs.Taking.{bundle_of}
-use Rattle.dill_rules.specs.World.{World, is_coroutine, coroutine_of}
+use Rattle.dill_rules.specs.World.{World}
 use Rattle.dill_kept.specs.Well.{bit, occurs}
 use Rattle.dill_kept.proofs.Lists.{all_found}
-use Rattle.dill_sound.specs.Order.{is_there, has_bundle, times_used, is_held, FitsTogether, IsInOrder}
+use Rattle.dill_sound.specs.Order.{is_there, has_bundle, is_held, FitsTogether}
 use Rattle.dill_sound.specs.Laws.{is_closing, OrderIsSound, CancelsAll}
 use Rattle.dill_sound.proofs.Lists.{both, occurs_found}
 
-owner_is : (o : Option ℕ) (who : ℕ) → if_some o false (λ owner. owner == who) ≡ true → o ≡ Some who
+pub owner_is : (o : Option ℕ) (who : ℕ) → if_some o false (λ owner. owner == who) ≡ true → o ≡ Some who
 owner_is None who e = cc
 owner_is (Some owner) who e = let it : owner ≡ who = grind (arith, nat_tests) in ap (λ n. Some n) it
 

@@ -1,7 +1,6 @@
 -- Worlds in order: what holds together of coroutines, handles, bundles and closings, between all steps.
 use Rattle.std.specs.Prelude.{◌≡◌, ℕ, ◌+◌, ◌≤◌, ◌==◌, length, map, find, filter_map, Bool, true, false, not, ◌&&◌, Option, Some, None, is_some, is_none, nat_le}
 use Rattle.std.specs.List.{list_all}
-use Rattle.dill_calls.specs.declared.call.Call.{Call}
 use Rattle.dill_calls.specs.declared.call.Call.TheVariants as calls
 use Rattle.dill_handles.specs.declared.entry.Entry.{Entry}
 use Rattle.dill_scope.specs.Scopes.{owner_of}
