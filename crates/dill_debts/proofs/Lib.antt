@@ -1,8 +1,7 @@
-mod Crew
-mod Lists
-mod Evolving
-mod Entering
-mod Walking
-mod Settling
-mod Shutting
-mod Standing
+pub mod Lists
+pub mod Evolving
+pub mod Entering
+pub mod Walking
+pub mod Settling
+pub mod Shutting
+pub mod Standing

@@ -24,7 +24,7 @@ use Rattle.dill_rules.specs.Settling.{can_finish, free_all, release_all, finish,
 use Rattle.dill_kept.specs.Plain.{may_wait, waits_plainly}
 use Rattle.dill_kept.specs.Well.{Numbered}
 use Rattle.dill_debts.specs.Says.{SaysIn, Says}
-use Rattle.dill_debts.proofs.Crew.{bare_crew, free_dead_crew, keep_end_last}
+use Rattle.dill_kept.proofs.Crew.{bare_crew, free_dead_crew, keep_end_last}
 use Rattle.dill_debts.proofs.Entering.{start_only, answer_lowers}
 use Rattle.dill_debts.proofs.Evolving.{Evolves, stays, leaves, Suits, newborn, evolves_all, evolves_numbered}
 use Rattle.dill_debts.proofs.Lists.{some_same, all_found, found_passes, number_of, equal_number, above_of}

@@ -31,7 +31,7 @@ use Rattle.dill_rules.specs.Turning.{as_running}
 use Rattle.dill_rules.specs.Entering.{keep_for, is_too_late, late_answer, meet_deadline, done, enter}
 use Rattle.dill_kept.specs.Well.{Numbered}
 use Rattle.dill_debts.specs.Says.{IsProperThing, IsProper}
-use Rattle.dill_debts.proofs.Crew.{SameCrew, crew_then, move_crew, release_crew, give_all_crew}
+use Rattle.dill_kept.proofs.Crew.{SameCrew, crew_then, move_crew, release_crew, give_all_crew}
 use Rattle.dill_debts.proofs.Entering.{Names, unrefused_names}
 use Rattle.dill_debts.proofs.Evolving.{Suits, newborn, evolves_all}
 use Rattle.dill_debts.proofs.Lists.{all_found, found_changed, find_append, all_to, some_same, number_of, above_other}

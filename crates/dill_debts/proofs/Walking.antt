@@ -28,7 +28,7 @@ use Rattle.dill_rules.specs.Refusals.{refuse, has_twice, holds, is_invalid, is_r
 use Rattle.dill_rules.specs.Effects.{make, add_bundle, close_thing, start, give_all, told, bear, next_number, passed_answer}
 use Rattle.dill_rules.specs.Entering.{keep_for, perform, is_late, is_too_late, late_answer, meet_deadline, done, enter}
 use Rattle.dill_kept.specs.Plain.{may_wait}
-use Rattle.dill_debts.proofs.Crew.{SameCrew, crew_then, move_crew, release_crew, give_all_crew}
+use Rattle.dill_kept.proofs.Crew.{SameCrew, crew_then, move_crew, release_crew, give_all_crew}
 use Rattle.dill_debts.proofs.Entering.{by_quiet, refusal_lowers, unrefused_quiet, starts_nobody, is_called_off_at_once, go_known, bundle_go_known}
 use Rattle.dill_debts.proofs.Evolving.{Evolves, stays, turns, begins, goes_on}
 use Rattle.dill_debts.proofs.Lists.{found_changed, find_append}
