@@ -5,3 +5,4 @@ pub mod Walking
 pub mod Settling
 pub mod Shutting
 pub mod Standing
+pub mod Turning

@@ -57,7 +57,7 @@ module _ {V : Type 0} where
   here_crew : (w v : World V) (who : ℕ) → SameCrew w v → IsHere w who → IsHere v who
   here_crew w v who same h = record { one = h.one; found = ap (find (is_coroutine who)) same.coroutines ∙ h.found }
 
-  reply_stands : (w : World V) (who : ℕ) (word : Word) (answer : Answer) → IsHere w who → Stands (reply w who word answer) who
+  pub reply_stands : (w : World V) (who : ℕ) (word : Word) (answer : Answer) → IsHere w who → Stands (reply w who word answer) who
   reply_stands w who word answer h = record { one = with_mode (modes.Fresh word answer) h.one; found = found_changed (is_coroutine who) (with_mode (modes.Fresh word answer)) h.one w.coroutines (λ d. refl) h.found; there = refl }
 
   pend_stands : (w : World V) (who : ℕ) (call : Call) → IsHere w who → Stands (pend w who call) who

@@ -1,2 +1,4 @@
 pub mod Owed
 pub mod Says
+pub mod Closing
+pub mod Laws
