@@ -6,3 +6,4 @@ pub mod Settling
 pub mod Shutting
 pub mod Standing
 pub mod Turning
+pub mod Keeping

@@ -150,7 +150,7 @@ module _ {V : Type 0} where
   pass_list p w (c ∷ cs) a = ap (λ v. fold pass_one v cs) (pass_call w (pending_call c.mode) c refl a.0.0) ∙ pass_list p w cs a.1
 
   -- nobody's stack is looked at
-  pass_nothing : (p : Program V) (w : World V) → AllSit p w.coroutines → pass_all w ≡ w
+  pub pass_nothing : (p : Program V) (w : World V) → AllSit p w.coroutines → pass_all w ≡ w
   pass_nothing p w a = pass_list p w w.coroutines a
 
 -- Worlds in which the calm are cancelled, as they settle.
@@ -165,7 +165,7 @@ module _ {V : Type 0} (p : Program V) (calm : ℕ → Bool) (In : World V → Ty
           let r = pending_runs p w x.0 x.1 a (record { one = d.one; found = d.found; pends = d.call }) in
           give_leads p calm w x.0 x.1 x.2 r.1 r.0 (λ c. answer_lowers w x.0 x.1 x.2 r.1 (off w x.0 d.one i d.found c) d.answer)
 
-  settle_one_leads : (w : World V) → In w → AllSit p w.coroutines → Numbered 0 w.coroutines w.last_coroutine → Leads p calm w (settle_one w)
+  pub settle_one_leads : (w : World V) → In w → AllSit p w.coroutines → Numbered 0 w.coroutines w.last_coroutine → Leads p calm w (settle_one w)
   settle_one_leads w i a n = at (find (can_finish w) w.coroutines)
     where
       at : (o : Option (Coroutine V)) → Leads p calm w (if_some o (give_first w) (finish w))
@@ -173,14 +173,14 @@ module _ {V : Type 0} (p : Program V) (calm : ℕ → Bool) (In : World V → Ty
       at (Some c) = finish_leads p calm w c
 
   module _ (settles : (w : World V) → In w → In (settle_one w)) where
-    within_leads : (k : ℕ) (w : World V) → In w → AllSit p w.coroutines → Numbered 0 w.coroutines w.last_coroutine → Leads p calm w (settle_within k w)
-    within_leads zero w i a n = stays
-    within_leads (suc k) w i a n =
+    pub settle_within_leads : (k : ℕ) (w : World V) → In w → AllSit p w.coroutines → Numbered 0 w.coroutines w.last_coroutine → Leads p calm w (settle_within k w)
+    settle_within_leads zero w i a n = stays
+    settle_within_leads (suc k) w i a n =
         let one = settle_one_leads w i a n in
-        leads_then p calm w (settle_one w) (settle_within k (settle_one w)) one (within_leads k (settle_one w) (settles w i) (leads_sits p calm w (settle_one w) one a) (leads_numbered p calm w (settle_one w) one n))
+        leads_then p calm w (settle_one w) (settle_within k (settle_one w)) one (settle_within_leads k (settle_one w) (settles w i) (leads_sits p calm w (settle_one w) one a) (leads_numbered p calm w (settle_one w) one n))
 
     pub settle_leads : (w : World V) → In w → AllSit p w.coroutines → Numbered 0 w.coroutines w.last_coroutine → Leads p calm w (settle w)
     settle_leads w i a n =
         let done = settle_within (length w.coroutines) w in
-        let leads = within_leads (length w.coroutines) w i a n in
+        let leads = settle_within_leads (length w.coroutines) w i a n in
         subst (λ v. Leads p calm w v) (sym (pass_nothing p done (leads_sits p calm w done leads a))) leads
