@@ -7,3 +7,4 @@ pub mod Shutting
 pub mod Standing
 pub mod Turning
 pub mod Keeping
+pub mod Lowering
