@@ -8,3 +8,4 @@ pub mod Standing
 pub mod Turning
 pub mod Keeping
 pub mod Lowering
+pub mod Ending

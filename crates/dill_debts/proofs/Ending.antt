@@ -1,0 +1,207 @@
+-- From the closing of the root on, each turn lowers what is owed, and somebody has an answer until `main` has ended.
+use Rattle.std.proofs.Common.{◌≡◌, ◌∙◌, ◌+◌, ◌-◌, ◌*◌, ◌^◌, ◌≤◌, ◌<◌, ◌==◌, ℕ, zero, suc, List, [], ◌∷◌, ◌++◌, length, map, take, fold, find, sum_by, Bool, true, false, ◌&&◌, cond, Option, Some, None, is_some, if◌then◌else◌, refl, sym, ap, subst, arith}
+use Rattle.std.specs.List.{AllByRecursion, list_all, list_any}
+use Rattle.std.specs.List.Sorted.{IsStrictlyIncreasing}
+use Rattle.std.specs.Option.{option_or}
+use Rattle.std.proofs.lemmas.Bool.Decides.{nat_tests}
+use Rattle.dill_base.specs.declared.errno.Errno.{Errno}
+use Rattle.dill_calls.specs.declared.answer.Answer.{Answer}
+use Rattle.dill_calls.specs.declared.call.Call.{Call}
+use Rattle.dill_calls.specs.declared.call.Call.TheVariants as calls
+use Rattle.dill_calls.specs.declared.ran.LackPlace.{LackPlace}
+use Rattle.dill_calls.specs.declared.word.Word.{Word}
+use Rattle.dill_calls.specs.Program.{Program, IsLawful, GoesOn}
+use Rattle.dill_scope.specs.declared.forest.Bundle.{Bundle}
+use Rattle.dill_scope.specs.Scopes as scopes
+use Rattle.dill_maps.specs.Maps.{if_some, first_some, change}
+use Rattle.dill_plain.specs.Plain.{MakesPlain}
+use Rattle.dill_rules.specs.declared.coroutine.Coroutine.{Coroutine}
+use Rattle.dill_rules.specs.declared.coroutine.Mode.{Mode}
+use Rattle.dill_rules.specs.declared.coroutine.Mode.TheVariants as modes
+use Rattle.dill_rules.specs.World.{World, is_coroutine, coroutine_of, begin, with_mode, pending_call, is_ending, is_answered}
+use Rattle.dill_rules.specs.Taking.{is_cancelled}
+use Rattle.dill_rules.specs.Answers.{answer_of}
+use Rattle.dill_rules.specs.Settling.{is_clear, can_finish, answer_due, settle_one, settle}
+use Rattle.dill_rules.specs.State.{lined_mode, lined, fresh}
+use Rattle.dill_rules.specs.Turning.{as_running, resume, given_of, answer_given, go_on, turn}
+use Rattle.dill_kept.specs.Kept.{Kept, has_answer, queued, turn_first, kept_turn, kept_shut}
+use Rattle.dill_kept.specs.Laws.{MayTurn, KeepsWell}
+use Rattle.dill_kept.specs.Plain.{may_wait, IsPlain}
+use Rattle.dill_kept.specs.Settled.{IsSettled, SettlesAll}
+use Rattle.dill_kept.specs.Well.{IsAlive, Lives, Numbered, bit, occurs, is_at, IsQueue, IsWell}
+use Rattle.dill_sound.specs.Laws.{is_closing, is_resting, CancelsAll, RootGoesOn}
+use Rattle.dill_sound.specs.Order.{IsInOrder}
+use Rattle.dill_debts.specs.Closing.{IsStable, IsClosing}
+use Rattle.dill_debts.specs.Laws.{KeepsStable, EndsClosing, turn_until}
+use Rattle.dill_debts.specs.Owed.{share_by, is_early, owed}
+use Rattle.dill_debts.specs.Says.{Says, SaysIn, LowersIn, IsLowering, AllLower}
+use Rattle.dill_kept.proofs.Plainly.{begin_plain}
+use Rattle.dill_kept.proofs.Steps.{settle_one_plain, settle_plain}
+use Rattle.dill_kept.proofs.Turns.{root_closed, closed_plain, go_on_plain}
+use Rattle.dill_debts.proofs.Keeping.{IsGood, good_stable, good_moved, good_settle, settle_holds, sits_resumed, turn_is}
+use Rattle.dill_debts.proofs.Lists.{total, is_total, all_found, all_to, found_passes, equal_number, number_of, above_of, above, numbered_change, found_changed}
+use Rattle.dill_debts.proofs.Lowering.{all_calm, owed_evolves, lowers_evolves, owed_lined, all_lower_lined, others_lower, share_falls, answered_owes, called_falls, ended_falls, first_gone, others_same}
+use Rattle.dill_debts.proofs.Settling.{AllSit, leads_sits, settle_one_leads, settle_leads}
+use Rattle.dill_debts.proofs.Shutting.{AllHold, Lasts, settle_one_shut, go_on_shut}
+use Rattle.dill_debts.proofs.Turning.{Went, called, ended, MayGo, go_on_went, went_leads, found_number, all_resumed}
+use Rattle.dill_debts.proofs.Walking.{Leads, unlike}
+
+-- steps within a step keep a world in order
+pub record KeepsWithin {V : Type 0} (p : Program V) : Type 0 where
+  pub moved : (k : Kept V) (lack : Option LackPlace) (who : ℕ) (rest : List ℕ) (c : Coroutine V) → IsWell p k → IsInOrder k.world → k.ready ≡ who ∷ rest → coroutine_of k.world who ≡ Some c → IsInOrder (go_on p lack (begin k.world) who c.body)
+  pub one : (w : World V) → IsPlain w → IsInOrder w → IsInOrder (settle_one w)
+  pub closed : (w : World V) → IsInOrder w → IsInOrder (root_closed w)
+
+-- ---- the root, once it is closing
+
+abbrev IsShutAs : ℕ → Bundle → Type 0
+IsShutAs name x = (x.name == name) ≡ true → x.closing ≡ true
+
+new_other : (a b : ℕ) → a ≤ b → ((b + 1) == a) ≡ false
+new_other a b h = grind (arith, nat_tests)
+
+shut_lasts : (name : ℕ) → Lasts (IsShutAs name) name
+shut_lasts name = record { owned = λ x owner a. a; closed = λ x a e. refl; made = λ last owner l e. unlike ((last + 1) == name) (new_other name last l) e }
+
+root_found : (o : Option Bundle) → is_some o ≡ true → ((x : Bundle) → o ≡ Some x → x.closing ≡ true) → if_some o false (λ x. x.closing) ≡ true
+root_found None e h = cc
+root_found (Some x) e h = h x refl
+
+above_head : (x : ℕ) (xs : List ℕ) → IsStrictlyIncreasing (x ∷ xs) → IsStrictlyIncreasing xs
+above_head x xs i k h =
+    let r = i (suc k) (omega (arith, h)) in
+    let e : suc k + 1 ≡ suc (k + 1) = omega arith in
+    rw e at r
+
+-- what rises above a number has no other that is equal to it
+others_above : (name : ℕ) (x : Bundle) (xs : List Bundle) → IsStrictlyIncreasing (map (λ y. y.name) (x ∷ xs)) → name ≤ x.name → AllByRecursion (λ y. name < y.name) xs
+others_above name x [] i l = tt
+others_above name x (y ∷ ys) i l =
+    let s = i 0 (omega arith) in
+    let up : name < y.name = omega (arith, l, s) in
+    (up, others_above name y ys (above_head x.name (map (λ z. z.name) (y ∷ ys)) i) (omega (arith, up)))
+
+not_equal : (a b : ℕ) → a < b → (b == a) ≡ false
+not_equal a b h = grind (arith, nat_tests)
+
+-- a bundle whose closing begins is the only one of its name
+root_shuts : (xs : List Bundle) → IsStrictlyIncreasing (map (λ y. y.name) xs) → AllByRecursion (IsShutAs 0) (change (scopes.is_bundle 0) scopes.as_closing xs)
+root_shuts [] i = tt
+root_shuts (x ∷ xs) i =
+    let rest : AllByRecursion (IsShutAs 0) xs = all_to (λ y. 0 < y.name) (IsShutAs 0) xs (λ y l e. unlike (y.name == 0) (not_equal 0 y.name l) e) (others_above 0 x xs i (omega arith)) in
+    at (x.name == 0) refl rest (root_shuts xs (above_head x.name (map (λ z. z.name) xs) i))
+  where
+    at : (b : Bool) → (x.name == 0) ≡ b → AllByRecursion (IsShutAs 0) xs → AllByRecursion (IsShutAs 0) (change (scopes.is_bundle 0) scopes.as_closing xs) → AllByRecursion (IsShutAs 0) (cond b (scopes.as_closing x ∷ xs) (x ∷ change (scopes.is_bundle 0) scopes.as_closing xs))
+    at true e r s = ((λ f. refl), r)
+    at false e r s = ((λ f. unlike (x.name == 0) e f), s)
+
+module _ {V : Type 0} where
+  root_shut : (w : World V) → IsInOrder w → AllHold (IsShutAs 0) 0 w → is_closing w.scopes 0 ≡ true
+  root_shut w i h =
+      root_found (find (scopes.is_bundle 0) w.scopes.bundles) i.fits.forest.ordered.root
+      (λ x e. all_found (IsShutAs 0) (scopes.is_bundle 0) x w.scopes.bundles e h.bundles (found_passes (scopes.is_bundle 0) w.scopes.bundles x e))
+
+  closing_only : (w : World V) (xs : List Bundle) → IsStrictlyIncreasing (map (λ y. y.name) xs) → (x : Bundle) → find (scopes.is_bundle 0) xs ≡ Some x → x.closing ≡ true → AllByRecursion (IsShutAs 0) xs
+  closing_only w [] i x e c = tt
+  closing_only w (y ∷ ys) i x e c =
+      let rest : AllByRecursion (IsShutAs 0) ys = all_to (λ z. 0 < z.name) (IsShutAs 0) ys (λ z l f. unlike (z.name == 0) (not_equal 0 z.name l) f) (others_above 0 y ys i (omega arith)) in
+      at (y.name == 0) refl e rest
+    where
+      at : (b : Bool) → (y.name == 0) ≡ b → cond b (Some y) (find (scopes.is_bundle 0) ys) ≡ Some x → AllByRecursion (IsShutAs 0) ys → AllByRecursion (IsShutAs 0) (y ∷ ys)
+      at true j f r = ((λ g. let it : y ≡ x = cc in ap (λ z. z.closing) it ∙ c), r)
+      at false j f r = ((λ g. unlike (y.name == 0) j g), r)
+
+  of_closing : (w : World V) → IsStrictlyIncreasing (map (λ y. y.name) w.scopes.bundles) → (o : Option Bundle) → find (scopes.is_bundle 0) w.scopes.bundles ≡ o → if_some o false (λ x. x.closing) ≡ true → AllByRecursion (IsShutAs 0) w.scopes.bundles
+  of_closing w i None e f = cc
+  of_closing w i (Some x) e f = closing_only w w.scopes.bundles i x e f
+
+-- ---- nothing is due behind a step
+
+lined_ending : (mode : Mode) → is_ending (lined_mode mode) ≡ is_ending mode
+lined_ending (modes.Pending call) = refl
+lined_ending modes.Running = refl
+lined_ending (modes.Fresh word answer) = refl
+lined_ending (modes.Answered word answer) = refl
+lined_ending (modes.Ending outcome) = refl
+
+lined_pending : (mode : Mode) → pending_call (lined_mode mode) ≡ pending_call mode
+lined_pending (modes.Pending call) = refl
+lined_pending modes.Running = refl
+lined_pending (modes.Fresh word answer) = refl
+lined_pending (modes.Answered word answer) = refl
+lined_pending (modes.Ending outcome) = refl
+
+module _ {V : Type 0} where
+  answer_same : (w v : World V) (who : ℕ) (call : Call) → may_wait call ≡ true → v.scopes ≡ w.scopes → v.handles ≡ w.handles → v.closings ≡ w.closings → answer_of v who call ≡ answer_of w who call
+  answer_same w v who (calls.Msleep deadline) e s h c = ap (λ t. answer_of (record w { scopes = t }) who (calls.Msleep deadline)) s
+  answer_same w v who (calls.BundleWait number deadline) e s h c =
+      ap (λ t. answer_of (record v { scopes = t }) who (calls.BundleWait number deadline)) s ∙ ap (λ t. answer_of (record w { handles = t }) who (calls.BundleWait number deadline)) h
+  answer_same w v who (calls.Hclose number) e s h c =
+      ap (λ t. answer_of (record v { scopes = t }) who (calls.Hclose number)) s ∙ ap (λ t. answer_of (record w { closings = t }) who (calls.Hclose number)) c
+  answer_same w v who _ e s h c = cc
+
+  due_at : (w v : World V) (n : ℕ) (o : Option Call) → if_some o true may_wait ≡ true → v.scopes ≡ w.scopes → v.handles ≡ w.handles → v.closings ≡ w.closings → ◌≡◌ {A = Option (ℕ × Call × Answer)} (if_some o None (λ call. if_some (answer_of v n call) None (λ a. Some (n, call, a)))) (if_some o None (λ call. if_some (answer_of w n call) None (λ a. Some (n, call, a))))
+  due_at w v n None m s h c = refl
+  due_at w v n (Some call) m s h c = ap (λ r. if_some r None (λ a. Some (n, call, a))) (answer_same w v n call m s h c)
+
+  due_lined : (p : Program V) (w v : World V) (cs : List (Coroutine V)) → AllSit p cs → v.scopes ≡ w.scopes → v.handles ≡ w.handles → v.closings ≡ w.closings → first_some (answer_due v) (map lined cs) ≡ first_some (answer_due w) cs
+  due_lined p w v [] a s h c = refl
+  due_lined p w v (x ∷ cs) a s h c =
+      let one : answer_due v (lined x) ≡ answer_due w x = ap (λ o. if_some o None (λ call. if_some (answer_of v x.number call) None (λ b. Some (x.number, call, b)))) (lined_pending x.mode) ∙ due_at w v x.number (pending_call x.mode) a.0.0 s h c in
+      ap (λ o. option_or o (first_some (answer_due v) (map lined cs))) one ∙ ap (λ o. option_or (answer_due w x) o) (due_lined p w v cs a.1 s h c)
+
+  none_lined : (test more : Coroutine V → Bool) (cs : List (Coroutine V)) → ((x : Coroutine V) → more (lined x) ≡ test x) → find test cs ≡ None → find more (map lined cs) ≡ None
+  none_lined test more [] h e = refl
+  none_lined test more (x ∷ cs) h e = at (test x) (h x) e (none_lined test more cs h)
+    where
+      at : (b : Bool) → more (lined x) ≡ b → cond b (Some x) (find test cs) ≡ None → (find test cs ≡ None → find more (map lined cs) ≡ None) → find more (lined x ∷ map lined cs) ≡ None
+      at true i f rest = cc
+      at false i f rest = rw i (rest f)
+
+  -- a place in the queue makes nothing due
+  settled_queued : (p : Program V) (w : World V) (ready : List ℕ) (early : ℕ) → AllSit p w.coroutines → IsSettled w → IsSettled (queued w ready early).world
+  settled_queued p w ready early a s = record {
+    endings = none_lined (can_finish w) (can_finish (queued w ready early).world) w.coroutines (λ x. ap (λ b. b && is_clear w x.number) (lined_ending x.mode)) s.endings;
+    answers = due_lined p w (queued w ready early).world w.coroutines a refl refl refl ∙ s.answers;
+  }
+
+take_front : (k : ℕ) (xs ys : List ℕ) → k ≤ length xs → take k (xs ++ ys) ≡ take k xs
+take_front zero xs ys l = refl
+take_front (suc k) [] ys l = absurd (omega (arith, l))
+take_front (suc k) (x ∷ xs) ys l = ap (λ zs. x ∷ zs) (take_front k xs ys (omega (arith, l)))
+
+length_more : (xs ys : List ℕ) → length xs ≤ length (xs ++ ys)
+length_more [] ys = omega arith
+length_more (x ∷ xs) ys = let r = length_more xs ys in omega (arith, r)
+
+less_length : (k n : ℕ) (x : ℕ) (xs : List ℕ) → k ≤ length (x ∷ xs) → k - 1 ≤ length xs
+less_length k n x xs l = omega (arith, l)
+
+-- ---- worlds in which the root is closing, within a step
+
+module _ {V : Type 0} (p : Program V) (law : IsLawful p) (plainly : MakesPlain p) (cancels : CancelsAll V) (within : KeepsWithin p) where
+  record InClosing (w : World V) : Type 0 where
+    plain : IsPlain w
+    order : IsInOrder w
+    sits : AllSit p w.coroutines
+    holds : AllHold (IsShutAs 0) 0 w
+
+  off : (w : World V) (who : ℕ) (c : Coroutine V) → InClosing w → coroutine_of w who ≡ Some c → all_calm who ≡ true → is_cancelled w who ≡ true
+  off w who c i e f = cancels w who i.order (root_shut w i.order i.holds) (ap (λ (o : Option (Coroutine V)). is_some o) e)
+
+  one_leads : (w : World V) → InClosing w → Leads p all_calm w (settle_one w)
+  one_leads w i = settle_one_leads p all_calm InClosing off w i i.sits i.order.fits.numbered
+
+  settles : (w : World V) → InClosing w → InClosing (settle_one w)
+  settles w i = record {
+    plain = settle_one_plain w i.plain;
+    order = within.one w i.plain i.order;
+    sits = leads_sits p all_calm w (settle_one w) (one_leads w i) i.sits;
+    holds = settle_one_shut (IsShutAs 0) 0 (shut_lasts 0) p w i.sits i.order.fits.numbered i.holds;
+  }
+
+  settling : (w : World V) → InClosing w → Leads p all_calm w (settle w)
+  settling w i = settle_leads p all_calm InClosing off settles w i i.sits i.order.fits.numbered
+
+  settling_holds : (w : World V) → InClosing w → AllHold (IsShutAs 0) 0 (settle w)
+  settling_holds w i = settle_holds p (IsShutAs 0) 0 (shut_lasts 0) w i.sits i.order.fits.numbered i.holds
