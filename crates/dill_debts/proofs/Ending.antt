@@ -6,10 +6,12 @@ use Rattle.std.specs.Option.{option_or}
 use Rattle.std.proofs.lemmas.Bool.Decides.{nat_tests}
 use Rattle.dill_base.specs.declared.errno.Errno.{Errno}
 use Rattle.dill_calls.specs.declared.answer.Answer.{Answer}
+use Rattle.dill_calls.specs.declared.answer.Answer.TheVariants.{Number}
 use Rattle.dill_calls.specs.declared.call.Call.{Call}
 use Rattle.dill_calls.specs.declared.call.Call.TheVariants as calls
 use Rattle.dill_calls.specs.declared.ran.LackPlace.{LackPlace}
 use Rattle.dill_calls.specs.declared.word.Word.{Word}
+use Rattle.dill_calls.specs.declared.word.Word.TheVariants.{Start}
 use Rattle.dill_calls.specs.Program.{Program, IsLawful, GoesOn}
 use Rattle.dill_scope.specs.declared.forest.Bundle.{Bundle}
 use Rattle.dill_scope.specs.Scopes as scopes
@@ -177,6 +179,11 @@ length_more (x ∷ xs) ys = let r = length_more xs ys in omega (arith, r)
 less_length : (k n : ℕ) (x : ℕ) (xs : List ℕ) → k ≤ length (x ∷ xs) → k - 1 ≤ length xs
 less_length k n x xs l = omega (arith, l)
 
+-- who is first in a queue stands nowhere else in it
+absent_rest : (who : ℕ) (rest : List ℕ) (b : Bool) → occurs who (who ∷ rest) ≡ bit b → occurs who rest ≡ 0
+absent_rest who rest true e = let one : bit (who == who) ≡ 1 = ap bit (equal_number who who refl) in omega (arith, e, one)
+absent_rest who rest false e = let one : bit (who == who) ≡ 1 = ap bit (equal_number who who refl) in omega (arith, e, one)
+
 -- ---- worlds in which the root is closing, within a step
 
 module _ {V : Type 0} (p : Program V) (law : IsLawful p) (plainly : MakesPlain p) (cancels : CancelsAll V) (within : KeepsWithin p) where
@@ -205,3 +212,110 @@ module _ {V : Type 0} (p : Program V) (law : IsLawful p) (plainly : MakesPlain p
 
   settling_holds : (w : World V) → InClosing w → AllHold (IsShutAs 0) 0 (settle w)
   settling_holds w i = settle_holds p (IsShutAs 0) 0 (shut_lasts 0) w i.sits i.order.fits.numbered i.holds
+
+  -- those of a queue of whom is counted
+  abbrev early_of : ℕ → List ℕ → ℕ → Bool
+  early_of early ready n = list_any (λ m. m == n) (take early ready)
+
+  -- the turn of the first of the queue, but for the places of those that it answers
+  record TurnsOff (w : World V) (early : ℕ) (who : ℕ) (rest : List ℕ) (v : World V) : Type 0 where
+    sits : AllSit p v.coroutines
+    holds : AllHold (IsShutAs 0) 0 v
+    settled : IsSettled v
+    lowers : AllLower (early_of (early - 1) rest) v.coroutines
+    falls : total (share_by p (early_of (early - 1) rest)) v.coroutines < total (share_by p (early_of early (who ∷ rest))) w.coroutines
+
+  module _ (settling_ends : SettlesAll V) where
+    -- what a step comes to behind its settling
+    record Settles (w : World V) (v : World V) : Type 0 where
+      sits_then : AllSit p v.coroutines
+      holds_then : AllHold (IsShutAs 0) 0 v
+      settled_then : IsSettled v
+      leads_then_to : Leads p all_calm w v
+
+    settles_to : (w : World V) → InClosing w → Settles w (settle w)
+    settles_to w i =
+        let e = settling w i in
+        record {
+          sits_then = leads_sits p all_calm w (settle w) e i.sits;
+          holds_then = settling_holds w i;
+          settled_then = settling_ends w i.plain i.order.fits.numbered;
+          leads_then_to = e;
+        }
+
+    -- the part of the turn until it settles
+    record MovesOff (w : World V) (early : ℕ) (who : ℕ) (rest : List ℕ) (v : World V) : Type 0 where
+      in_closing : InClosing v
+      lowers_moved : AllLower (early_of (early - 1) rest) v.coroutines
+      falls_moved : total (share_by p (early_of (early - 1) rest)) v.coroutines < total (share_by p (early_of early (who ∷ rest))) w.coroutines
+
+    went_falls : (w : World V) (early who : ℕ) (rest : List ℕ) (c : Coroutine V) (v : World V) → coroutine_of w who ≡ Some c → is_answered c.mode ≡ true → 1 ≤ p.left c.body → SaysIn (p.said c.body) c.mode → IsLowering (early_of early (who ∷ rest)) c → Numbered 0 w.coroutines w.last_coroutine → early_of (early - 1) rest who ≡ false → Went p law all_calm (begin w) who c (given_of c.mode).1 v → total (share_by p (early_of (early - 1) rest)) v.coroutines < total (share_by p (early_of early (who ∷ rest))) w.coroutines
+    went_falls w early who rest c v found answered some says lowers numbered gone (called word view goes leads stands) =
+        let now = early_of early (who ∷ rest) in
+        let less = early_of (early - 1) rest in
+        let number = found_number who w.coroutines c found in
+        let share = share_falls p now less who gone (others_same who rest early) c view word number answered says lowers goes in
+        let falls = called_falls p now less who gone (others_same who rest early) c view word w.coroutines w.last_coroutine numbered found share in
+        let kept = owed_evolves p less (resume (begin w) who view).coroutines v.coroutines w.last_coroutine v.last_coroutine leads in
+        omega (arith, falls, kept)
+    went_falls w early who rest c v found answered some says lowers numbered gone (ended view outcome same last) =
+        let now = early_of early (who ∷ rest) in
+        let less = early_of (early - 1) rest in
+        let owes = answered_owes p now less who gone (others_same who rest early) c answered some in
+        let here = found_changed (is_coroutine who) (as_running view) c w.coroutines (λ d. refl) found in
+        let falls = ended_falls p now less who gone (others_same who rest early) c view outcome w.coroutines w.last_coroutine numbered found here owes in
+        subst (λ cs. total (share_by p less) cs < total (share_by p now) w.coroutines) (sym same) falls
+
+    given_is : (w : World V) (who : ℕ) (c : Coroutine V) → coroutine_of w who ≡ Some c → answer_given (begin w) who ≡ given_of c.mode
+    given_is w who c e = ap (λ o. if_some o (Start, Number 0) (λ d. given_of d.mode)) e
+
+    moves_off : (k : Kept V) (lack : Option LackPlace) (who : ℕ) (rest : List ℕ) → IsClosing p k → k.ready ≡ who ∷ rest → (may : MayTurn p k.world who) → MovesOff k.world k.early who rest (go_on p lack (begin k.world) who may.one.body)
+    moves_off k lack who rest s e may =
+        let w = k.world in
+        let c = may.one in
+        let b = begin w in
+        let moved = go_on p lack b who c.body in
+        let good = good_stable p k s.stable in
+        let sits = good.sits in
+        let shut : AllHold (IsShutAs 0) 0 w = record { given = omega arith; bundles = of_closing w s.stable.order.fits.forest.ordered.bundles (find (scopes.is_bundle 0) w.scopes.bundles) refl s.closing; things = s.stable.things } in
+        let before : InClosing w = record { plain = s.stable.well.plain; order = s.stable.order; sits = sits; holds = shut } in
+        let once = (subst (λ q. IsQueue q w.coroutines) e s.stable.well.queue).once who in
+        let gone = first_gone who rest k.early (absent_rest who rest _ once) in
+        let lowers : AllLower (early_of k.early (who ∷ rest)) w.coroutines = subst (λ q. AllLower (λ n. list_any (λ m. m == n) (take k.early q)) w.coroutines) e s.lowers in
+        let says = all_found (Says p) (is_coroutine who) c w.coroutines may.found s.stable.says in
+        let lowering = all_found (IsLowering (early_of k.early (who ∷ rest))) (is_coroutine who) c w.coroutines may.found lowers in
+        let plain_move = plainly c.body (answer_given b who).1 may.real may.some in
+        let went : Went p law all_calm b who c (answer_given b who).1 moved = go_on_went p law all_calm lack b who c plainly may.some (record { found = may.found; real = may.real; cancelled = λ q. off w who c before may.found q; born = λ q. cc; things = s.stable.things }) in
+        let from = went_leads p law all_calm b who c (answer_given b who).1 moved may.found went in
+        let view = from.0 in
+        let sits_moved = leads_sits p all_calm (resume b who view) moved from.1 (sits_resumed p law plainly b who view c may.found sits) in
+        let resumed = all_resumed who view (IsLowering (early_of k.early (who ∷ rest))) (IsLowering (early_of (k.early - 1) rest)) w.coroutines 0 w.last_coroutine s.stable.well.numbered
+        (others_lower p (early_of k.early (who ∷ rest)) (early_of (k.early - 1) rest) who gone (others_same who rest k.early)) (λ x i f. tt) lowers in
+        record {
+          in_closing = record {
+            plain = go_on_plain p lack b who c.body plain_move (begin_plain w s.stable.well.plain);
+            order = within.moved k lack who rest c s.stable.well s.stable.order e may.found;
+            sits = sits_moved;
+            holds = go_on_shut (IsShutAs 0) 0 (shut_lasts 0) p lack b who c.body plain_move (record { given = shut.given; bundles = shut.bundles; things = shut.things });
+          };
+          lowers_moved = lowers_evolves p (early_of (k.early - 1) rest) (resume b who view).coroutines moved.coroutines w.last_coroutine moved.last_coroutine from.1 resumed;
+          falls_moved = went_falls w k.early who rest c moved may.found may.answered may.some says lowering s.stable.well.numbered gone (subst (λ a. Went p law all_calm b who c a.1 moved) (given_is w who c may.found) went);
+        }
+
+    turns_off : (k : Kept V) (lack : Option LackPlace) (who : ℕ) (rest : List ℕ) → IsClosing p k → k.ready ≡ who ∷ rest → MayTurn p k.world who → TurnsOff k.world k.early who rest (turn p lack k.world who)
+    turns_off k lack who rest s e may =
+        let w = k.world in
+        let less = early_of (k.early - 1) rest in
+        let moved = go_on p lack (begin w) who may.one.body in
+        let m = moves_off k lack who rest s e may in
+        let over = settles_to moved m.in_closing in
+        let kept = owed_evolves p less moved.coroutines (settle moved).coroutines moved.last_coroutine (settle moved).last_coroutine over.leads_then_to in
+        let before = m.falls_moved in
+        let done : TurnsOff w k.early who rest (settle moved) = record {
+          sits = over.sits_then;
+          holds = over.holds_then;
+          settled = over.settled_then;
+          lowers = lowers_evolves p less moved.coroutines (settle moved).coroutines moved.last_coroutine (settle moved).last_coroutine over.leads_then_to m.lowers_moved;
+          falls = omega (arith, before, kept);
+        } in
+        subst (TurnsOff w k.early who rest) (sym (turn_is p law plainly lack w who may.one may.found)) done
