@@ -40,6 +40,7 @@ use Rattle.dill_debts.specs.Says.{Says, SaysIn, LowersIn, IsLowering, AllLower}
 use Rattle.dill_kept.proofs.Plainly.{begin_plain}
 use Rattle.dill_kept.proofs.Steps.{settle_one_plain, settle_plain}
 use Rattle.dill_kept.proofs.Turns.{root_closed, closed_plain, go_on_plain}
+use Rattle.dill_debts.proofs.Bounded.{owes_few, all_early}
 use Rattle.dill_debts.proofs.Keeping.{IsGood, good_stable, good_moved, good_settle, settle_holds, sits_resumed, turn_is}
 use Rattle.dill_debts.proofs.Lists.{total, is_total, all_found, all_to, found_passes, equal_number, number_of, above_of, above, numbered_change, found_changed}
 use Rattle.dill_debts.proofs.Lowering.{all_calm, owed_evolves, lowers_evolves, owed_lined, all_lower_lined, others_lower, share_falls, answered_owes, called_falls, ended_falls, first_gone, others_same}
@@ -319,3 +320,109 @@ module _ {V : Type 0} (p : Program V) (law : IsLawful p) (plainly : MakesPlain p
           falls = omega (arith, before, kept);
         } in
         subst (TurnsOff w k.early who rest) (sym (turn_is p law plainly lack w who may.one may.found)) done
+
+  take_all : (xs ys : List ℕ) → take (length xs) (xs ++ ys) ≡ xs
+  take_all [] ys = refl
+  take_all (x ∷ xs) ys = ap (λ zs. x ∷ zs) (take_all xs ys)
+
+  module _ (settling_ends : SettlesAll V) (stable : KeepsStable p) (goes : RootGoesOn p) where
+    few : (k : Kept V) → IsClosing p k → owed p k ≤ 2 ^ 48
+    few k s = subst (λ n. n ≤ 2 ^ 48) (sym (is_total (share_by p (is_early k)) k.world.coroutines)) (owes_few p law (is_early k) k.world.coroutines s.stable.well.lives s.stable.order.fits.few)
+
+    shut : (k : Kept V) → IsStable p k → IsClosing p (kept_shut k)
+    shut k s =
+        let w = root_closed k.world in
+        let good = good_stable p k s in
+        let before : InClosing w = record {
+          plain = closed_plain k.world s.well.plain;
+          order = within.closed k.world s.order;
+          sits = good.sits;
+          holds = record { given = omega arith; bundles = root_shuts k.world.scopes.bundles s.order.fits.forest.ordered.bundles; things = s.things };
+        } in
+        let over = settles_to settling_ends w before in
+        let all : ℕ → Bool = λ n. list_any (λ m. m == n) k.ready in
+        let lowers = all_early k.ready k.world.coroutines 0 k.world.last_coroutine s.well.numbered s.well.queue s.rest in
+        let lined_lower = all_lower_lined all (settle w).coroutines (lowers_evolves p all w.coroutines (settle w).coroutines w.last_coroutine (settle w).last_coroutine over.leads_then_to lowers) in
+        let after = kept_shut k in
+        let kept = stable.shut k s in
+        record {
+          stable = kept;
+          closing = root_shut after.world kept.order (record { given = over.holds_then.given; bundles = over.holds_then.bundles; things = over.holds_then.things });
+          settled = settled_queued p (settle w) k.ready (length k.ready) over.sits_then over.settled_then;
+          early = length_more k.ready (fresh (settle w));
+          lowers = subst (λ q. AllLower (λ n. list_any (λ m. m == n) q) after.world.coroutines) (sym (take_all k.ready (fresh (settle w)))) lined_lower;
+        }
+
+    -- the turn of the first of a queue leaves the root closing, and lowers what is owed
+    turned_first : (k : Kept V) (lack : Option LackPlace) (who : ℕ) (rest : List ℕ) → KeepsWell p → IsClosing p k → k.ready ≡ who ∷ rest → IsClosing p (kept_turn p lack k) × (owed p (kept_turn p lack k) < owed p k)
+    turned_first k lack who rest keeps s e =
+        let may = keeps.first k who rest s.stable.well e in
+        let off = turns_off settling_ends k lack who rest s e may in
+        let v = turn p lack k.world who in
+        let after = queued v rest (k.early - 1) in
+        let is : kept_turn p lack k ≡ after = ap (turn_first p lack k) e in
+        let kept : IsStable p after = subst (IsStable p) is (stable.turned k lack s.stable) in
+        let early : k.early ≤ length (who ∷ rest) = subst (λ q. k.early ≤ length q) e s.early in
+        let less : k.early - 1 ≤ length rest = omega (arith, early) in
+        let front = take_front (k.early - 1) rest (fresh v) less in
+        let same : is_early after ≡ early_of (k.early - 1) rest = ap (λ q. λ n. list_any (λ m. m == n) q) front in
+        let closing : IsClosing p after = record {
+          stable = kept;
+          closing = root_shut after.world kept.order (record { given = off.holds.given; bundles = off.holds.bundles; things = off.holds.things });
+          settled = settled_queued p v rest (k.early - 1) off.sits off.settled;
+          early = let m = length_more rest (fresh v) in omega (arith, less, m);
+          lowers = subst (λ f. AllLower f after.world.coroutines) (sym same) (all_lower_lined (early_of (k.early - 1) rest) v.coroutines off.lowers);
+        } in
+        let now : owed p after ≡ total (share_by p (early_of (k.early - 1) rest)) v.coroutines = is_total (share_by p (is_early after)) after.world.coroutines ∙ ap (λ f. total (share_by p f) after.world.coroutines) same ∙ owed_lined p (early_of (k.early - 1) rest) v.coroutines in
+        let was : owed p k ≡ total (share_by p (early_of k.early (who ∷ rest))) k.world.coroutines = is_total (share_by p (is_early k)) k.world.coroutines ∙ ap (λ q. total (share_by p (λ n. list_any (λ m. m == n) (take k.early q))) k.world.coroutines) e in
+        let falls = off.falls in
+        let lower : owed p after < owed p k = omega (arith, now, was, falls) in
+        subst (λ (l : Kept V). IsClosing p l × (owed p l < owed p k)) (sym is) (closing, lower)
+
+    turned : (k : Kept V) (lack : Option LackPlace) → KeepsWell p → IsClosing p k → IsClosing p (kept_turn p lack k)
+    turned k lack keeps s = at k.ready refl
+      where
+        at : (ready : List ℕ) → k.ready ≡ ready → IsClosing p (kept_turn p lack k)
+        at [] e = subst (IsClosing p) (sym (ap (turn_first p lack k) e)) s
+        at (who ∷ rest) e = (turned_first k lack who rest keeps s e).0
+
+    fewer : (k : Kept V) (lack : Option LackPlace) → KeepsWell p → IsClosing p k → has_answer k.ready ≡ true → owed p (kept_turn p lack k) < owed p k
+    fewer k lack keeps s h = at k.ready refl h
+      where
+        at : (ready : List ℕ) → k.ready ≡ ready → has_answer ready ≡ true → owed p (kept_turn p lack k) < owed p k
+        at [] e h = cc
+        at (who ∷ rest) e h = (turned_first k lack who rest keeps s e).1
+
+    goes_on : (k : Kept V) → IsClosing p k → k.world.ended ≡ None → has_answer k.ready ≡ true
+    goes_on k s e = goes k s.stable.well s.stable.order s.settled s.stable.rest s.closing e
+
+    stays_ended : (k : Kept V) (lacks : List (Option LackPlace)) → is_some k.world.ended ≡ true → is_some (fold (turn_until p) k lacks).world.ended ≡ true
+    stays_ended k [] e = e
+    stays_ended k (lack ∷ lacks) e =
+        let same : turn_until p k lack ≡ k = ap (λ b. if b then k else kept_turn p lack k) e in
+        ap (λ l. is_some (fold (turn_until p) l lacks).world.ended) same ∙ stays_ended k lacks e
+
+    ends : (k : Kept V) (lacks : List (Option LackPlace)) → KeepsWell p → IsClosing p k → owed p k ≤ length lacks → is_some (fold (turn_until p) k lacks).world.ended ≡ true
+    ends k [] keeps s l = at k.world.ended refl
+      where
+        at : (o : Option (Option Errno)) → k.world.ended ≡ o → is_some o ≡ true
+        at None e = absurd (let f = fewer k None keeps s (goes_on k s e) in omega (arith, f, l))
+        at (Some outcome) e = refl
+    ends k (lack ∷ lacks) keeps s l = at k.world.ended refl (λ t m. ends (kept_turn p lack k) lacks keeps t m)
+      where
+        at : (o : Option (Option Errno)) → k.world.ended ≡ o → (IsClosing p (kept_turn p lack k) → owed p (kept_turn p lack k) ≤ length lacks → is_some (fold (turn_until p) (kept_turn p lack k) lacks).world.ended ≡ true) → is_some (fold (turn_until p) k (lack ∷ lacks)).world.ended ≡ true
+        at None e rest =
+            let same : turn_until p k lack ≡ kept_turn p lack k = ap (λ (o : Option (Option Errno)). if is_some o then k else kept_turn p lack k) e in
+            let f = fewer k lack keeps s (goes_on k s e) in
+            ap (λ x. is_some (fold (turn_until p) x lacks).world.ended) same ∙ rest (turned k lack keeps s) (omega (arith, f, l))
+        at (Some outcome) e rest = stays_ended k (lack ∷ lacks) (ap (λ (o : Option (Option Errno)). is_some o) e)
+
+    pub ends_closing : KeepsWell p → EndsClosing p
+    ends_closing keeps = record {
+      shut = shut;
+      turned = λ k lack s. turned k lack keeps s;
+      fewer = λ k lack s h. fewer k lack keeps s h;
+      few = few;
+      goes_on = goes_on;
+      ends = λ k lacks s l. ends k lacks keeps s l;
+    }

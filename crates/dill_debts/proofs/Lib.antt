@@ -8,4 +8,5 @@ pub mod Standing
 pub mod Turning
 pub mod Keeping
 pub mod Lowering
+pub mod Bounded
 pub mod Ending
