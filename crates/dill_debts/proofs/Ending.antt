@@ -41,7 +41,7 @@ use Rattle.dill_kept.proofs.Plainly.{begin_plain}
 use Rattle.dill_kept.proofs.Steps.{settle_one_plain, settle_plain}
 use Rattle.dill_kept.proofs.Turns.{root_closed, closed_plain, go_on_plain}
 use Rattle.dill_debts.proofs.Bounded.{owes_few, all_early}
-use Rattle.dill_debts.proofs.Keeping.{IsGood, good_stable, good_moved, good_settle, settle_holds, sits_resumed, turn_is}
+use Rattle.dill_debts.proofs.Keeping.{root_flags, IsGood, good_stable, good_moved, good_settle, settle_holds, sits_resumed, turn_is}
 use Rattle.dill_debts.proofs.Lists.{total, is_total, all_found, all_to, found_passes, equal_number, number_of, above_of, above, numbered_change, found_changed}
 use Rattle.dill_debts.proofs.Lowering.{all_calm, owed_evolves, lowers_evolves, owed_lined, all_lower_lined, others_lower, share_falls, answered_owes, called_falls, ended_falls, first_gone, others_same}
 use Rattle.dill_debts.proofs.Settling.{AllSit, leads_sits, settle_one_leads, settle_leads}
@@ -278,7 +278,7 @@ module _ {V : Type 0} (p : Program V) (law : IsLawful p) (plainly : MakesPlain p
         let moved = go_on p lack b who c.body in
         let good = good_stable p k s.stable in
         let sits = good.sits in
-        let shut : AllHold (IsShutAs 0) 0 w = record { given = omega arith; bundles = of_closing w s.stable.order.fits.forest.ordered.bundles (find (scopes.is_bundle 0) w.scopes.bundles) refl s.closing; things = s.stable.things } in
+        let shut : AllHold (IsShutAs 0) 0 w = record { given = omega arith; bundles = of_closing w s.stable.order.fits.forest.ordered.bundles (find (scopes.is_bundle 0) w.scopes.bundles) refl s.closing; things = s.stable.things; flags = s.stable.flags } in
         let before : InClosing w = record { plain = s.stable.well.plain; order = s.stable.order; sits = sits; holds = shut } in
         let once = (subst (λ q. IsQueue q w.coroutines) e s.stable.well.queue).once who in
         let gone = first_gone who rest k.early (absent_rest who rest _ once) in
@@ -297,7 +297,7 @@ module _ {V : Type 0} (p : Program V) (law : IsLawful p) (plainly : MakesPlain p
             plain = go_on_plain p lack b who c.body plain_move (begin_plain w s.stable.well.plain);
             order = within.moved k lack who rest c s.stable.well s.stable.order e may.found;
             sits = sits_moved;
-            holds = go_on_shut (IsShutAs 0) 0 (shut_lasts 0) p lack b who c.body plain_move (record { given = shut.given; bundles = shut.bundles; things = shut.things });
+            holds = go_on_shut (IsShutAs 0) 0 (shut_lasts 0) p lack b who c.body plain_move (record { given = shut.given; bundles = shut.bundles; things = shut.things; flags = record { ranked = shut.flags.ranked; flagged = shut.flags.flagged } });
           };
           lowers_moved = lowers_evolves p (early_of (k.early - 1) rest) (resume b who view).coroutines moved.coroutines w.last_coroutine moved.last_coroutine from.1 resumed;
           falls_moved = went_falls w k.early who rest c moved may.found may.answered may.some says lowering s.stable.well.numbered gone (subst (λ a. Went p law all_calm b who c a.1 moved) (given_is w who c may.found) went);
@@ -337,7 +337,7 @@ module _ {V : Type 0} (p : Program V) (law : IsLawful p) (plainly : MakesPlain p
           plain = closed_plain k.world s.well.plain;
           order = within.closed k.world s.order;
           sits = good.sits;
-          holds = record { given = omega arith; bundles = root_shuts k.world.scopes.bundles s.order.fits.forest.ordered.bundles; things = s.things };
+          holds = record { given = omega arith; bundles = root_shuts k.world.scopes.bundles s.order.fits.forest.ordered.bundles; things = s.things; flags = root_flags k.world s.flags };
         } in
         let over = settles_to settling_ends w before in
         let all : ℕ → Bool = λ n. list_any (λ m. m == n) k.ready in
@@ -347,7 +347,7 @@ module _ {V : Type 0} (p : Program V) (law : IsLawful p) (plainly : MakesPlain p
         let kept = stable.shut k s in
         record {
           stable = kept;
-          closing = root_shut after.world kept.order (record { given = over.holds_then.given; bundles = over.holds_then.bundles; things = over.holds_then.things });
+          closing = root_shut after.world kept.order (record { given = over.holds_then.given; bundles = over.holds_then.bundles; things = over.holds_then.things; flags = kept.flags });
           settled = settled_queued p (settle w) k.ready (length k.ready) over.sits_then over.settled_then;
           early = length_more k.ready (fresh (settle w));
           lowers = subst (λ q. AllLower (λ n. list_any (λ m. m == n) q) after.world.coroutines) (sym (take_all k.ready (fresh (settle w)))) lined_lower;
@@ -368,7 +368,7 @@ module _ {V : Type 0} (p : Program V) (law : IsLawful p) (plainly : MakesPlain p
         let same : is_early after ≡ early_of (k.early - 1) rest = ap (λ q. λ n. list_any (λ m. m == n) q) front in
         let closing : IsClosing p after = record {
           stable = kept;
-          closing = root_shut after.world kept.order (record { given = off.holds.given; bundles = off.holds.bundles; things = off.holds.things });
+          closing = root_shut after.world kept.order (record { given = off.holds.given; bundles = off.holds.bundles; things = off.holds.things; flags = kept.flags });
           settled = settled_queued p v rest (k.early - 1) off.sits off.settled;
           early = let m = length_more rest (fresh v) in omega (arith, less, m);
           lowers = subst (λ f. AllLower f after.world.coroutines) (sym same) (all_lower_lined (early_of (k.early - 1) rest) v.coroutines off.lowers);

@@ -1,5 +1,5 @@
 -- Each step keeps what holds between steps.
-use Rattle.std.proofs.Common.{◌≡◌, ◌∙◌, ◌+◌, ◌-◌, ◌≤◌, ◌==◌, ℕ, zero, suc, List, [], ◌∷◌, length, map, fold, Bool, true, false, ◌&&◌, Option, Some, None, if◌then◌else◌, refl, sym, ap, subst, arith}
+use Rattle.std.proofs.Common.{◌≡◌, ◌∙◌, inl, ◌+◌, ◌-◌, ◌≤◌, ◌==◌, ℕ, zero, suc, List, [], ◌∷◌, length, map, fold, Bool, true, false, ◌&&◌, Option, Some, None, if◌then◌else◌, refl, sym, ap, subst, arith}
 use Rattle.std.specs.List.{AllByRecursion, list_all}
 use Rattle.dill_calls.specs.declared.answer.Answer.TheVariants.{Number}
 use Rattle.dill_calls.specs.declared.ran.LackPlace.{LackPlace}
@@ -8,6 +8,7 @@ use Rattle.dill_calls.specs.declared.word.Word.TheVariants.{Start}
 use Rattle.dill_calls.specs.Program.{Program, IsLawful, Begins}
 use Rattle.dill_kernel.specs.declared.ready.Ready.{Ready}
 use Rattle.dill_scope.specs.declared.forest.Bundle.{Bundle}
+use Rattle.dill_scope.specs.Scopes as scopes
 use Rattle.dill_maps.specs.Maps.{if_some}
 use Rattle.dill_plain.specs.Plain.{MovesPlain, MakesPlain}
 use Rattle.dill_rules.specs.declared.coroutine.Coroutine.{Coroutine}
@@ -26,6 +27,7 @@ use Rattle.dill_kept.specs.Well.{Numbered, IsWell}
 use Rattle.dill_sound.specs.Laws.{KeepsOrder, is_resting}
 use Rattle.dill_sound.specs.Order.{IsInOrder}
 use Rattle.dill_debts.specs.Closing.{IsStable}
+use Rattle.dill_debts.specs.Flags.{IsFlagged, HasFlags}
 use Rattle.dill_debts.specs.Laws.{KeepsStable}
 use Rattle.dill_debts.specs.Says.{SaysIn, Says, AllSay, IsProper}
 use Rattle.dill_kept.proofs.Lists.{join}
@@ -33,7 +35,8 @@ use Rattle.dill_kept.proofs.Settles.{both}
 use Rattle.dill_kept.proofs.Turns.{root_closed}
 use Rattle.dill_debts.proofs.Entering.{start_only}
 use Rattle.dill_debts.proofs.Evolving.{evolves_all}
-use Rattle.dill_debts.proofs.Lists.{all_change, all_map, all_to, numbered_change, above_other}
+use Rattle.dill_debts.proofs.Flagging.{all_picked, ranked_change}
+use Rattle.dill_debts.proofs.Lists.{all_change, all_map, all_to, numbered_change, above_other, number_of}
 use Rattle.dill_debts.proofs.Settling.{Sits, AllSit, leads_sits, leads_numbered, settle_one_leads, settle_within_leads, settle_leads, pass_nothing, expire_leads}
 use Rattle.dill_debts.proofs.Shutting.{AllHold, Lasts, settle_one_shut, expire_one_shut, go_on_shut}
 use Rattle.dill_debts.proofs.Standing.{stands, IsStanding, MayRun, leads_stand, leads_run, all_stand, all_running}
@@ -120,7 +123,7 @@ module _ {V : Type 0} (p : Program V) where
     numbered = s.well.numbered;
     sits = all_sit k.world.coroutines s.well.plain.calls s.says;
     stand = all_standing k.world.coroutines s.rest;
-    holds = record { given = omega arith; bundles = all_any k.world.scopes.bundles; things = s.things };
+    holds = record { given = omega arith; bundles = all_any k.world.scopes.bundles; things = s.things; flags = s.flags };
   }
 
   says_lined : (said : Word) (mode : Mode) → SaysIn said mode → SaysIn said (lined_mode mode)
@@ -149,6 +152,7 @@ module _ {V : Type 0} (p : Program V) where
     says = all_map (Says p) lined v.coroutines (λ c s. says_lined (p.said c.body) c.mode s) (all_to (Sits p) (Says p) v.coroutines (λ c s. s.1) g.sits);
     things = g.holds.things;
     rest = all_rest v.coroutines g.stand;
+    flags = record { ranked = g.holds.flags.ranked; flagged = g.holds.flags.flagged };
   }
 
 -- the turn of the first of the queue
@@ -174,7 +178,7 @@ module _ {V : Type 0} (p : Program V) (law : IsLawful p) (plainly : MakesPlain p
         numbered = numbered_then;
         sits = leads_sits p nobody_calm before moved from.1 sits;
         stand = all_stand who moved.coroutines 0 moved.last_coroutine from.2.one numbered_then runs from.2.found from.2.there;
-        holds = go_on_shut AnyBundle 0 any_lasts p lack b who one.body (plainly one.body answer real some) (record { given = omega arith; bundles = g.holds.bundles; things = g.holds.things });
+        holds = go_on_shut AnyBundle 0 any_lasts p lack b who one.body (plainly one.body answer real some) (record { given = omega arith; bundles = g.holds.bundles; things = g.holds.things; flags = record { ranked = g.holds.flags.ranked; flagged = g.holds.flags.flagged } });
       }
 
   pub turn_is : (lack : Option LackPlace) (w : World V) (who : ℕ) (c : Coroutine V) → coroutine_of w who ≡ Some c → turn p lack w who ≡ settle (go_on p lack (begin w) who c.body)
@@ -189,6 +193,16 @@ module _ {V : Type 0} where
   heated [] w = (refl, refl)
   heated (x ∷ xs) w = let r = heated xs (heat_ready w x) in (r.0, r.1)
 
+  pub root_flags : (w : World V) → HasFlags w → HasFlags (root_closed w)
+  root_flags w f = record {
+    ranked = ranked_change (scopes.is_bundle 0) scopes.as_closing w.scopes.bundles 0 w.last_bundle (λ x. refl) f.ranked;
+    flagged = all_picked (IsFlagged w.closings) (IsFlagged w.closings) (scopes.is_bundle 0) scopes.as_closing w.scopes.bundles (λ x i a e. inl (number_of x.name 0 i)) (λ x a. a) f.flagged;
+  }
+
+  heat_flags : (ready : List Ready) (w : World V) → HasFlags w → HasFlags (fold heat_ready w ready)
+  heat_flags [] w f = f
+  heat_flags (x ∷ xs) w f = heat_flags xs (heat_ready w x) (record { ranked = f.ranked; flagged = f.flagged })
+
 module _ {V : Type 0} (p : Program V) (law : IsLawful p) (plainly : MakesPlain p) (keeps : KeepsWell p) (ordered : KeepsOrder p) where
   opening : (view : V) → Begins p view → IsStable p (opening_kept view)
   opening view b = record {
@@ -197,6 +211,7 @@ module _ {V : Type 0} (p : Program V) (law : IsLawful p) (plainly : MakesPlain p
     says = (start_only (p.said view) b.start, tt);
     things = tt;
     rest = refl;
+    flags = record { ranked = (omega arith, omega arith); flagged = (λ e. cc, tt) };
   }
 
   turned : (k : Kept V) (lack : Option LackPlace) → IsStable p k → IsStable p (kept_turn p lack k)
@@ -210,7 +225,7 @@ module _ {V : Type 0} (p : Program V) (law : IsLawful p) (plainly : MakesPlain p
           stable_queued p (turn p lack k.world who) rest (k.early - 1) (subst (IsWell p) is (keeps.turned k lack s.well)) (subst (λ (l : Kept V). IsInOrder l.world) is (ordered.turned k lack s.well s.order)) (good_turn p law plainly lack k.world who may (good_stable p k s))
 
   started : (k : Kept V) → IsStable p k → IsStable p (record k { world = begin k.world })
-  started k s = record { well = keeps.started k s.well; order = ordered.started k s.order; says = s.says; things = s.things; rest = s.rest }
+  started k s = record { well = keeps.started k s.well; order = ordered.started k s.order; says = s.says; things = s.things; rest = s.rest; flags = record { ranked = s.flags.ranked; flagged = s.flags.flagged } }
 
   expires : (k : Kept V) (who : ℕ) → IsStable p k → IsStable p (kept_expire_next k who)
   expires k who s = stable_queued p (expire_one k.world who) k.ready k.early (keeps.expires k who s.well) (ordered.expires k who s.well s.order) (good_expire p k.world who (good_stable p k s))
@@ -222,8 +237,8 @@ module _ {V : Type 0} (p : Program V) (law : IsLawful p) (plainly : MakesPlain p
   settled : (k : Kept V) → IsStable p k → IsStable p (queued (settle k.world) k.ready k.early)
   settled k s = stable_queued p (settle k.world) k.ready k.early (keeps.settled k s.well) (ordered.settled k s.well s.order) (good_settle p k.world (good_stable p k s))
 
-  good_closed : (w : World V) → IsGood p w → IsGood p (root_closed w)
-  good_closed w g = record { numbered = g.numbered; sits = g.sits; stand = g.stand; holds = record { given = omega arith; bundles = all_any (root_closed w).scopes.bundles; things = g.holds.things } }
+  pub good_closed : (w : World V) → IsGood p w → IsGood p (root_closed w)
+  good_closed w g = record { numbered = g.numbered; sits = g.sits; stand = g.stand; holds = record { given = omega arith; bundles = all_any (root_closed w).scopes.bundles; things = g.holds.things; flags = root_flags w g.holds.flags } }
 
   shut : (k : Kept V) → IsStable p k → IsStable p (kept_shut k)
   shut k s = stable_queued p (settle (root_closed k.world)) k.ready (length k.ready) (keeps.shut k s.well) (ordered.shut k s.well s.order) (good_settle p (root_closed k.world) (good_closed k.world (good_stable p k s)))
@@ -237,6 +252,7 @@ module _ {V : Type 0} (p : Program V) (law : IsLawful p) (plainly : MakesPlain p
         says = subst (AllSay p) (sym h.0) s.says;
         things = subst (AllByRecursion IsProper) (sym h.1) s.things;
         rest = subst (λ cs. list_all (λ c. is_resting c.mode) cs ≡ true) (sym h.0) s.rest;
+        flags = let f = heat_flags ready (begin k.world) (record { ranked = s.flags.ranked; flagged = s.flags.flagged }) in record { ranked = f.ranked; flagged = f.flagged };
       }
 
   pub keeps_stable : KeepsStable p

@@ -3,6 +3,7 @@ pub mod Evolving
 pub mod Entering
 pub mod Walking
 pub mod Settling
+pub mod Flagging
 pub mod Shutting
 pub mod Standing
 pub mod Turning
