@@ -11,3 +11,4 @@ pub mod Keeping
 pub mod Lowering
 pub mod Bounded
 pub mod Ending
+pub mod Tracking
