@@ -12,3 +12,4 @@ pub mod Lowering
 pub mod Bounded
 pub mod Ending
 pub mod Tracking
+pub mod Holding
