@@ -31,6 +31,7 @@ use Rattle.dill_rules.specs.Refusals.{refuse, order, order_of, holds, is_called_
 use Rattle.dill_rules.specs.Effects.{make, add_bundle, close_thing, start, give_all, bear}
 use Rattle.dill_rules.specs.Entering.{keep_for, perform, is_too_late, late_answer, meet_deadline, done, enter}
 use Rattle.dill_rules.specs.Settling.{close_owned, close_all, end}
+use Rattle.dill_kept.proofs.Crew.{give_all_crew}
 use Rattle.dill_scope.proofs.Carrying.{inside_lives}
 use Rattle.dill_debts.proofs.Flagging.{all_picked}
 use Rattle.dill_debts.proofs.Lists.{all_append, all_without, all_found, all_to, found_passes, number_of, equal_number, some_same}
@@ -249,3 +250,155 @@ module _ {V : Type 0} (w : World V) (b : ℕ) (facts : Facts w b) where
   gives_all gifts (m ∷ ms) v g a h =
       let one = gives_one gifts v m g.0 a h in
       gives_all gifts ms (move v m (w.last_coroutine + 1)) g.1 one.0 one.1
+
+any_true : (m : ℕ) (x : ℕ) (xs : List ℕ) → list_any (λ n. n == m) xs ≡ true → list_any (λ n. n == m) (x ∷ xs) ≡ true
+any_true m x xs e = at (x == m)
+  where
+    at : (c : Bool) → (c || list_any (λ n. n == m) xs) ≡ true
+    at true = refl
+    at false = e
+
+-- each of a list is one of it
+all_self : (xs : List ℕ) → AllByRecursion (λ m. list_any (λ n. n == m) xs ≡ true) xs
+all_self [] = tt
+all_self (x ∷ xs) = (
+  ap (λ c. c || list_any (λ n. n == x) xs) (equal_number x x refl),
+  all_to (λ m. list_any (λ n. n == m) xs ≡ true) (λ m. list_any (λ n. n == m) (x ∷ xs) ≡ true) xs (λ m e. any_true m x xs e) (all_self xs),
+)
+
+-- where none passes a test, one of them doesn't
+none_passes : (test : ℕ → Bool) (m : ℕ) (xs : List ℕ) → list_any test xs ≡ false → list_any (λ n. n == m) xs ≡ true → test m ≡ false
+none_passes test m [] e f = cc
+none_passes test m (x ∷ xs) e f = at (x == m) refl f (λ g. none_passes test m xs (or_right (test x) (list_any test xs) e) g)
+  where
+    at : (c : Bool) → (x == m) ≡ c → (c || list_any (λ n. n == m) xs) ≡ true → (list_any (λ n. n == m) xs ≡ true → test m ≡ false) → test m ≡ false
+    at true i g rest = ap test (sym (number_of x m i)) ∙ or_left (test x) (list_any test xs) e
+    at false i g rest = rest g
+
+all_filter : {X : Type 0} (P : X → Type 0) (test : X → Bool) (xs : List X) → AllByRecursion P xs → AllByRecursion (λ x. P x × (test x ≡ true)) (filter test xs)
+all_filter P test [] a = tt
+all_filter P test (x ∷ xs) a = at (test x) refl (all_filter P test xs a.1)
+  where
+    at : (c : Bool) → test x ≡ c → AllByRecursion (λ y. P y × (test y ≡ true)) (filter test xs) → AllByRecursion (λ y. P y × (test y ≡ true)) (cond c (x ∷ filter test xs) (filter test xs))
+    at true i rest = ((a.0, i), rest)
+    at false i rest = rest
+
+module _ {V : Type 0} (p : Program V) (w : World V) (b : ℕ) (facts : Facts w b) where
+  -- who makes isn't cancelled
+  made_by : (who : ℕ) (call : Call) → makes (word_of call) ≡ true → is_called_off w who call ≡ false → is_cancelled w who ≡ false
+  made_by who call m e = and_left (is_cancelled w who) (blocks (word_of call) || (makes (word_of call) || takes_anothers w who call)) e (makes_so (blocks (word_of call)) (makes (word_of call)) (takes_anothers w who call) m)
+    where
+      makes_so : (x y z : Bool) → y ≡ true → (x || (y || z)) ≡ true
+      makes_so true y z f = refl
+      makes_so false true z f = refl
+      makes_so false false z f = cc
+
+  -- a caller takes this number alone
+  takes_one : (who : ℕ) (view : V) (call : Call) (n : ℕ) → order_of call ≡ order → taken_by call ≡ n ∷ [] → (blocks (word_of call) || makes (word_of call)) ≡ false → refuse p w who view call ≡ None → (cannot_take w who call n ≡ false) × ((is_cancelled w who && is_anothers w who n) ≡ false)
+  takes_one who view call n o t q e =
+      let un = unrefused p w who view call o e in
+      let busy : list_any (cannot_take w who call) (taken_by call) ≡ false = or_left (list_any (cannot_take w who call) (taken_by call)) (is_occupied w call || (is_in_use w call || is_closed_bundle w who call)) un.1 in
+      let alone : (cannot_take w who call n || false) ≡ false = ap (list_any (cannot_take w who call)) (sym t) ∙ busy in
+      (or_left (cannot_take w who call n) false alone, anothers (blocks (word_of call)) (makes (word_of call)) q un.0)
+    where
+      pick : (x y z c : Bool) → (x || y) ≡ false → (c && (x || (y || z))) ≡ false → (c && z) ≡ false
+      pick true y z c i f = cc
+      pick false true z c i f = cc
+      pick false false z c i f = f
+
+      last : (c z : Bool) → (c && (z || false)) ≡ false → (c && z) ≡ false
+      last true true f = f
+      last true false f = refl
+      last false z f = refl
+
+      anothers : (x y : Bool) → (x || y) ≡ false → (is_cancelled w who && (x || (y || takes_anothers w who call))) ≡ false → (is_cancelled w who && is_anothers w who n) ≡ false
+      anothers x y i f =
+          let one : (is_cancelled w who && takes_anothers w who call) ≡ false = pick x y (takes_anothers w who call) (is_cancelled w who) i f in
+          last (is_cancelled w who) (is_anothers w who n) (ap (λ xs. is_cancelled w who && list_any (is_anothers w who) xs) (sym t) ∙ one)
+
+  -- the entries of a world, of which the gifts may be taken
+  gifts_free : (who : ℕ) (call : Call) (gifts : List ℕ) → taken_by call ≡ gifts → is_cancelled w who ≡ false → is_busy w who call ≡ false → AllByRecursion (GiftOk w b facts gifts) w.handles.entries
+  gifts_free who call gifts t c e =
+      let none : list_any (cannot_take w who call) (taken_by call) ≡ false = or_left (list_any (cannot_take w who call) (taken_by call)) (is_occupied w call || (is_in_use w call || is_closed_bundle w who call)) e in
+      let free : list_any (cannot_take w who call) gifts ≡ false = ap (list_any (cannot_take w who call)) (sym t) ∙ none in
+      all_to (λ x. entry_of w x.number ≡ Some x) (GiftOk w b facts gifts) w.handles.entries
+      (λ x f g name h. gift_ok w b facts who call x.number x name c f h (none_passes (cannot_take w who call) x.number gifts free g)) facts.each
+
+  -- a new coroutine with its gifts, in a bundle that isn't that one, nor of who is inside it
+  start_tracks : (v : World V) (view : V) (home program : ℕ) (args : List Arg) → v.last_coroutine ≡ w.last_coroutine → (home ≡ b → ⊥) → NotOf w.scopes b home → AllByRecursion (GiftOk w b facts (gifts_of args)) v.handles.entries → Tracks w.scopes b v.scopes → Tracks w.scopes b (start p v view home program args).scopes
+  start_tracks v view home program args l n o a h =
+      let given = give_all v (gifts_of args) (w.last_coroutine + 1) in
+      let all : Tracks w.scopes b given.scopes = gives_all w b facts (gifts_of args) (gifts_of args) v (all_self (gifts_of args)) a h in
+      let same : given.last_coroutine ≡ w.last_coroutine = (give_all_crew v (gifts_of args) (w.last_coroutine + 1)).last ∙ l in
+      let born : Tracks w.scopes b (scopes.enter given.scopes home (w.last_coroutine + 1)) = tracks_enter w.scopes b given.scopes home (w.last_coroutine + 1) (inr (facts.new_home, n, o)) all in
+      let moved : Tracks w.scopes b (scopes.enter given.scopes home (given.last_coroutine + 1)) = subst (λ k. Tracks w.scopes b (scopes.enter given.scopes home (k + 1))) (sym same) born in
+      subst (λ k. Tracks w.scopes b (scopes.enter (give_all v (gifts_of args) (k + 1)).scopes home ((give_all v (gifts_of args) (k + 1)).last_coroutine + 1))) (sym l) moved
+
+  perform_tracks : (who : ℕ) (view : V) (call : Call) → is_plain call ≡ true → refuse p w who view call ≡ None → Tracks w.scopes b w.scopes → Tracks w.scopes b (perform p (keep_for w call) who view call).scopes
+  perform_tracks who view (calls.Print text) e f h = h
+  perform_tracks who view calls.Now e f h = h
+  perform_tracks who view calls.Yield e f h = h
+  perform_tracks who view (calls.Msleep deadline) e f h = h
+  perform_tracks who view (calls.Hmake kind value) e f h = h
+  perform_tracks who view (calls.Hquery number kind) e f h = some_tracks w b facts (entry_of w number) (keep_for w (calls.Hquery number kind)) (λ x. reply (keep_for w (calls.Hquery number kind)) who _ _) h (λ x g. h)
+  perform_tracks who view (calls.Hown number) e f h =
+      let may = takes_one who view (calls.Hown number) number refl refl refl f in
+      move_tracks w b facts (keep_for w (calls.Hown number)) number who (λ x name g i. take_ok w b facts who (calls.Hown number) number x name g i may.0 may.1) h
+  perform_tracks who view (calls.Hclose number) e f h =
+      let may = takes_one who view (calls.Hclose number) number refl refl refl f in
+      let k = keep_for w (calls.Hclose number) in
+      some_tracks w b facts (entry_of w number) k (λ x. close_thing k who number x.thing) h
+      (λ x g. close_thing_tracks w b facts k who number x.thing (λ name i. take_ok w b facts who (calls.Hclose number) number x name g i may.0 may.1) h)
+  perform_tracks who view calls.Bundle e f h =
+      let off = made_by who calls.Bundle refl (unrefused p w who view calls.Bundle refl f).0 in
+      tracks_bundle w.scopes b w.scopes (w.last_bundle + 1) who (inr (inr (outside w b facts who off, new_not_of w b facts))) h
+  perform_tracks who view (calls.Go program args) e f h =
+      let un = unrefused p w who view (calls.Go program args) refl f in
+      let off = made_by who (calls.Go program args) refl un.0 in
+      let made = add_bundle (keep_for w (calls.Go program args)) who in
+      let bundled = tracks_bundle w.scopes b w.scopes (w.last_bundle + 1) who (inr (inr (outside w b facts who off, new_not_of w b facts))) h in
+      let entries = all_append (GiftOk w b facts (gifts_of args)) w.handles.entries (record { number = handles.next_number w.handles; thing = things.Bundle (w.last_bundle + 1); owner = who } ∷ []) (gifts_free who (calls.Go program args) (gifts_of args) refl off un.1)
+      ((λ g name i. subst (λ n. NotOf w.scopes b n) (some_same (w.last_bundle + 1) name i) (new_not_of w b facts)), tt) in
+      start_tracks made view (w.last_bundle + 1) program args refl (new_unlike w b facts) (new_not_of w b facts) entries bundled
+  perform_tracks who view (calls.BundleGo number program args) e f h =
+      let un = unrefused p w who view (calls.BundleGo number program args) refl f in
+      let off = made_by who (calls.BundleGo number program args) refl un.0 in
+      let k = keep_for w (calls.BundleGo number program args) in
+      let open_to = or_right (is_in_use w (calls.BundleGo number program args)) (is_closed_bundle w who (calls.BundleGo number program args)) (or_right (is_occupied w (calls.BundleGo number program args)) _ (or_right (list_any (cannot_take w who (calls.BundleGo number program args)) (gifts_of args)) _ un.1)) in
+      some_tracks w b facts (bundle_named k number) k (λ home. reply (start p k view home program args) who _ _) h
+      (λ home g. homes home open_to (entry_of w number) refl g (gifts_free who (calls.BundleGo number program args) (gifts_of args) refl off un.1))
+    where
+      homes : (home : ℕ) → is_closed_to w number ≡ false → (o : Option (Entry Thing)) → entry_of w number ≡ o → if_some o None (λ x. bundle_of x.thing) ≡ Some home → AllByRecursion (GiftOk w b facts (gifts_of args)) w.handles.entries → Tracks w.scopes b (start p (keep_for w (calls.BundleGo number program args)) view home program args).scopes
+      homes home c None i g a = cc
+      homes home c (Some x) i g a =
+          let leaving : is_leaving w x.owner ≡ false = sym (ap (λ o. if_some o false (λ y. is_leaving w y.owner)) i) ∙ c in
+          let free : is_cancelled w x.owner ≡ false = or_left (is_cancelled w x.owner) _ leaving in
+          start_tracks (keep_for w (calls.BundleGo number program args)) view home program args refl (λ j. facts.dead number x i (subst (λ n. bundle_of x.thing ≡ Some n) j g)) (not_of w b facts number x home i g free) a h
+  perform_tracks who view (calls.BundleWait number deadline) e f h = h
+  perform_tracks who view (calls.Pass word fault) e f h = h
+  perform_tracks who view _ e f h = cc
+
+  meet_tracks : (v : World V) (who : ℕ) → Tracks w.scopes b v.scopes → Tracks w.scopes b (meet_deadline v who).scopes
+  meet_tracks v who h =
+      some_tracks w b facts (call_of v who) v (λ call. if is_too_late v who call then reply v who (word_of call) (late_answer call) else v) h
+      (λ call e. if_tracks w b facts (is_too_late v who call) (reply v who (word_of call) (late_answer call)) v h h)
+
+  pub enter_tracks : (lacks : Bool) (who : ℕ) (view : V) (call : Call) → is_plain call ≡ true → Tracks w.scopes b w.scopes → Tracks w.scopes b (enter p lacks w who view call).scopes
+  enter_tracks lacks who view call e h = at (refuse p w who view call) refl
+    where
+      at : (o : Option Errno) → refuse p w who view call ≡ o → Tracks w.scopes b (if_some o (if lacks && takes_memory (word_of call) then reply w who (word_of call) (Fault errnos.Enomem) else done p w who view call) (λ f. reply w who (word_of call) (Fault f))).scopes
+      at None f = if_tracks w b facts (lacks && takes_memory (word_of call)) (reply w who (word_of call) (Fault errnos.Enomem)) (done p w who view call) h (meet_tracks (perform p (keep_for w call) who view call) who (perform_tracks who view call e f h))
+      at (Some g) f = h
+
+  closes_own : (who : ℕ) (xs : List (Entry Thing)) (v : World V) → AllByRecursion (λ x. (entry_of w x.number ≡ Some x) × (handles.is_owned who x ≡ true)) xs → Tracks w.scopes b v.scopes → Tracks w.scopes b (fold (close_owned who) v xs).scopes
+  closes_own who [] v a h = h
+  closes_own who (x ∷ xs) v a h = closes_own who xs (close_owned who v x) a.1 (one (bundle_of x.thing) refl)
+    where
+      one : (o : Option ℕ) → bundle_of x.thing ≡ o → Tracks w.scopes b (if_some o v (λ name. close_bundle v who name x.number)).scopes
+      one None e = h
+      one (Some name) e =
+          let own : owner_of w.scopes name ≡ Some who = subst (λ o. owner_of w.scopes name ≡ Some o) (number_of x.owner who a.0.1) (facts.owned x.number x name a.0.0 e) in
+          close_bundle_tracks w b facts v who name x.number (inl own) h
+
+  pub end_tracks : (who : ℕ) (outcome : Option Errno) → Tracks w.scopes b w.scopes → Tracks w.scopes b (end w who outcome).scopes
+  end_tracks who outcome h = closes_own who (filter (handles.is_owned who) w.handles.entries) w (all_filter (λ x. entry_of w x.number ≡ Some x) (handles.is_owned who) w.handles.entries facts.each) h
