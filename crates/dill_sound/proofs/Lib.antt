@@ -7,3 +7,4 @@ pub mod Crews
 pub mod Fitting
 pub mod Handing
 pub mod Moving
+pub mod Coming
