@@ -8,3 +8,4 @@ pub mod Fitting
 pub mod Handing
 pub mod Moving
 pub mod Coming
+pub mod Nearly
