@@ -9,3 +9,4 @@ pub mod Handing
 pub mod Moving
 pub mod Coming
 pub mod Nearly
+pub mod Ordering

@@ -143,7 +143,7 @@ module _ {V : Type 0} where
 abbrev pub is_free : Mode → Bool
 is_free mode = is_none (closes mode) && not (is_ending mode)
 
-free_waits : (mode : Mode) (number : ℕ) → is_free mode ≡ true → waits_for number mode ≡ false
+pub free_waits : (mode : Mode) (number : ℕ) → is_free mode ≡ true → waits_for number mode ≡ false
 free_waits (modes.Pending (calls.Hclose closed)) number e = cc
 free_waits (modes.Pending _) number e = refl
 free_waits modes.Running number e = refl
