@@ -10,3 +10,4 @@ pub mod Moving
 pub mod Coming
 pub mod Nearly
 pub mod Ordering
+pub mod Shutting

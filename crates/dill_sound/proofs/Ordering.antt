@@ -54,7 +54,7 @@ free_closes mode e =
     is_not false f = refl
     is_not true f = cc
 
-all_true : {X : Type 0} (xs : List X) → list_all (λ x. true) xs ≡ true
+pub all_true : {X : Type 0} (xs : List X) → list_all (λ x. true) xs ≡ true
 all_true [] = refl
 all_true (x ∷ xs) = all_true xs
 
@@ -82,6 +82,18 @@ module _ {V : Type 0} where
               cc
           by false g = refl
 
+  -- who isn't ending may have live numbers of bundles
+  pub going_open : (w : World V) (who : ℕ) (c : Coroutine V) → coroutine_of w who ≡ Some c → is_ending c.mode ≡ false → list_all (λ x. not (x.owner == who) || is_kept_open w x) w.handles.entries ≡ true
+  going_open w who c e going = all_follow (λ x. true) (λ x. not (x.owner == who) || is_kept_open w x) w.handles.entries (λ x g. at x (x.owner == who) refl) (all_true w.handles.entries)
+    where
+      kept : (p : Option ℕ) (t : Bool) → t ≡ false → if_some p true (λ name. not t) ≡ true
+      kept None t i = refl
+      kept (Some n) t i = ap not i
+
+      at : (x : Entry Thing) (b : Bool) → (x.owner == who) ≡ b → (not b || is_kept_open w x) ≡ true
+      at x false g = refl
+      at x true g = kept (bundle_of x.thing) (is_at is_ending w.coroutines x.owner) (ap (is_at is_ending w.coroutines) (equal x.owner who g) ∙ ap (λ q. if_some q false (λ d. is_ending d.mode)) e ∙ going)
+
   -- one that waits for no bundle to close changes, and still waits for none
   pub order_free : (w : World V) (who : ℕ) (c : Coroutine V) (f : Coroutine V → Coroutine V) → ((d : Coroutine V) → (f d).number ≡ d.number) → IsInOrder w → coroutine_of w who ≡ Some c → is_free c.mode ≡ true → is_free (f c).mode ≡ true → IsInOrder (record w { coroutines = change (is_coroutine who) f w.coroutines })
   order_free w who c f same o e free still =
@@ -91,17 +103,7 @@ module _ {V : Type 0} where
       settle_in v who (f c) (near_change w who f same (nearly w who o)) here
       (all_follow (λ x. not (owns w.scopes who x.bundle)) (λ x. not (owns w.scopes who x.bundle) || waits_for x.number (f c).mode) w.closings (λ x g. ap (λ b. b || waits_for x.number (f c).mode) g) (free_owns w who c o e free))
       (ap (λ p. if_some p true (λ number. if_some (find (is_dead_as number) w.closings) false (λ x. has_bundle w (f c).number x.bundle))) told.0)
-      (all_follow (λ x. true) (λ x. not (x.owner == who) || is_kept_open v x) w.handles.entries (λ x g. at x (x.owner == who) refl here told.1) (all_true w.handles.entries))
-    where
-      at : (x : Entry Thing) (b : Bool) → (x.owner == who) ≡ b → coroutine_of (record w { coroutines = change (is_coroutine who) f w.coroutines }) who ≡ Some (f c) → is_ending (f c).mode ≡ false → (not b || is_kept_open (record w { coroutines = change (is_coroutine who) f w.coroutines }) x) ≡ true
-      at x false g here end = refl
-      at x true g here end =
-          let is : is_at is_ending (change (is_coroutine who) f w.coroutines) x.owner ≡ false = ap (is_at is_ending (change (is_coroutine who) f w.coroutines)) (equal x.owner who g) ∙ ap (λ q. if_some q false (λ d. is_ending d.mode)) here ∙ end in
-          kept (bundle_of x.thing) (is_at is_ending (change (is_coroutine who) f w.coroutines) x.owner) is
-        where
-          kept : (p : Option ℕ) (t : Bool) → t ≡ false → if_some p true (λ name. not t) ≡ true
-          kept None t i = refl
-          kept (Some n) t i = ap not i
+      (going_open v who (f c) here told.1)
 
   pub order_set : (w : World V) (who : ℕ) (c : Coroutine V) (mode : Mode) → IsInOrder w → coroutine_of w who ≡ Some c → is_free c.mode ≡ true → is_free mode ≡ true → IsInOrder (set_mode w who mode)
   order_set w who c mode o e free still = order_free w who c (with_mode mode) (λ d. refl) o e free still
