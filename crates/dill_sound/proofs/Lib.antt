@@ -11,3 +11,4 @@ pub mod Coming
 pub mod Nearly
 pub mod Ordering
 pub mod Shutting
+pub mod Finishing

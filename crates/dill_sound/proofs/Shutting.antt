@@ -55,7 +55,7 @@ is_mine who x = x.owner == who
 abbrev pub is_bundle_entry : Entry Thing → Bool
 is_bundle_entry x = is_some (bundle_of x.thing)
 
-bundle_is : (thing : Thing) (name : ℕ) → bundle_of thing ≡ Some name → thing ≡ things.Bundle name
+pub bundle_is : (thing : Thing) (name : ℕ) → bundle_of thing ≡ Some name → thing ≡ things.Bundle name
 bundle_is (things.Bundle n) name e = let it : n ≡ name = cc in ap (λ m. things.Bundle m) it
 bundle_is (things.End end) name e = cc
 bundle_is (things.Listener link) name e = cc
@@ -159,7 +159,7 @@ module _ {V : Type 0} where
     here : coroutine_of w who ≡ Some c
     none : list_all (λ x. not (is_mine who x && is_bundle_entry x)) w.handles.entries ≡ true
 
-  once : (w : World V) (n : ℕ) → FitsTogether w → weigh (λ y. bit (has_number n y)) w.handles.entries ≤ 1
+  pub once : (w : World V) (n : ℕ) → FitsTogether w → weigh (λ y. bit (has_number n y)) w.handles.entries ≤ 1
   once w n f =
       let u = used_is w.handles.entries w.closings n in
       let h = f.numbers n in
