@@ -2,6 +2,7 @@ pub mod Lists
 pub mod Sound
 pub mod Going
 pub mod Counting
+pub mod Sorting
 pub mod Owners
 pub mod Crews
 pub mod Fitting
