@@ -89,7 +89,7 @@ module _ {V : Type 0} where
           by false g = refl
 
   -- an `hclose` is answered
-  order_give_close : (w : World V) (who number : ℕ) (c : Coroutine V) (answer : Answer) → IsInOrder w → coroutine_of w who ≡ Some c → c.mode ≡ modes.Pending (calls.Hclose number) → ((x : Closing) → find (is_dead_as number) w.closings ≡ Some x → is_empty w.scopes x.bundle ≡ true) → IsInOrder (give_close w who number answer)
+  pub order_give_close : (w : World V) (who number : ℕ) (c : Coroutine V) (answer : Answer) → IsInOrder w → coroutine_of w who ≡ Some c → c.mode ≡ modes.Pending (calls.Hclose number) → ((x : Closing) → find (is_dead_as number) w.closings ≡ Some x → is_empty w.scopes x.bundle ≡ true) → IsInOrder (give_close w who number answer)
   order_give_close w who number c answer o e m empty =
       let h = held_closing w who number c o e m in
       let x = h.one in
@@ -176,11 +176,11 @@ module _ {V : Type 0} where
     every : (name : ℕ) → owner_of w.scopes name ≡ Some who → 1 ≤ weigh (λ x. bit (closes_it name x)) xs
 
   -- no bundle of its own is left
-  record Bare (w v : World V) (who : ℕ) : Type 0 where
-    near : Nearly v who
-    crew : v.coroutines ≡ w.coroutines
-    entries : v.handles ≡ w.handles
-    none : (name : ℕ) → owner_of v.scopes name ≡ Some who → ⊥
+  pub record Bare (w v : World V) (who : ℕ) : Type 0 where
+    pub near : Nearly v who
+    pub crew : v.coroutines ≡ w.coroutines
+    pub entries : v.handles ≡ w.handles
+    pub none : (name : ℕ) → owner_of v.scopes name ≡ Some who → ⊥
 
   free_each : (xs : List Closing) (w : World V) (who : ℕ) → Freeing w who xs → Bare w (fold free_bundle w xs) who
   unfolding ready
@@ -219,7 +219,7 @@ module _ {V : Type 0} where
           omega (arith, n, nought)
 
   -- all bundles of one that is ending are gone
-  free_bare : (w : World V) (who : ℕ) (c : Coroutine V) → IsInOrder w → coroutine_of w who ≡ Some c → is_ending c.mode ≡ true → is_clear w who ≡ true → Bare w (free_all w who) who
+  pub free_bare : (w : World V) (who : ℕ) (c : Coroutine V) → IsInOrder w → coroutine_of w who ≡ Some c → is_ending c.mode ≡ true → is_clear w who ≡ true → Bare w (free_all w who) who
   unfolding ready
   free_bare w who c o e ending clear =
       free_each (highest_first mine) w who (record {

@@ -13,3 +13,4 @@ pub mod Nearly
 pub mod Ordering
 pub mod Shutting
 pub mod Finishing
+pub mod Leaving
