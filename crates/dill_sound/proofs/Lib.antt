@@ -14,3 +14,5 @@ pub mod Ordering
 pub mod Shutting
 pub mod Finishing
 pub mod Leaving
+pub mod Gifts
+pub mod Entering

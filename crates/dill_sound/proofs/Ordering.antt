@@ -41,7 +41,7 @@ use Rattle.dill_sound.proofs.Moving.{renumbered, fits_renumbered, fits_taken, fi
 use Rattle.dill_sound.proofs.Nearly.{is_free, free_waits, Nearly, nearly, near_change, settle_in}
 use Rattle.dill_sound.proofs.Owners.{owns, new_is_free, bundle_other, take_other, close_same}
 
-free_closes : (mode : Mode) → is_free mode ≡ true → (closes mode ≡ None) × (is_ending mode ≡ false)
+pub free_closes : (mode : Mode) → is_free mode ≡ true → (closes mode ≡ None) × (is_ending mode ≡ false)
 free_closes mode e =
     let b = both (is_none (closes mode)) (not (is_ending mode)) e in
     (none (closes mode) b.0, is_not (is_ending mode) b.1)
