@@ -188,6 +188,14 @@ module _ {V : Type 0} where
       at None f g = cc
       at (Some x) f g = (x, f, bundle_is x.thing home g)
 
+-- what was there is found as before
+pushed_same : {X : Type 0} (pick : X → Bool) (xs : List X) (z x : X) → is_none (find pick xs) ≡ false → find pick (xs ++ z ∷ []) ≡ Some x → find pick xs ≡ Some x
+pushed_same {X} pick xs z x e f = at (find pick xs) refl e
+  where
+    at : (o : Option X) → find pick xs ≡ o → is_none o ≡ false → o ≡ Some x
+    at None g h = cc
+    at (Some y) g h = sym (found_push pick xs z y g) ∙ f
+
 any_false : (test : ℕ → Bool) (ns : List ℕ) (n : ℕ) → list_any test ns ≡ false → list_any (λ m. m == n) ns ≡ true → test n ≡ false
 any_false test [] n e f = cc
 any_false test (m ∷ ns) n e f =
@@ -226,10 +234,7 @@ module _ {V : Type 0} (p : Program V) where
       let ns = gifts_of args in
       let new = w.last_bundle + 1 in
       let none_dead : list_any (is_dead w) ns ≡ false = (or_nots (list_any (is_dead w) ns) false (sym (list_any-append (is_dead w) ns []) ∙ m.alive)).0 in
-      let here = some_entry (entry_of w n) (any_false (is_dead w) ns n none_dead l) in
-      let pushed = found_push (has_number n) w.handles.entries (record { number = handles.next_number w.handles; thing = things.Bundle new; owner = who }) here.0 here.1 in
-      let it : here.0 ≡ x = cc in
-      let found : entry_of w n ≡ Some x = subst (λ y. entry_of w n ≡ Some y) it here.1 in
+      let found : entry_of w n ≡ Some x = pushed_same (has_number n) w.handles.entries (record { number = handles.next_number w.handles; thing = things.Bundle new; owner = who }) x (any_false (is_dead w) ns n none_dead l) e in
       let owned = (live w n name x h.order.fits found t).owned in
       let free = new_is_free w.scopes new h.order.fits.bundles in
       let out = not_inside w who call n h.order (any_false (cannot_take w who call) ns n m.takes l) x name found t in
@@ -240,10 +245,6 @@ module _ {V : Type 0} (p : Program V) where
             let mine : who ≡ r.0 = cc in
             out ((bundle_moves_nobody w.scopes new who h.order.fits.forest h.order.fits.bundles name who tt).0 (subst (λ k. Inside (scopes.bundle w.scopes new who) name k) (sym mine) r.2)))
       ]
-    where
-      some_entry : (o : Option (Entry Thing)) → is_none o ≡ false → (y : Entry Thing) × (o ≡ Some y)
-      some_entry None f = cc
-      some_entry (Some y) f = (y, refl)
 
   go_order : (w : World V) (who : ℕ) (view : V) (program : ℕ) (args : List Arg) → Caller w who → May p w who (calls.Go program args) → IsInOrder (perform p (keep_for w (calls.Go program args)) who view (calls.Go program args))
   go_order w who view program args h m =

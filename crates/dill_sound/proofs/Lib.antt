@@ -16,3 +16,5 @@ pub mod Finishing
 pub mod Leaving
 pub mod Gifts
 pub mod Entering
+pub mod Keeping
+pub mod Stepping
