@@ -1,10 +1,9 @@
 -- While a bundle is closing, calls and endings change homes and owners only as told: nobody comes in, and nobody is taken out.
-use Rattle.std.proofs.Common.{◌≡◌, ◌∙◌, ◌⊎◌, inl, inr, ◌+◌, ◌≤◌, ◌<◌, ◌==◌, ℕ, List, [], ◌∷◌, ◌++◌, length, map, fold, filter, filter_map, find, Bool, true, false, not, ◌&&◌, ◌||◌, cond, Option, Some, None, option_map, is_some, is_none, if◌then◌else◌, refl, sym, ap, subst, arith}
+use Rattle.std.proofs.Common.{◌≡◌, ◌∙◌, inl, inr, ◌+◌, ◌==◌, ℕ, List, [], ◌∷◌, fold, filter, find, Bool, true, false, not, ◌&&◌, ◌||◌, cond, Option, Some, None, is_some, if◌then◌else◌, refl, sym, ap, subst}
 use Rattle.std.specs.Prelude.{option_and_then}
-use Rattle.std.specs.List.{AllByRecursion, list_any, list_all}
+use Rattle.std.specs.List.{AllByRecursion, list_any}
 use Rattle.dill_base.specs.declared.errno.Errno.{Errno}
 use Rattle.dill_base.specs.declared.errno.Errno.TheVariants as errnos
-use Rattle.dill_calls.specs.declared.answer.Answer.{Answer}
 use Rattle.dill_calls.specs.declared.answer.Answer.TheVariants.{Fault}
 use Rattle.dill_calls.specs.declared.call.Call.{Call}
 use Rattle.dill_calls.specs.declared.call.Call.TheVariants as calls
@@ -15,11 +14,10 @@ use Rattle.dill_calls.specs.Program.{Program}
 use Rattle.dill_handles.specs.Handles as handles
 use Rattle.dill_handles.specs.declared.entry.Entry.{Entry}
 use Rattle.dill_scope.specs.declared.forest.Bundle.{Bundle}
-use Rattle.dill_scope.specs.declared.forest.Home.{Home}
 use Rattle.dill_scope.specs.Scopes as scopes
 use Rattle.dill_scope.specs.Scopes.{Scopes, is_bundle, home_of, owner_of}
 use Rattle.dill_scope.specs.Forest.{Inside}
-use Rattle.dill_maps.specs.Maps.{if_some, change, without}
+use Rattle.dill_maps.specs.Maps.{if_some, without}
 use Rattle.dill_plain.specs.Plain.{is_plain}
 use Rattle.dill_rules.specs.declared.thing.Thing.{Thing}
 use Rattle.dill_rules.specs.declared.thing.Thing.TheVariants as things
@@ -28,9 +26,9 @@ use Rattle.dill_rules.specs.Naming.{gifts_of, taken_by}
 use Rattle.dill_rules.specs.Owning.{entry_of, take_thing, move, drop, release, close_bundle}
 use Rattle.dill_rules.specs.Taking.{bundle_of, is_cancelled, is_leaving, is_anothers, takes_anothers, is_held_back, is_within, is_awaited, is_cancelled_taker, cannot_take, bundle_named, is_occupied}
 use Rattle.dill_rules.specs.Refusals.{refuse, order, order_of, holds, is_called_off, is_busy, is_in_use, is_closed_bundle, is_closed_to, is_refused_by_stack}
-use Rattle.dill_rules.specs.Effects.{make, add_bundle, close_thing, start, give_all, bear}
+use Rattle.dill_rules.specs.Effects.{add_bundle, close_thing, start, give_all}
 use Rattle.dill_rules.specs.Entering.{keep_for, perform, is_too_late, late_answer, meet_deadline, done, enter}
-use Rattle.dill_rules.specs.Settling.{close_owned, close_all, end}
+use Rattle.dill_rules.specs.Settling.{close_owned, end}
 use Rattle.dill_kept.proofs.Crew.{give_all_crew}
 use Rattle.dill_scope.proofs.Carrying.{inside_lives}
 use Rattle.dill_debts.proofs.Flagging.{all_picked}
@@ -45,7 +43,7 @@ module _ (s : Scopes) (b : ℕ) where
   tracks_take t name owner ok h = record {
     homes = h.homes;
     owners = all_picked (BundleOk s b) (BundleOk s b) (is_bundle name) (scopes.with_owner owner) t.bundles
-    (λ y i f now e. subst (λ n. OwnerOk s b n now) (sym (number_of y.name name i)) (subst (λ o. OwnerOk s b name o) (some_same owner now e) ok)) (λ y f. f) h.owners;
+        (λ y i f now e. subst (λ n. OwnerOk s b n now) (sym (number_of y.name name i)) (subst (λ o. OwnerOk s b name o) (some_same owner now e) ok)) (λ y f. f) h.owners;
   }
 
   pub tracks_close : (t : Scopes) (name : ℕ) → Tracks s b t → Tracks s b (scopes.close t name)
