@@ -1,4 +1,5 @@
 pub mod Alike
+pub mod Ends
 pub mod Late
 pub mod Places
 pub mod Queue

@@ -5,10 +5,12 @@ use Rattle.dill_calls.specs.Program.{Program}
 use Rattle.dill_scope.specs.Scopes as scopes
 use Rattle.dill_rules.specs.declared.coroutine.Coroutine.{Coroutine}
 use Rattle.dill_rules.specs.State.{lined, fresh}
-use Rattle.dill_rules.specs.World.{World, begin, from_start}
-use Rattle.dill_kept.specs.Kept.{Kept, queued, has_answer}
+use Rattle.dill_rules.specs.World.{World, begin, from_start, opening}
+use Rattle.dill_kept.specs.Kept.{Kept, opening_kept, queued, has_answer}
 use Rattle.dill_kept.specs.Laws.{HasPlaces}
+use Rattle.dill_kept.specs.Plain.{no_words}
 use Rattle.dill_kept.specs.Well.{IsWell}
+use Rattle.dill_debts.specs.Closing.{IsStable}
 use Rattle.dill_world.specs.Store.{Store, world_of}
 use Rattle.dill_core.specs.Holding.{Holding, kept_of, IsHeld}
 use Rattle.dill_core.proofs.Queue.{first_queued}
@@ -30,11 +32,11 @@ module _ {V : Type 0} where
       ap (λ w. made w ready') f ∙ ap (made (record (world_of s) { coroutines = map lined s.coroutines })) r ∙ ap (λ w. queued w ready early) e
 
   pub lined_held : (p : Program V) (s new : Store V) (v : World V) (ready ready' : List ℕ) (early places : ℕ) → world_of s ≡ v → world_of new ≡ record (world_of s) { coroutines = map lined s.coroutines } → ready' ≡ ready ++ fresh (world_of s)
-      → IsWell p (queued v ready early) → length s.coroutines ≤ places → IsHeld p (record { world = new; ready = ready'; early = early }) places
-  lined_held p s new v ready ready' early places e f r well l =
+      → IsStable p (queued v ready early) → length s.coroutines ≤ places → IsHeld p (record { world = new; ready = ready'; early = early }) places
+  lined_held p s new v ready ready' early places e f r stable l =
       let rows : new.coroutines ≡ map lined s.coroutines = ap (λ (w : World V). w.coroutines) f in
       let same : length new.coroutines ≡ length s.coroutines = ap length rows ∙ map_length lined s.coroutines in
-      record { well = subst (IsWell p) (sym (lined_kept s new v ready ready' early e f r)) well; room = omega (arith, same, l) }
+      record { stable = subst (IsStable p) (sym (lined_kept s new v ready ready' early e f r)) stable; room = omega (arith, same, l) }
 
 -- where there is no room for one more there are no more, and else at most one
 pub spare_room : (spare : Bool) (old new places : ℕ) → (spare ≡ false → new ≤ old) → new ≤ old + 1 → (spare ≡ true → old + 1 ≤ places) → old ≤ places → new ≤ places
@@ -60,3 +62,14 @@ module _ {V : Type 0} where
   queue_is h now who rest same e first behind =
       let answered : has_answer h.ready ≡ true = ap (λ (x : Holding V). has_answer x.ready) same ∙ e in
       first_queued h.ready who answered ∙ ap (λ n. n ∷ remove h.ready 0) (sym first) ∙ ap (λ ns. who ∷ ns) (sym behind)
+
+  -- what is held where it is known what is kept
+  pub held_as : (p : Program V) (h : Holding V) (k : Kept V) (places : ℕ) → kept_of h ≡ k → IsStable p k → length h.world.coroutines ≤ places → IsHeld p h places
+  held_as p h k places same stable room = record { stable = subst (IsStable p) (sym same) stable; room = room }
+
+  -- what is held before the first turn
+  pub opened_held : (p : Program V) (s : Store V) (ready : List ℕ) (view : V) (places : ℕ) → world_of s ≡ opening view no_words → ready ≡ 1 ∷ [] → IsStable p (opening_kept view) → 1 ≤ places → IsHeld p (record { world = s; ready = ready; early = 0 }) places
+  opened_held p s ready view places w r stable room =
+      let made : World V → List ℕ → Kept V = λ v ns. record { world = v; ready = ns; early = 0 } in
+      held_as p (record { world = s; ready = ready; early = 0 }) (opening_kept view) places (ap (λ (v : World V). made v ready) w ∙ ap (made (opening view no_words)) r) stable
+      (let same = ap (λ (v : World V). length v.coroutines) w in omega (arith, same, room))

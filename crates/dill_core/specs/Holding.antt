@@ -3,7 +3,7 @@ use Rattle.std.specs.Prelude.{ℕ, ◌≤◌, List, length}
 use Rattle.dill_calls.specs.Program.{Program}
 use Rattle.dill_rules.specs.World.{World}
 use Rattle.dill_kept.specs.Kept.{Kept}
-use Rattle.dill_kept.specs.Well.{IsWell}
+use Rattle.dill_debts.specs.Closing.{IsStable}
 use Rattle.dill_world.specs.Store.{Store, world_of}
 
 -- what is stored of the world, who has an answer in the order in which they had it, and how many of these had it early
@@ -35,7 +35,7 @@ module _ {V : Type 0} where
   abbrev pub held_of : Kept V → Holding V
   held_of k = record { world = store_of k.world; ready = k.ready; early = k.early }
 
-  -- it is kept well, and there is room in the queue for all coroutines
+  -- what holds between two steps holds of what is kept, and there is room in the queue for all coroutines
   pub record IsHeld (p : Program V) (h : Holding V) (places : ℕ) : Type 0 where
-    pub well : IsWell p (kept_of h)
+    pub stable : IsStable p (kept_of h)
     pub room : length h.world.coroutines ≤ places

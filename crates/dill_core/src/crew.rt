@@ -1,11 +1,13 @@
-ghost use Rattle.std.specs.Prelude.{◌≡◌, ◌+◌, ◌≤◌, ◌∷◌, List, ℕ, true, vec_capacity, IfOk, max};
+ghost use Rattle.std.specs.Prelude.{◌≡◌, ◌+◌, ◌≤◌, ◌∷◌, [], List, ℕ, true, vec_capacity, IfOk, IfSome, max};
 ghost use Rattle.dill_calls.specs.Program.{Begins};
 ghost use Rattle.dill_kernel.specs.declared.ready.Ready.{Ready};
 ghost use Rattle.dill_rules.specs.Expiring.{passed};
 ghost use Rattle.dill_rules.specs.Settling as settling;
 ghost use Rattle.dill_rules.specs.World as worlds;
 ghost use Rattle.dill_kept.specs.Kept.{opening_kept, queued, has_answer, kept_turn, kept_ran, kept_expire_next, kept_expired, kept_shut, kept_woke};
+ghost use Rattle.dill_debts.specs.Closing.{IsStable};
 ghost use Rattle.dill_drive.specs.Machine.{may_be};
+ghost use Rattle.dill_sound.specs.Laws.{is_timed};
 ghost use Rattle.dill_steps.specs.Timing.{first_of};
 ghost use Rattle.dill_world.specs.Store.{world_of};
 ghost use Rattle.dill_core.specs.CoreMachine.{core_machine};
@@ -13,6 +15,7 @@ ghost use Rattle.dill_core.specs.Holding.{kept_of};
 
 use dill_base::NoMemory;
 use dill_calls::Ran;
+use dill_debts::steps_keep_stable;
 use dill_kept::steps_keep_well;
 use dill_plain::PlainBody;
 use dill_steps::{expire_one, first_passed, passes_one_by_one, settle, turn};
@@ -40,6 +43,18 @@ impl<B: PlainBody> Model for Core<B> {
     ghost invariant = { λ c. IsHeld B.means (record { world = c.world; ready = c.ready.items; early = c.early }) (vec_capacity c.ready) };
 }
 
+/// A queue in which `main` alone stands.
+fn first_queue(alloc: Global) -> Result<Vec<u64>, NoMemory>
+    ensures items { IfOk result (λ ready. ready.items ≡ 1 ∷ []) }
+    ensures room { IfOk result (λ ready. 1 ≤ vec_capacity ready) }
+{
+    let mut ready = Vec::new(alloc);
+    match ready.push(1) {
+        Ok(()) => Ok(ready),
+        Err(_) => Err(NoMemory),
+    }
+}
+
 /// Whether there is room for one more than so many, once it was asked for.
 fn make_room(ready: &mut Vec<u64>, count: usize) -> bool
     ensures items { ready.new.items ≡ ready.old.items }
@@ -57,12 +72,9 @@ impl<B: PlainBody> Core<B> {
         requires { Begins B.means body }
         ensures { IfOk result (λ core. kept_of core ≡ opening_kept body) }
     {
-        steps_keep_well::<B>();
+        steps_keep_stable::<B>();
         let world = World::new(alloc, body)?;
-        let mut ready = Vec::new(alloc);
-        if ready.push(1).is_err() {
-            return Err(NoMemory);
-        }
+        let ready = first_queue(alloc)?;
         Ok(Core {
             world,
             ready,
@@ -74,7 +86,7 @@ impl<B: PlainBody> Core<B> {
     pub(crate) fn begin(&mut self)
         ensures { kept_of self.new ≡ record (kept_of self.old) { world = worlds.begin (kept_of self.old).world } }
     {
-        steps_keep_well::<B>();
+        steps_keep_stable::<B>();
         self.world.begin();
     }
 
@@ -82,7 +94,7 @@ impl<B: PlainBody> Core<B> {
     pub(crate) fn wake(&mut self, told: u64)
         ensures { (ready : List Ready) → kept_of self.new ≡ kept_woke (kept_of self.old) told ready }
     {
-        steps_keep_well::<B>();
+        steps_keep_stable::<B>();
         let moment = self.world.moment().max(told);
         self.world.begin();
         self.world.set_moment(moment);
@@ -92,16 +104,19 @@ impl<B: PlainBody> Core<B> {
         ensures { kept_of self.new ≡ queued (settling.settle (kept_of self.old).world) self.old.ready self.old.early }
     {
         steps_keep_well::<B>();
+        steps_keep_stable::<B>();
         settle(&mut self.world);
         self.world.line_up(&mut self.ready);
     }
 
     /// A coroutine whose deadline has passed is answered and queued.
     fn expire_next(&mut self, who: u64)
+        requires { is_timed (world_of self.old.world) who ≡ true }
         ensures after { kept_of self.new ≡ kept_expire_next (kept_of self.old) who }
         ensures rest { (rest : List ℕ) → passed (world_of self.old.world) ≡ who ∷ rest → passed (world_of self.new.world) ≡ rest }
     {
         steps_keep_well::<B>();
+        steps_keep_stable::<B>();
         passes_one_by_one::<B>();
         let _ = self.world.coroutines();
         expire_one(&mut self.world, who);
@@ -110,7 +125,8 @@ impl<B: PlainBody> Core<B> {
 
     /// The coroutine whose deadline is the first of those that have passed.
     fn first_passed(&self) -> Option<u64>
-        ensures { result ≡ first_of (passed (world_of self.now.world)) }
+        ensures first { result ≡ first_of (passed (world_of self.now.world)) }
+        ensures timed { IfSome result (λ who. is_timed (world_of self.now.world) who ≡ true) }
     {
         first_passed(&self.world)
     }
@@ -134,6 +150,7 @@ impl<B: PlainBody> Core<B> {
         ensures after { kept_of self.new ≡ kept_turn B.means result.lack (kept_of self.old) }
     {
         steps_keep_well::<B>();
+        steps_keep_stable::<B>();
         let who = self.ready.remove(0);
         self.early = self.early.saturating_sub(1);
         let spare = make_room(&mut self.ready, self.world.coroutines().len());
@@ -144,10 +161,12 @@ impl<B: PlainBody> Core<B> {
 
     /// The root bundle is closed, and who is answered by what settles then is queued.
     pub(crate) fn close_root(&mut self)
-        ensures { kept_of self.new ≡ kept_shut (kept_of self.old) }
+        ensures after { kept_of self.new ≡ kept_shut (kept_of self.old) }
+        ensures stable { IsStable B.means (kept_of self.old) }
     {
         steps_keep_well::<B>();
-        self.early = self.ready.len();
+        steps_keep_stable::<B>();
+        self.early = self.ready.as_slice().len();
         self.world.begin();
         self.world.close_root();
         settle(&mut self.world);

@@ -4,6 +4,7 @@ ghost use Rattle.dill_rules.specs.Waiting as waits;
 use crate::Core;
 use dill_base::Errno;
 use dill_calls::{Note, Ran, Word};
+use dill_debts::root_debt_falls;
 use dill_drive::Stepper;
 use dill_kernel::{Limit, ReadyList};
 use dill_plain::PlainBody;
@@ -22,17 +23,18 @@ fn until(due: Option<u64>) -> Limit
 
 impl<B: PlainBody> Stepper for Core<B> {
     ghost use Rattle.std.specs.Prelude.{refl};
+    ghost use Rattle.dill_core.specs.Ending.{IsEnding, owed};
     ghost use Rattle.dill_core.specs.CoreMachine.{core_machine};
 
     ghost means = { core_machine B.means };
 
-    ghost closed = { λ h. ⊥ };
+    ghost closed = { IsEnding B.means };
 
-    ghost owed = { λ h. 0 };
+    ghost owed = { owed B.means };
 
     ghost waits_alone = { λ h. refl };
 
-    ghost goes_on = { λ h closed going. absurd closed };
+    ghost goes_on = { λ h closed going. closed.goes_on going };
 
     fn ended(&self) -> Option<Option<Errno>> {
         self.world.ended()
@@ -66,10 +68,12 @@ impl<B: PlainBody> Stepper for Core<B> {
 
     /// Gives who is queued first its answer, and runs its program on to its next call or its end.
     fn turn<R: Rng>(&mut self, _keys: &mut R) -> Ran {
+        root_debt_falls::<B>();
         self.turn_first()
     }
 
     fn shut(&mut self) {
+        root_debt_falls::<B>();
         self.close_root();
     }
 

@@ -127,7 +127,7 @@ module _ {V : Type 0} where
       at (Some call) e f = let c = found_call w who call e in order_give w who call (late_answer call) c.0 o (call_waits w who call plain e) c.1 c.2 (λ number s. absurd (timed_open call number f s))
 
   -- who has a passed deadline has one
-  passed_timed : (w : World V) → IsInOrder w → list_all (is_timed w) (passed w) ≡ true
+  pub passed_timed : (w : World V) → IsInOrder w → list_all (is_timed w) (passed w) ≡ true
   passed_timed w o = list_all-map (is_timed w) (λ (x : Timer). x.who) (in_order (filter_map late w.coroutines)) ∙ in_order_all (λ x. is_timed w x.who) (filter_map late w.coroutines) (given_all (λ x. is_timed w x.who) late w.coroutines (all_by_number (λ c. if_some (late c) true (λ x. is_timed w x.who)) w.coroutines 0 w.last_coroutine o.fits.numbered (λ c e. by c e (pending_call c.mode) refl)))
     where
       late : Coroutine V → Option Timer

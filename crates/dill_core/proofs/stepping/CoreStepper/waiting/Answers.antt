@@ -14,4 +14,4 @@ returns-clause-value g c =
 pub returns-clause-rises : goal.returns-clause-rises
 returns-clause-rises g c =
     let s = c.self.inside.world in
-    subst (λ (h : Holding g.row.B.Denot). Rises 0 (kept_waiting (kept_of h))) c.self.view_is (waiters_rise s.coroutines 0 s.last_coroutine c.self.invariant.well.numbered)
+    subst (λ (h : Holding g.row.B.Denot). Rises 0 (kept_waiting (kept_of h))) c.self.view_is (waiters_rise s.coroutines 0 s.last_coroutine c.self.invariant.stable.well.numbered)
