@@ -244,7 +244,7 @@ module _ {V : Type 0} where
       rw none (nothing_in f cs h b.1)
 
   -- in a plain world nothing is tried
-  tries_none : (w : World V) → IsPlain w → tries w ≡ []
+  pub tries_none : (w : World V) → IsPlain w → tries w ≡ []
   tries_none w plain =
       let l : listens w ≡ [] = nothing_in (listen_of w) w.coroutines (listen_none w) plain.calls in
       let c : connects w ≡ [] = nothing_in (connect_of w) w.coroutines (connect_none w) plain.calls in
@@ -253,7 +253,8 @@ module _ {V : Type 0} where
       ∙ ap (λ xs. closes w ++ [] ++ xs ++ finishes w ++ accepts w ++ writes w ++ shuts w ++ reads w) c
       ∙ ap (λ m. closes (v m) ++ [] ++ [] ++ finishes (v m) ++ accepts (v m) ++ writes (v m) ++ shuts (v m) ++ reads (v m)) plain.links
 
-  closes_none : (w : World V) → IsPlain w → closes w ≡ []
+  -- and no close is due
+  pub closes_none : (w : World V) → IsPlain w → closes w ≡ []
   closes_none w plain = ap (λ m. closes (record w { links = m })) plain.links
 
   ask_none : (w : World V) → IsPlain w → option_map (λ (x : Try). x.ask) (next_try w) ≡ None

@@ -5,6 +5,7 @@ pub mod Finding
 pub mod Freeing
 pub mod Gathered
 pub mod Leaving
+pub mod LinedUp
 pub mod Picking
 pub mod Places
 pub mod Quiet

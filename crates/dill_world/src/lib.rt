@@ -5,6 +5,7 @@
 mod answers;
 mod ending;
 mod kinds;
+mod lining;
 mod naming;
 mod owning;
 mod refusals;

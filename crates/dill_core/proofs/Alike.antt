@@ -1,0 +1,73 @@
+-- A core, and the rules from the state that it stands for: nothing different is seen of the two.
+use Rattle.std.proofs.Common.{◌≡◌, ◌∙◌, ℕ, List, [], true, Option, Some, None, refl, sym, ap, subst}
+use Rattle.rand_core.specs.Stream.{Stream}
+use Rattle.dill_calls.specs.declared.ran.LackPlace.{LackPlace}
+use Rattle.dill_calls.specs.Program.{Program, Begins}
+use Rattle.dill_chan.specs.Channels.{Channels, no_channels}
+use Rattle.dill_kernel.specs.declared.ready.Ready.{Ready}
+use Rattle.dill_rules.specs.Links.{Links, no_links}
+use Rattle.dill_rules.specs.Seen.{turn_seen}
+use Rattle.dill_rules.specs.State.{State, opening_state, expired, shut, woke}
+use Rattle.dill_rules.specs.World.{World, Place, at_start}
+use Rattle.dill_kept.specs.Following.{Follows}
+use Rattle.dill_kept.specs.Kept.{Kept, opening_kept, kept_turn, kept_expired, kept_shut, kept_woke}
+use Rattle.dill_kept.specs.Laws.{KeepsWell}
+use Rattle.dill_kept.specs.Plain.{no_words, IsPlain}
+use Rattle.dill_kept.specs.Stands.{StandsFor}
+use Rattle.dill_kept.specs.Well.{IsWell}
+use Rattle.dill_drive.specs.ByRules.{machine_of}
+use Rattle.dill_drive.proofs.Alike.{Alike}
+use Rattle.dill_world.specs.Store.{world_of}
+use Rattle.dill_core.specs.CoreMachine.{core_machine}
+use Rattle.dill_core.specs.Holding.{Holding, kept_of, held_of, store_of}
+
+module _ {V : Type 0} where
+  -- a plain world without random words is stored whole
+  stored_world : (w : World V) → IsPlain w → w.words ≡ no_words → world_of (store_of w) ≡ w
+  stored_world w plain words =
+      let made : Channels → Links → Place → List ℕ → Stream → World V = λ c l p o u. record w { channels = c; links = l; place = p; wrote = o; words = u } in
+      ap (λ c. made c no_links at_start [] no_words) (sym plain.channels)
+      ∙ ap (λ l. made w.channels l at_start [] no_words) (sym plain.links)
+      ∙ ap (λ p. made w.channels w.links p [] no_words) (sym plain.place)
+      ∙ ap (λ o. made w.channels w.links w.place o no_words) (sym plain.wrote)
+      ∙ ap (λ u. made w.channels w.links w.place w.wrote u) (sym words)
+
+module _ {V : Type 0} (p : Program V) where
+  -- a core stands for the state for which what it keeps does
+  abbrev pub Stands : Holding V → State V → Type 0
+  Stands h s = IsWell p (kept_of h) × StandsFor (kept_of h) s
+
+  -- what is kept well and stands for a state is held whole
+  held : (k : Kept V) (s : State V) → IsWell p k → StandsFor k s → Stands (held_of k) s
+  held k s well stands =
+      let words : k.world.words ≡ no_words = ap (λ (w : World V). w.words) stands.world in
+      let whole : kept_of (held_of k) ≡ k = ap (λ (w : World V). record k { world = w }) (stored_world k.world well.plain words) in
+      (subst (IsWell p) (sym whole) well, subst (λ (l : Kept V). StandsFor l s) (sym whole) stands)
+
+  module _ (keeps : KeepsWell p) (follows : Follows p) where
+    pub alike : Alike (core_machine p) (machine_of p) Stands
+    alike = record {
+      ended = λ h s (well, stands). (follows.seen (kept_of h) s well stands).ended;
+      answered = λ h s (well, stands). (follows.seen (kept_of h) s well stands).answered;
+      stuck = λ h s (well, stands) on. (follows.seen (kept_of h) s well stands).stuck;
+      limit = λ h s (well, stands) on. (follows.seen (kept_of h) s well stands).limit;
+      woke = λ h s moment ready (well, stands). held (kept_woke (kept_of h) moment ready) (woke s moment ready) (keeps.woke (kept_of h) moment ready well) (follows.woke (kept_of h) s moment ready well stands);
+      next_try = λ h s (well, stands). (follows.seen (kept_of h) s well stands).next_try;
+      hear = λ h s ask reply keys stands due. cc;
+      expire = λ h s (well, stands). held (kept_expired (kept_of h)) (expired s) (keeps.expired (kept_of h) well) (follows.expired (kept_of h) s well stands);
+      may_lack = λ h s place (well, stands) on may. (follows.seen (kept_of h) s well stands).may_lack place ∙ may;
+      ran = λ h s lack (well, stands) on may. (follows.seen (kept_of h) s well stands).ran lack;
+      turn = λ h s lack keys (well, stands) on may. (
+        held (kept_turn p lack (kept_of h)) (turn_seen p s lack keys).0 (keeps.turned (kept_of h) lack well) (follows.turned (kept_of h) s lack keys well stands),
+        follows.words (kept_of h) s lack keys well stands,
+      );
+      shut = λ h s (well, stands). held (kept_shut (kept_of h)) (shut s) (keeps.shut (kept_of h) well) (follows.shut (kept_of h) s well stands);
+      notes = λ h s (well, stands). (follows.seen (kept_of h) s well stands).notes;
+      waiting = λ h s (well, stands). (follows.seen (kept_of h) s well stands).waiting;
+      made = λ h s (well, stands). (follows.seen (kept_of h) s well stands).made;
+      gone = λ h s (well, stands). (follows.seen (kept_of h) s well stands).gone;
+    }
+
+    -- before the first turn
+    pub stands_first : (h : Holding V) (view : V) (words : Stream) → Begins p view → kept_of h ≡ opening_kept view → Stands h (opening_state view words)
+    stands_first h view words begins is = (subst (IsWell p) (sym is) (keeps.opening view begins), subst (λ (k : Kept V). StandsFor k (opening_state view words)) (sym is) (follows.opening view words))

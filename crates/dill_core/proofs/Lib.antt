@@ -1,0 +1,10 @@
+pub mod Alike
+pub mod Ends
+pub mod Late
+pub mod Places
+pub mod Queue
+pub mod Shown
+pub mod Starting
+pub mod Trying
+pub mod Waits
+pub mod Waking

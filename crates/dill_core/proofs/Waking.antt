@@ -1,0 +1,26 @@
+-- No link is there that a wait could tell of.
+use Rattle.std.proofs.Common.{◌≡◌, ◌∙◌, ℕ, List, [], ◌∷◌, fold, max, refl, sym, ap}
+use Rattle.dill_kernel.specs.declared.ready.Ready.{Ready}
+use Rattle.dill_rules.specs.Hearing.{heat_ready}
+use Rattle.dill_rules.specs.Links.{no_links, change_link, heated}
+use Rattle.dill_rules.specs.World.{World, begin, from_start}
+use Rattle.dill_kept.specs.Kept.{Kept, kept_woke}
+use Rattle.dill_world.specs.Store.{Store, world_of}
+use Rattle.dill_core.specs.Holding.{Holding, kept_of}
+
+module _ {V : Type 0} where
+  heats_none : (ready : List Ready) (w : World V) → w.links ≡ no_links → fold heat_ready w ready ≡ w
+  heats_none [] w none = refl
+  heats_none (one ∷ ready) w none =
+      let same : heat_ready w one ≡ w = ap (λ l. record w { links = change_link l one.link (heated one.read one.write) }) none ∙ ap (λ l. record w { links = l }) (sym none) in
+      ap (λ (x : World V). fold heat_ready x ready) same ∙ heats_none ready w none
+
+  -- after a wait the moment is the greatest that was told, and nothing else has changed
+  pub woken_held : (h : Holding V) (told : ℕ) (ready : List Ready) → kept_woke (kept_of h) told ready ≡ record (kept_of h) { world = record (begin (kept_of h).world) { moment = max h.world.moment told } }
+  woken_held h told ready =
+      ap (λ (w : World V). record (kept_of h) { world = record (from_start w) { moment = max h.world.moment told } }) (heats_none ready (begin (kept_of h).world) refl)
+
+  -- the world once its moment is the greatest that was told
+  pub moved_world : (h : Holding V) (begun moved : Store V) (told moment : ℕ) → world_of begun ≡ begin (world_of h.world) → world_of moved ≡ record (world_of begun) { moment = moment } → moment ≡ max h.world.moment told
+      → world_of moved ≡ record (begin (world_of h.world)) { moment = max h.world.moment told }
+  moved_world h begun moved told moment b m e = m ∙ ap (λ (w : World V). record w { moment = moment }) b ∙ ap (λ n. record (begin (world_of h.world)) { moment = n }) e

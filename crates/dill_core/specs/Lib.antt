@@ -1,0 +1,4 @@
+pub mod Begun
+pub mod CoreMachine
+pub mod Ending
+pub mod Holding
