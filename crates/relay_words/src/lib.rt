@@ -26,4 +26,5 @@ pub use bytes::{has_tokens, is_line};
 pub use cutting::tokens;
 pub use heading::{Heading, heading_of};
 pub use line::{Line, line_of};
+pub use number::number_up_to;
 pub use token::{Token, Tokens};

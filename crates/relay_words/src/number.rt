@@ -53,7 +53,7 @@ fn value_up_to(greatest: u64, digits: &[u8]) -> Option<u64>
 }
 
 /// A number up to the greatest.
-pub(crate) fn number_up_to(greatest: u64, word: &[u8]) -> Option<u64>
+pub fn number_up_to(greatest: u64, word: &[u8]) -> Option<u64>
     ensures number { result ≡ number_up_to greatest word.now }
     ensures within { IfSome result (λ n. n ≤ greatest) }
 {

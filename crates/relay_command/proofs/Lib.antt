@@ -1,0 +1,4 @@
+pub mod Behind
+pub mod Leaving
+pub mod Piecing
+pub mod Worded

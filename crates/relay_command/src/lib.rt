@@ -1,0 +1,14 @@
+//! The words of the program's command line: the options, in any order, and the one word that names the script.
+//! It takes no memory.
+#![tactic(auto)]
+
+mod command;
+mod found;
+mod piece;
+mod reading;
+#[cfg(test)]
+mod tests;
+mod value;
+
+pub use command::{Command, Mode, Net};
+pub use reading::command_of;

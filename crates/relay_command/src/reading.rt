@@ -1,0 +1,32 @@
+ghost use Rattle.std.specs.Prelude.{◌≡◌, map, option_map, string_bytes};
+ghost use Rattle.relay_command.specs.Words.{pieces, command_of};
+ghost use Rattle.relay_command.specs.Told.{told};
+ghost use Rattle.relay_command.specs.Founds.{command_left};
+
+use crate::Command;
+use crate::found::Found;
+use crate::piece::first_piece;
+
+/// The command that words are behind those that were found.
+fn command_behind<'a>(found: Found<'a>, words: &'a [String]) -> Option<Command<'a>>
+    ensures { option_map told result ≡ command_left found.entry (pieces (map string_bytes words.now)) }
+{
+    let Some((word, rest)) = words.split_first() else {
+        return found.command();
+    };
+    if word.as_bytes() == b"--".as_slice() {
+        return found.command_with(rest);
+    }
+    let (piece, left) = first_piece(word.as_str(), rest)?;
+    command_behind(found.with(piece)?, left)
+}
+
+/// The command that the words behind the program's name are.
+///
+/// Each of `--mode run|trace|check|load`, `--net real|loop`, `--turns N` and `--cut N` may stand once, its value behind
+/// it or joined to it by `=`, before or behind the one word that names the script; behind `--` no word is an option.
+pub fn command_of(words: &[String]) -> Option<Command<'_>>
+    ensures { option_map told result ≡ command_of (map string_bytes words.now) }
+{
+    command_behind(Found::new(), words)
+}
