@@ -4,20 +4,20 @@ use Rattle.dill_kernel.specs.declared.replies.KernelReply.{KernelReply}
 use Rattle.dill_kernel.specs.declared.replies.KernelReply.TheVariants.{Came}
 use Rattle.dill_loop.specs.Network.{opening as opening_net}
 use Rattle.dill_script.specs.Reading.{script_of}
-use Rattle.dill_meaning.specs.Meaning.{scripts}
+use Rattle.dill_meaning.specs.Meaning.{scripts, knows}
 use Rattle.dill_meaning.specs.RowsRuns.{main_in}
 use Rattle.dill_meaning.specs.Views.{ScriptView}
 use Rattle.dill_drive.specs.ByRules.{machine_of}
 use Rattle.dill_drive.specs.Play.{Playing, play, opening}
 use Rattle.dill_rules.specs.State.{State, opening_state}
-use Rattle.dill_rows.specs.Bundles.{sleepers, renumbers, closed_whole}
+use Rattle.dill_rows.specs.Bundles.{sleepers, sleeper, renumbers, closed_whole}
 use Rattle.dill_rows.specs.Channels.{unequal, chooses}
-use Rattle.dill_rows.specs.Closing.{crossed, nested, closes_nothing}
+use Rattle.dill_rows.specs.Closing.{own_bundle, crossed, nested, closes_nothing, keeps_handle, owns_its_bundle, sleeper_and_yielder}
 use Rattle.dill_rows.specs.Connecting.{over}
 use Rattle.dill_rows.specs.Play.{Text, Play}
 use Rattle.dill_rows.specs.Playing.{zeros, idle, connected, played, looped, loop_net}
 use Rattle.dill_rows.specs.Runs.{Run, Outside, clock, listed, run_within, begun, is_settled, prints, text}
-use Rattle.dill_rows.specs.Sockets.{detaches}
+use Rattle.dill_rows.specs.Sockets.{detaches, accepts}
 
 -- so many steps of the story of the script of these bytes, from what `main` is before its first turn
 abbrev pub script_story : Bool → ℕ → ℕ → List KernelReply → List ℕ → Playing (State ScriptView)
@@ -77,6 +77,34 @@ choosing = codes "dill 1\nprogram s 1\nchsend n0 \"x\" -1\nend\nprogram main 0\n
 abbrev pub dead_number : List ℕ
 dead_number = codes "dill 1\nprogram main 0\nhclose 9\nend\n"
 
+abbrev pub sleeping : List ℕ
+sleeping = codes "dill 1\nprogram main 0\nmsleep -1\nend\n"
+
+abbrev pub own_bundle_script : List ℕ
+own_bundle_script = codes "dill 1\nprogram k 1\ntry hclose n0\nend\nprogram main 0\nn0 = bundle\nbundle_go n0 k n0\nbundle_wait n0 -1\nend\n"
+
+abbrev pub keeps_handle_script : List ℕ
+keeps_handle_script = codes "dill 1\nprogram main 0\nn0 = hmake 256 7\nn1 = hown n0\ntry hquery n0 256\nn2 = hquery n1 256\nend\n"
+
+abbrev pub owns_its_bundle_script : List ℕ
+owns_its_bundle_script = codes "dill 1\nprogram k 1\ntry n1 = hown n0\nend\nprogram main 0\nn0 = bundle\nbundle_go n0 k n0\nbundle_wait n0 -1\nend\n"
+
+abbrev pub sleeper_and_yielder_script : List ℕ
+sleeper_and_yielder_script = codes "dill 1\nprogram a 0\nmsleep -1\nend\nprogram y 0\nloop\nend\nend\nprogram main 0\nn0 = bundle\nbundle_go n0 a\nbundle_go n0 y\nhclose n0\nend\n"
+
+-- two programs, and one that has the name of the second but another number of arguments
+abbrev pub two_programs : List ℕ
+two_programs = codes "dill 1\nprogram main 0\nend\nprogram k 2\nend\n"
+
+abbrev pub two_others : List ℕ
+two_others = codes "dill 1\nprogram main 0\nend\nprogram k 1\nend\n"
+
+-- A coroutine knows the programs of its own script.
+pub record KnowsItsOwn : Type 0 where
+  pub known : knows (main_in (script_of two_programs)) 1 2 ≡ true
+  pub of_another_script : knows (main_in (script_of two_others)) 1 2 ≡ false
+  pub beyond : knows (main_in (script_of two_programs)) 2 0 ≡ false
+
 -- Scripts whose programs start others, end in `finally`, close, own, send and choose.
 pub record ScriptsPlay : Type 0 where
   pub equal_deadlines : plays_as deadlines 80 sleepers ≡ true
@@ -87,9 +115,17 @@ pub record ScriptsPlay : Type 0 where
   pub unequal_sizes : plays_as unequal_script 40 unequal ≡ true
   pub chosen : plays_as choosing 60 chooses ≡ true
   pub fault : plays_as dead_number 20 closes_nothing ≡ true
+  pub stuck : plays_as sleeping 20 sleeper ≡ true
+  pub own_bundle : plays_as own_bundle_script 30 own_bundle ≡ true
+  pub renumbered_without_close : plays_as keeps_handle_script 30 keeps_handle ≡ true
+  pub own_bundle_without_close : plays_as owns_its_bundle_script 30 owns_its_bundle ≡ true
+  pub sleeper_closed : plays_as sleeper_and_yielder_script 40 sleeper_and_yielder ≡ true
 
 abbrev pub receiving : List ℕ
 receiving = codes "dill 1\nprogram main 0\nn0 = tcp_connect 127.0.0.1:9 -1\nb0 = brecv n0 3 -1\nprint b0\nend\n"
+
+abbrev pub accepting : List ℕ
+accepting = codes "dill 1\nprogram main 0\nn0 = tcp_listen 127.0.0.1:7000 1\ntcp_accept n0 -1\nend\n"
 
 abbrev pub detaching : List ℕ
 detaching = codes "dill 1\nprogram d 1\nn1 = prefix_attach n0 2 big\nn1 = term_attach n1 \"\"\ntry n2 = term_detach n1 -1\ntry hclose n1\nend\nprogram main 0\nn0 = tcp_listen 127.0.0.1:7000 1\nn1 = tcp_connect 127.0.0.1:7000 -1\nn2 = go d give n1\nmsleep 10\nhclose n2\nend\n"
@@ -104,5 +140,6 @@ relaying = codes "dill 1\nprogram up 1\nloop 3\nn1 = tcp_accept n0 -1\nn1 = ws_a
 pub record ScriptsOverLinks : Type 0 where
   pub connection : is_alike (script_run listed (connected (idle 0 ∷ Came (codes "ab") ∷ idle 0 ∷ Came (codes "cd") ∷ [])) true 40 receiving) (over (connected (idle 0 ∷ Came (codes "ab") ∷ idle 0 ∷ Came (codes "cd") ∷ []))) ≡ true
   pub detach : is_alike (script_run loop_net (opening_net 4096) true 80 detaching) (looped true 1000000000 80 detaches) ≡ true
+  pub wait_fails : is_alike (script_run loop_net (opening_net 4096) true 40 accepting) (looped true 1000000000 40 accepts) ≡ true
   pub load : prints (script_run loop_net (opening_net 4096) false 300 load_of_three) (codes "summary status=0 errno=none turns=39 rounds=11 closing=0 made=15 gone=15 lacks=0" ∷ []) ≡ true
   pub relay : prints (script_run loop_net (opening_net 4096) false 700 relaying) (codes "hi" ∷ codes "hi" ∷ codes "hi" ∷ codes "summary status=0 errno=none turns=78 rounds=44 closing=0 made=30 gone=30 lacks=0" ∷ []) ≡ true

@@ -16,7 +16,8 @@ use Rattle.dill_stack.specs.Held.{Held}
 use Rattle.dill_stack.specs.RowWords.{attached, big2}
 use Rattle.dill_ws.specs.declared.side.Side.TheVariants.{Client}
 use Rattle.dill_ws.specs.declared.request.Asked.TheVariants as asked
-use Rattle.dill_ws.specs.Handshakes.{client_front}
+use Rattle.dill_base.specs.declared.errno.Front.TheVariants as fronts
+use Rattle.dill_ws.specs.Handshakes.{client_front, server_front}
 use Rattle.dill_rules.specs.declared.coroutine.Mode.TheVariants.{Running}
 use Rattle.dill_rules.specs.declared.thing.Thing.{Thing}
 use Rattle.dill_rules.specs.declared.thing.Thing.TheVariants as things
@@ -51,11 +52,23 @@ usual_lists = codes "Upgrade: websocket\r\nConnection: Upgrade\r\n"
 abbrev pub any_case : List ℕ
 any_case = head_by (codes "GET / HTTP/1.1") (codes "UPGRADE: a,\tWebSocket \r\nconnection: UPGRADE\r\n") (codes "sec-WebSocket-KEY")
 
+-- a server's head by its first line and its lists, for the same key
+abbrev pub answer_by : List ℕ → List ℕ → List ℕ
+answer_by first lists = first ++ codes "\r\n" ++ lists ++ codes "sec-websocket-ACCEPT: s3pPLMBiTxaQ9kYGzzhZRbK+xOo=\r\n\r\n"
+
+abbrev pub same_accept : List ℕ
+same_accept = codes "s3pPLMBiTxaQ9kYGzzhZRbK+xOo="
+
+abbrev pub answer_in_any_case : List ℕ
+answer_in_any_case = answer_by (codes "HTTP/1.1 101 ok") (codes "UPGRADE: WebSocket\r\nconnection: UPGRADE\r\n")
+
 -- Names of fields, `websocket` and `upgrade` are compared without case, the method and the version as they stand.
 pub record HeadsWithoutCase : Type 0 where
   pub names : client_front any_case ≡ asked.Whole (codes "dGhlIHNhbXBsZSBub25jZQ==") (length any_case)
   pub method : client_front (head_by (codes "get / HTTP/1.1") usual_lists (codes "Sec-WebSocket-Key")) ≡ asked.Fault Eproto
   pub version : client_front (head_by (codes "GET / http/1.1") usual_lists (codes "Sec-WebSocket-Key")) ≡ asked.Fault Eproto
+  pub answer : server_front same_accept answer_in_any_case ≡ fronts.Whole 0 (length answer_in_any_case) (length answer_in_any_case)
+  pub answer_version : server_front same_accept (answer_by (codes "http/1.1 101 ok") usual_lists) ≡ fronts.Fault Eproto
   pub other_item : client_front (head_by (codes "GET / HTTP/1.1") (codes "Upgrade: web socket\r\nConnection: Upgrade\r\n") (codes "Sec-WebSocket-Key")) ≡ asked.Fault Eproto
 
 -- coroutine 2 lives in a bundle of coroutine 1, which is closing or isn't

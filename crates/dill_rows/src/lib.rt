@@ -33,7 +33,7 @@ ghost use Rattle.dill_rows.specs.Relay.{RelayToWebsocket, LoadOfFour};
 ghost use Rattle.dill_rows.specs.Stories.{WorkedStories};
 ghost use Rattle.dill_rows.specs.Failing.{OutputFails};
 ghost use Rattle.dill_rows.specs.Asked.{AsksCarry};
-ghost use Rattle.dill_rows.specs.Scripted.{ScriptsRun, ScriptsPlay, ScriptsOverLinks};
+ghost use Rattle.dill_rows.specs.Scripted.{ScriptsRun, ScriptsPlay, ScriptsOverLinks, KnowsItsOwn};
 ghost use Rattle.dill_rows.specs.SameStories.{SameStories, NetworkStories};
 
 /// Three deadlines at one moment pass in the order of the coroutines.
@@ -289,6 +289,7 @@ pub fn scripts_run()
     ensures prints { ScriptsRun }
     ensures plays { ScriptsPlay }
     ensures links { ScriptsOverLinks }
+    ensures knows { KnowsItsOwn }
 {}
 
 /// While a handshake is pending what needs a byte socket isn't supported, and all else is busy.

@@ -1,4 +1,5 @@
 pub mod Addresses
+pub mod Built
 pub mod Canonical
 pub mod Formed
 pub mod FormedLines

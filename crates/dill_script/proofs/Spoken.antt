@@ -69,7 +69,7 @@ version_words a b e =
     same_two : (x y z w : Token) → x ≡ z → y ≡ w → x ∷ y ∷ [] ≡ z ∷ w ∷ []
     same_two x y z w e f = cc
 
-version_is : (list : List Token) → is_version (Some list) ≡ true → list ≡ Plain (codes "dill") ∷ Plain (codes "1") ∷ []
+pub version_is : (list : List Token) → is_version (Some list) ≡ true → list ≡ Plain (codes "dill") ∷ Plain (codes "1") ∷ []
 version_is [] e = cc
 version_is (a ∷ []) e = cc
 version_is (a ∷ b ∷ []) e = version_words a b e

@@ -9,6 +9,7 @@ use Rattle.dill_script.specs.Refusals.{has_name}
 use Rattle.dill_script.specs.Lines.{lines_of, is_line_byte, has_tokens}
 use Rattle.dill_script.specs.Printing.{script_lines, canonical}
 use Rattle.dill_script.specs.declared.statement.Statement.{Statement}
+use Rattle.dill_script.specs.declared.statement.Statement.TheVariants as statements
 use Rattle.dill_script.specs.Reading.{started_by, takes, script_with}
 use Rattle.dill_script.specs.Statements.{Says, params_fit}
 use Rattle.dill_script.specs.Tokens.{Token, tokens}
@@ -90,3 +91,12 @@ takes_its program = params_fit program.name program.params && nat_le program.par
 -- so it is with the programs of what is read
 abbrev pub ReadsMains : Type 0
 ReadsMains = (built : Word → Bool) (text : List ℕ) (script : List Program) → script_with built text ≡ Ok script → list_all takes_its script ≡ true
+
+-- a statement whose call, if it makes one, is built
+abbrev pub says_built : (Word → Bool) → Statement → Bool
+says_built built (statements.Call tried dest form) = built form.word
+says_built built _ = true
+
+-- so it is with each statement of what is read
+abbrev pub ReadsBuilt : Type 0
+ReadsBuilt = (built : Word → Bool) (text : List ℕ) (script : List Program) → script_with built text ≡ Ok script → all_say (says_built built) script ≡ true

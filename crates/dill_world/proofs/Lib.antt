@@ -1,7 +1,12 @@
 pub mod Bearing
+pub mod Closing
 pub mod Each
 pub mod Finding
+pub mod Freeing
+pub mod Gathered
 pub mod Leaving
+pub mod Picking
 pub mod Places
 pub mod Quiet
+pub mod Releasing
 pub mod Running

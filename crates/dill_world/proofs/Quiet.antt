@@ -1,12 +1,11 @@
 -- Where there are no links, no stack refuses anything.
-use Rattle.std.proofs.Common.{◌≡◌, ℕ, Bool, true, false, ◌||◌, Option, Some, None, List, [], find, option_map, refl, ap}
+use Rattle.std.proofs.Common.{◌≡◌, ℕ, Bool, true, false, ◌||◌, Option, Some, None, find, option_map, refl, ap}
 use Rattle.std.specs.List.{list_any}
 use Rattle.dill_base.specs.declared.errno.Errno.{Errno}
 use Rattle.dill_base.specs.declared.errno.Errno.TheVariants as errnos
 use Rattle.dill_calls.specs.declared.call.Call.{Call}
 use Rattle.dill_calls.specs.CallTable.{named_by}
 use Rattle.dill_calls.specs.Program.{Program}
-use Rattle.dill_stack.specs.Interface.{Held}
 use Rattle.dill_maps.specs.Maps.{if_some}
 use Rattle.dill_rules.specs.Links.{no_links, look}
 use Rattle.dill_rules.specs.Sockets.{stack_of, link_named, link_number, faults_by}

@@ -1,5 +1,5 @@
 -- A program that ends at its first turn, for the tests.
-use Rattle.std.specs.Prelude.{◌≡◌, true, None, refl}
+use Rattle.std.specs.Prelude.{true, None, refl}
 use Rattle.std.proofs.Common.{lit<, lit≤}
 use Rattle.dill_calls.specs.declared.word.Word.TheVariants.{Start}
 use Rattle.dill_calls.specs.Program.{Program, IsLawful, Ends}

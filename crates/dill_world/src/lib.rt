@@ -3,6 +3,7 @@
 #![tactic(auto)]
 
 mod answers;
+mod ending;
 mod kinds;
 mod naming;
 mod owning;
@@ -13,4 +14,8 @@ mod taking;
 mod tests;
 mod world;
 
+pub use answers::{copy_answer, copy_waiting};
+pub use kinds::value_of;
+pub use naming::{draws_of, told};
+pub use taking::{is_ending, pending_call};
 pub use world::World;

@@ -35,7 +35,7 @@ returns-clause-close_frame c = record { meanwhile = refl; before = refl }
 
 pub returns-clause-heads : goal.returns-clause-heads
 unfolding digits network_reply network_after is_utf8 chars encode next_u32 prefix_front prefix_due suffix_front suffix_due is_token_byte front_of_line request_cut status_cut field_cut head_front composed is_invalid is_refused is_too_long attach_fault send_fault line_fault done_fault read_fault detach_fault frame line done withdraw ws_front passed shown read_list dropped read attach greet_fault expect_greet parting_fault detach_start detach_finish first_words schedule rounds compress hash_after digest_bytes sha1 encode_symbols groups_error groups_bytes scan_steps decoded_of next_line lines_at behind head_stop head_front_by client_asks server_agrees key_of client_front server_front greet greeted
-returns-clause-heads c = record { names = refl; method = refl; version = refl; other_item = refl }
+returns-clause-heads c = record { names = refl; method = refl; version = refl; answer = refl; answer_version = refl; other_item = refl }
 
 pub returns-clause-stacks : goal.returns-clause-stacks
 unfolding digits network_reply network_after is_utf8 chars encode next_u32 prefix_front prefix_due suffix_front suffix_due is_token_byte front_of_line request_cut status_cut field_cut head_front composed is_invalid is_refused is_too_long attach_fault send_fault line_fault done_fault read_fault detach_fault frame line done withdraw ws_front passed shown read_list dropped read attach greet_fault expect_greet parting_fault detach_start detach_finish first_words schedule rounds compress hash_after digest_bytes sha1 encode_symbols groups_error groups_bytes scan_steps decoded_of next_line lines_at behind head_stop head_front_by client_asks server_agrees key_of client_front server_front greet greeted

@@ -1,3 +1,4 @@
+use Rattle.dill_script.proofs.Built.{reads_built}
 use Rattle.dill_script.proofs.Canonical.{canonical_spells, reads_back}
 use Rattle.dill_script.proofs.FormedLines.{reads_formed}
 use Rattle.dill_script.proofs.Mains.{reads_mains}
@@ -33,3 +34,6 @@ returns-clause-starts c = reads_starts
 
 pub returns-clause-mains : goal.returns-clause-mains
 returns-clause-mains c = reads_mains
+
+pub returns-clause-built : goal.returns-clause-built
+returns-clause-built c = reads_built

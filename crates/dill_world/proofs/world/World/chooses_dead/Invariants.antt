@@ -1,8 +1,7 @@
-use Rattle.std.proofs.Common.{◌≡◌, not, map, drop}
+use Rattle.std.proofs.Common.{◌≡◌, map, drop}
 use Rattle.std.specs.List.{list_any}
 use Rattle.dill_rules.specs.Naming.{end_of_clause}
 use Rattle.dill_rules.specs.Kinds as kinds
-use Rattle.dill_rules.specs.Taking as taking
 use Rattle.dill_world.specs.Store.{world_of}
 use Rattle.dill_world.proofs.world.World.chooses_dead.Given as goal
 

@@ -1,7 +1,6 @@
 use Rattle.std.proofs.Common.{◌≡◌, drop}
 use Rattle.std.specs.List.{list_any}
 use Rattle.dill_rules.specs.Naming.{gifts_of}
-use Rattle.dill_rules.specs.Kinds as kinds
 use Rattle.dill_rules.specs.Taking as taking
 use Rattle.dill_world.specs.Store.{world_of}
 use Rattle.dill_world.proofs.world.World.gives_anothers.Given as goal

@@ -1,6 +1,3 @@
-use Rattle.std.proofs.Common.{subst}
-use Rattle.dill_world.specs.Store.{world_of}
-use Rattle.dill_world.specs.Steps.{Resumed}
 use Rattle.dill_world.proofs.Running.{resumed}
 use Rattle.dill_world.proofs.world.World.resume.Goals as goal
 

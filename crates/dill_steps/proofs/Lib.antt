@@ -1,0 +1,11 @@
+pub mod Counting
+pub mod Entered
+pub mod Gifts
+pub mod Going
+pub mod Lists
+pub mod Passed
+pub mod Passing
+pub mod Shown
+pub mod Told
+pub mod Unrefused
+pub mod Waiters

@@ -1,0 +1,5 @@
+pub mod Briefly
+pub mod Endings
+pub mod Needs
+pub mod Timing
+pub mod Turned

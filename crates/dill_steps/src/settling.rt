@@ -1,0 +1,165 @@
+ghost use Rattle.std.specs.Prelude.{◌≡◌, ◌≤◌, length, find, option_copied, option_map, true, IfSome};
+ghost use Rattle.dill_maps.specs.Maps.{first_some};
+ghost use Rattle.dill_rules.specs.World as worlds;
+ghost use Rattle.dill_rules.specs.Giving as giving;
+ghost use Rattle.dill_rules.specs.Settling as settling;
+ghost use Rattle.dill_steps.specs.Endings.{ending_of};
+ghost use Rattle.dill_world.specs.Store.{world_of, may_wait, is_plain_mode, is_plain_row, is_short_answer, ArePlain};
+
+use dill_base::Errno;
+use dill_calls::{Answer, Call, Word};
+use dill_rules::{Coroutine, Mode};
+use dill_world::{World, copy_waiting, is_ending};
+
+/// A copy of the call that is pending.
+fn copy_pending(mode: &Mode) -> Option<Call>
+    requires { is_plain_mode mode.now ≡ true }
+    ensures call { result ≡ worlds.pending_call mode.now }
+    ensures waits { IfSome result (λ call. may_wait call ≡ true) }
+{
+    match mode {
+        Mode::Pending(call) => Some(copy_waiting(call)),
+        _ => None,
+    }
+}
+
+/// A copy of the call that a coroutine is pending in.
+pub fn waits_in<B>(world: &World<B>, who: u64) -> Option<Call>
+    ensures call { result ≡ worlds.call_of (world_of world.now) who }
+    ensures waits { IfSome result (λ call. may_wait call ≡ true) }
+{
+    match world.call_of(who) {
+        None => None,
+        Some(call) => Some(copy_waiting(call)),
+    }
+}
+
+/// A pending call is answered.
+pub fn give<B: Drop>(world: &mut World<B>, who: u64, call: &Call, answer: Answer)
+    requires waits { may_wait call.now ≡ true }
+    requires short { is_short_answer answer ≡ true }
+    ensures { world_of world.new ≡ giving.give (world_of world.old) who call.now answer }
+{
+    match call {
+        Call::Hclose(number) => {
+            world.free_dead(*number);
+            world.reply(who, Word::Hclose, answer);
+        }
+        Call::Msleep(_) => world.reply(who, Word::Msleep, answer),
+        Call::BundleWait(_, _) => world.reply(who, Word::BundleWait, answer),
+        _ => {}
+    }
+}
+
+/// How the program ended of who is ending.
+fn outcome_of(mode: &Mode) -> Option<Errno>
+    ensures { result ≡ settling.outcome_of mode.now }
+{
+    match mode {
+        Mode::Ending(outcome) => *outcome,
+        _ => None,
+    }
+}
+
+/// Whether nobody lives in a bundle of a coroutine.
+pub fn is_clear<B>(world: &World<B>, who: u64) -> bool
+    ensures { result ≡ settling.is_clear (world_of world.now) who }
+{
+    world.scopes().is_clear(who)
+}
+
+/// Whether a coroutine is ending and can finish.
+pub fn can_finish<B>(world: &World<B>, c: &Coroutine<B>) -> bool
+    ensures { result ≡ settling.can_finish (world_of world.now) c.now }
+{
+    is_ending(&c.mode) && is_clear(world, c.number)
+}
+
+/// The lowest coroutine whose ending can finish.
+fn finishing<B>(world: &World<B>) -> Option<&Coroutine<B>>
+    ensures { option_copied result ≡ find (settling.can_finish (world_of world.now)) world.now.coroutines }
+{
+    world.coroutines().iter().find(|c| can_finish(world, c))
+}
+
+/// The lowest coroutine whose ending can finish, and how its program ended.
+fn next_ending<B>(world: &World<B>) -> Option<(u64, Option<Errno>)>
+    ensures { result ≡ option_map ending_of (find (settling.can_finish (world_of world.now)) world.now.coroutines) }
+{
+    match finishing(world) {
+        None => None,
+        Some(c) => Some((c.number, outcome_of(&c.mode))),
+    }
+}
+
+/// The answer that a coroutine can be given, with its call.
+fn answer_due<B>(world: &World<B>, c: &Coroutine<B>) -> Option<(u64, Call, Answer)>
+    requires { is_plain_row c.now ≡ true }
+    ensures due { result ≡ settling.answer_due (world_of world.now) c.now }
+    ensures waits { IfSome result (λ x. may_wait x.1 ≡ true) }
+    ensures short { IfSome result (λ x. is_short_answer x.2 ≡ true) }
+{
+    match copy_pending(&c.mode) {
+        None => None,
+        Some(call) => match world.answer_of(c.number, &call) {
+            None => None,
+            Some(answer) => Some((c.number, call, answer)),
+        },
+    }
+}
+
+/// The first answer that is due to one of these coroutines.
+fn first_due<B>(world: &World<B>, coroutines: &[Coroutine<B>]) -> Option<(u64, Call, Answer)>
+    requires { ArePlain coroutines.now }
+    ensures due { result ≡ first_some (settling.answer_due (world_of world.now)) coroutines.now }
+    ensures waits { IfSome result (λ x. may_wait x.1 ≡ true) }
+    ensures short { IfSome result (λ x. is_short_answer x.2 ≡ true) }
+{
+    for c in coroutines {
+        if let Some(due) = answer_due(world, c) {
+            return Some(due);
+        }
+    }
+    None
+}
+
+/// The first answer that is due, of the lowest coroutine.
+pub fn first_answer<B>(world: &World<B>) -> Option<(u64, Call, Answer)>
+    ensures due { result ≡ first_some (settling.answer_due (world_of world.now)) world.now.coroutines }
+    ensures waits { IfSome result (λ x. may_wait x.1 ≡ true) }
+    ensures short { IfSome result (λ x. is_short_answer x.2 ≡ true) }
+{
+    first_due(world, world.coroutines())
+}
+
+/// The first answer that is due is given, where there is one.
+fn give_first<B: Drop>(world: &mut World<B>)
+    ensures given { world_of world.new ≡ settling.give_first (world_of world.old) }
+    ensures few { length world.new.coroutines ≤ length world.old.coroutines }
+{
+    if let Some((who, call, answer)) = first_answer(world) {
+        give(world, who, &call, answer);
+    }
+}
+
+/// An ending finishes, or else an answer is given, where one is due.
+pub fn settle_one<B: Drop>(world: &mut World<B>)
+    ensures settled { world_of world.new ≡ settling.settle_one (world_of world.old) }
+    ensures few { length world.new.coroutines ≤ length world.old.coroutines }
+{
+    match next_ending(world) {
+        Some((who, outcome)) => world.finish(who, outcome),
+        None => give_first(world),
+    }
+}
+
+/// Endings finish and answers are given until nothing is due. Nobody is new.
+pub fn settle<B: Drop>(world: &mut World<B>)
+    ensures settled { world_of world.new ≡ settling.settle (world_of world.old) }
+    ensures few { length world.new.coroutines ≤ length world.old.coroutines }
+{
+    for _ in 0..world.coroutines().len() {
+        settle_one(world);
+    }
+    let _ = world.coroutines();
+}
