@@ -2,4 +2,3 @@ pub mod Behind
 pub mod Bounds
 pub mod Leaving
 pub mod Piecing
-pub mod Worded
