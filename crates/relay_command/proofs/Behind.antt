@@ -2,7 +2,7 @@
 use Rattle.std.proofs.Common.{Bor, ◌≡◌, ◌∙◌, ℕ, ◌≤◌, ◌<◌, List, [], ◌∷◌, map, length, get_or, Option, Some, None, option_and_then, refl, sym, ap, arith}
 use Rattle.dill_maps.specs.Maps.{if_some}
 use Rattle.relay_command.specs.declared.found.Found.{Found}
-use Rattle.relay_command.specs.declared.piece.Piece as pieces
+use Rattle.relay_command.specs.declared.piece.Piece as coded
 use Rattle.relay_command.specs.declared.piece.Piece.TheVariants as spelled
 use Rattle.relay_command.specs.Founds.{with_piece, command_after, command_left}
 use Rattle.relay_command.specs.Told.{piece_in}
@@ -34,16 +34,16 @@ module _ {X : Type 0} (text : X → List ℕ) (found : Found) where
   free_more (first ∷ []) least = absurd (omega arith)
   free_more (first ∷ second ∷ others) least = sym (two_free found (text first) (text second) (map Free (map text others)))
 
-  next : (piece : pieces.Piece) (words rest left : List X) (word : X) (shown : List ℕ) → words ≡ word ∷ rest → shown ≡ text word → pieces (shown ∷ map text rest) ≡ behind (piece_in piece) (pieces (map text left)) → command_left found (pieces (map text words)) ≡ if_some (with_piece found piece) None (λ more. command_left more (pieces (map text left)))
+  next : (piece : coded.Piece) (words rest left : List X) (word : X) (shown : List ℕ) → words ≡ word ∷ rest → shown ≡ text word → pieces (shown ∷ map text rest) ≡ behind (piece_in piece) (pieces (map text left)) → command_left found (pieces (map text words)) ≡ if_some (with_piece found piece) None (λ more. command_left more (pieces (map text left)))
   next piece words rest left word shown front says is =
       ap (λ l. command_left found (pieces (map text l))) front ∙ (ap (λ b. command_left found (pieces (b ∷ map text rest))) (sym says) ∙ (ap (command_left found) is ∙ piece_behind found piece (pieces (map text left))))
 
   -- a piece that can't stand there ends it
-  pub stops : (piece : pieces.Piece) (words rest left : List X) (word : X) (shown : List ℕ) → words ≡ word ∷ rest → shown ≡ text word → pieces (shown ∷ map text rest) ≡ behind (piece_in piece) (pieces (map text left)) → None ≡ with_piece found piece → None ≡ command_left found (pieces (map text words))
+  pub stops : (piece : coded.Piece) (words rest left : List X) (word : X) (shown : List ℕ) → words ≡ word ∷ rest → shown ≡ text word → pieces (shown ∷ map text rest) ≡ behind (piece_in piece) (pieces (map text left)) → None ≡ with_piece found piece → None ≡ command_left found (pieces (map text words))
   stops piece words rest left word shown front says is none =
       sym (next piece words rest left word shown front says is ∙ ap (λ o. if_some o None (λ more. command_left more (pieces (map text left)))) (sym none))
 
   -- and else it goes on behind it
-  pub goes : (more : Found) (piece : pieces.Piece) (words rest left : List X) (word : X) (shown : List ℕ) → words ≡ word ∷ rest → shown ≡ text word → pieces (shown ∷ map text rest) ≡ behind (piece_in piece) (pieces (map text left)) → Some more ≡ with_piece found piece → command_left more (pieces (map text left)) ≡ command_left found (pieces (map text words))
+  pub goes : (more : Found) (piece : coded.Piece) (words rest left : List X) (word : X) (shown : List ℕ) → words ≡ word ∷ rest → shown ≡ text word → pieces (shown ∷ map text rest) ≡ behind (piece_in piece) (pieces (map text left)) → Some more ≡ with_piece found piece → command_left more (pieces (map text left)) ≡ command_left found (pieces (map text words))
   goes more piece words rest left word shown front says is some =
       sym (next piece words rest left word shown front says is ∙ ap (λ o. if_some o None (λ f. command_left f (pieces (map text left)))) (sym some))

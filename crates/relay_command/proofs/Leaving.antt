@@ -8,11 +8,11 @@ use Rattle.relay_command.specs.declared.command.Net.TheVariants.{Real}
 use Rattle.relay_command.specs.declared.found.Found.{Found}
 use Rattle.relay_command.specs.declared.piece.Flag.{Flag}
 use Rattle.relay_command.specs.declared.piece.Flag.TheVariants as flags
-use Rattle.relay_command.specs.declared.piece.Piece as pieces
+use Rattle.relay_command.specs.declared.piece.Piece as coded
 use Rattle.relay_command.specs.declared.piece.Piece.TheVariants as spelled
-use Rattle.relay_command.specs.Founds.{once, with_value, with_piece, said_after, only_after, command_after, command_left}
+use Rattle.relay_command.specs.Founds.{once, with_value, with_piece, said_after, only_after, made, command_after, command_left}
 use Rattle.relay_command.specs.Told.{flag_text, piece_in}
-use Rattle.relay_command.specs.Words.{Command, Piece, Value, Free, mode_of, net_of, number_within, most_turns, value_for, free_word, behind, settled_as}
+use Rattle.relay_command.specs.Words.{Piece, Value, Free, mode_of, net_of, number_within, most_turns, value_for, free_word, behind}
 
 -- nothing, whatever is there
 pub if_none : {A B : Type 0} (o : Option A) → if_some {B = Option B} o None (λ a. None) ≡ None
@@ -29,11 +29,7 @@ slot (Some x) read default value values = refl
 slot None read default value [] = if_same (read value)
 slot None read default value (other ∷ values) = sym (if_none (read value))
 
--- the command from its parts
-abbrev made : Option Mode → Option Net → Option ℕ → Option ℕ → Option (List ℕ) → Option Command
-made modes nets most cuts scripts =
-    if_some modes None (λ mode. if_some nets None (λ net. if_some most None (λ turns. if_some cuts None (λ cut. if_some scripts None (λ script. settled_as mode (record { mode = mode; net = net; turns = turns; cut = cut; script = script }))))))
-
+-- a command lacks a part
 no_net : (modes : Option Mode) (most cuts : Option ℕ) (scripts : Option (List ℕ)) → made modes None most cuts scripts ≡ None
 no_net modes most cuts scripts = if_none modes
 
@@ -107,12 +103,12 @@ module _ (found : Found) (all : List Piece) where
   free_first None free = ap (λ o. made (modes found.mode) (nets found.net) (most found.turns) (cuts found.cut) o) (only_first None free.now (filter_map free_word all))
 
   -- the command behind a piece, where there are more of them
-  pub piece_next : (piece : pieces.Piece) → command_after found (piece_in piece ∷ all) ≡ if_some (with_piece found piece) None (λ more. command_after more all)
+  pub piece_next : (piece : coded.Piece) → command_after found (piece_in piece ∷ all) ≡ if_some (with_piece found piece) None (λ more. command_after more all)
   piece_next (spelled.Value flag value) = value_first flag value.now
   piece_next (spelled.Free free) = free_first found.script free
 
 -- the command behind a piece
-pub piece_behind : (found : Found) (piece : pieces.Piece) (all : Option (List Piece)) → command_left found (behind (piece_in piece) all) ≡ if_some (with_piece found piece) None (λ more. command_left more all)
+pub piece_behind : (found : Found) (piece : coded.Piece) (all : Option (List Piece)) → command_left found (behind (piece_in piece) all) ≡ if_some (with_piece found piece) None (λ more. command_left more all)
 piece_behind found piece None = sym (if_none (with_piece found piece))
 piece_behind found piece (Some all) = piece_next found all piece
 

@@ -1,4 +1,4 @@
 pub mod Behind
+pub mod Bounds
 pub mod Leaving
 pub mod Piecing
-pub mod Worded

@@ -3,7 +3,7 @@ use Rattle.std.proofs.Common.{◌≡◌, ◌∙◌, ℕ, List, [], ◌∷◌, ma
 use Rattle.dill_maps.specs.Maps.{if_some, first_some}
 use Rattle.dill_script.proofs.Words.{find_passes, bytes_same}
 use Rattle.relay_command.specs.Told.{alone}
-use Rattle.relay_command.specs.Words.{Piece, Value, Free, options, joined, behind, begins_with_dash, is_option, ends_options, piece_first, pieces}
+use Rattle.relay_command.specs.Words.{Piece, Value, Free, options, joined, behind, begins_with_dash, ends_options, piece_first, pieces}
 
 -- behind `--` every word is free
 pub dashes : (word : List ℕ) (words : List (List ℕ)) → word ≡ codes "--" → pieces (word ∷ words) ≡ Some (map Free words)

@@ -1,12 +1,14 @@
 -- What pieces have said, one after the other, and the command that they are with those that follow.
 use Rattle.std.specs.Prelude.{ℕ, List, [], ◌∷◌, filter_map, codes, Option, Some, None, option_map}
 use Rattle.dill_maps.specs.Maps.{if_some}
+use Rattle.relay_command.specs.declared.command.Mode.{Mode}
 use Rattle.relay_command.specs.declared.command.Mode.TheVariants.{Run}
+use Rattle.relay_command.specs.declared.command.Net.{Net}
 use Rattle.relay_command.specs.declared.command.Net.TheVariants.{Real}
 use Rattle.relay_command.specs.declared.found.Found.{Found}
 use Rattle.relay_command.specs.declared.piece.Flag.{Flag}
 use Rattle.relay_command.specs.declared.piece.Flag.TheVariants as flags
-use Rattle.relay_command.specs.declared.piece.Piece as pieces
+use Rattle.relay_command.specs.declared.piece.Piece as coded
 use Rattle.relay_command.specs.declared.piece.Piece.TheVariants as spelled
 use Rattle.relay_command.specs.Words.{Command, Piece, mode_of, net_of, number_within, most_turns, value_for, free_word, only, said, settled_as}
 
@@ -23,7 +25,7 @@ with_value found flags.Turns value = option_map (λ turns. record found { turns 
 with_value found flags.Cut value = option_map (λ cut. record found { cut = Some cut }) (once found.cut (number_within 1 4096 value))
 
 -- with a piece
-abbrev pub with_piece : Found → pieces.Piece → Option Found
+abbrev pub with_piece : Found → coded.Piece → Option Found
 with_piece found (spelled.Value flag value) = with_value found flag value.now
 with_piece found (spelled.Free word) = option_map (λ script. record found { script = Some script }) (once found.script (Some word))
 
@@ -39,12 +41,17 @@ only_after None words = only words
 only_after (Some word) [] = Some word
 only_after (Some word) (other ∷ words) = None
 
+-- the command from its parts, if there are all of them
+abbrev pub made : Option Mode → Option Net → Option ℕ → Option ℕ → Option (List ℕ) → Option Command
+made modes nets most cuts scripts =
+    if_some modes None (λ mode. if_some nets None (λ net. if_some most None (λ turns. if_some cuts None (λ cut. if_some scripts None (λ script. settled_as mode (record { mode = mode; net = net; turns = turns; cut = cut; script = script }))))))
+
 -- the command that these pieces are behind what was found
 abbrev pub command_after : Found → List Piece → Option Command
 command_after found all =
-    if_some (said_after found.mode mode_of Run (filter_map (value_for (codes "--mode")) all)) None (λ mode. if_some (said_after found.net net_of Real (filter_map (value_for (codes "--net")) all)) None (λ net.
-    if_some (said_after found.turns (number_within 1 most_turns) 1000000000 (filter_map (value_for (codes "--turns")) all)) None (λ turns. if_some (said_after found.cut (number_within 1 4096) 4096 (filter_map (value_for (codes "--cut")) all)) None (λ cut.
-    if_some (only_after (option_map (λ word. word.now) found.script) (filter_map free_word all)) None (λ script. settled_as mode (record { mode = mode; net = net; turns = turns; cut = cut; script = script }))))))
+    made (said_after found.mode mode_of Run (filter_map (value_for (codes "--mode")) all)) (said_after found.net net_of Real (filter_map (value_for (codes "--net")) all))
+    (said_after found.turns (number_within 1 most_turns) 1000000000 (filter_map (value_for (codes "--turns")) all)) (said_after found.cut (number_within 1 4096) 4096 (filter_map (value_for (codes "--cut")) all))
+    (only_after (option_map (λ word. word.now) found.script) (filter_map free_word all))
 
 -- the same, where there may be no pieces
 abbrev pub command_left : Found → Option (List Piece) → Option Command

@@ -4,7 +4,7 @@ use Rattle.dill_maps.specs.Maps.{if_some, first_some}
 use Rattle.relay_command.specs.declared.command.Command as stated
 use Rattle.relay_command.specs.declared.piece.Flag.{Flag}
 use Rattle.relay_command.specs.declared.piece.Flag.TheVariants as flags
-use Rattle.relay_command.specs.declared.piece.Piece as pieces
+use Rattle.relay_command.specs.declared.piece.Piece as coded
 use Rattle.relay_command.specs.declared.piece.Piece.TheVariants as spelled
 use Rattle.relay_command.specs.Words.{Command, Piece, Value, Free, options, joined, begins_with_dash}
 
@@ -20,7 +20,7 @@ flag_text flags.Turns = codes "--turns"
 flag_text flags.Cut = codes "--cut"
 
 -- the piece that is spelled so
-abbrev pub piece_in : pieces.Piece → Piece
+abbrev pub piece_in : coded.Piece → Piece
 piece_in (spelled.Value flag value) = Value (flag_text flag) value.now
 piece_in (spelled.Free word) = Free word.now
 

@@ -16,11 +16,8 @@ const TURNS: u64 = 1_000_000_000;
 /// How many bytes a read of the network in memory gives at most, where no word says less.
 const CUT: u64 = 4096;
 
-/// How many clients a load has at most.
-const MOST_CLIENTS: u64 = 10_000;
-
 /// What words have said so far.
-#[derive(Clone, Copy, Debug, PartialEq, Eq)]
+#[derive(Clone, Copy)]
 pub(crate) struct Found<'a> {
     mode: Option<Mode>,
     net: Option<Net>,
@@ -29,7 +26,7 @@ pub(crate) struct Found<'a> {
     script: Option<&'a str>,
 }
 
-/// A value that nothing was said before.
+/// The value, where none was said before.
 fn once<T: Drop>(before: &Option<T>, value: Option<T>) -> Option<T>
     ensures { result ≡ once before.now value }
 {
@@ -45,7 +42,7 @@ fn settled(command: Command<'_>) -> Option<Command<'_>>
 {
     match command.mode {
         Mode::Load => {
-            number_within(1, MOST_CLIENTS, command.script.as_bytes())?;
+            command.clients()?;
             Some(Command {
                 net: Net::Loop,
                 ..command

@@ -9,6 +9,8 @@ mod reading;
 #[cfg(test)]
 mod tests;
 mod value;
+mod worked;
 
 pub use command::{Command, Mode, Net};
 pub use reading::command_of;
+pub use worked::rows;

@@ -4,7 +4,7 @@ ghost use Rattle.relay_command.specs.Words.{options, joined, pieces, behind, end
 ghost use Rattle.relay_command.specs.Told.{flag_text, piece_in, alone};
 
 /// Which option.
-#[derive(Clone, Copy, Debug, PartialEq, Eq)]
+#[derive(Clone, Copy)]
 pub(crate) enum Flag {
     Mode,
     Net,
@@ -13,7 +13,7 @@ pub(crate) enum Flag {
 }
 
 /// What words say: an option's value, or a word that is none.
-#[derive(Clone, Copy, Debug, PartialEq, Eq)]
+#[derive(Clone, Copy)]
 pub(crate) enum Piece<'a> {
     Value(Flag, &'a [u8]),
     Free(&'a str),

@@ -1,11 +1,11 @@
-ghost use Rattle.std.specs.Prelude.{◌≡◌, map, option_map, string_bytes};
-ghost use Rattle.relay_command.specs.Words.{pieces, command_of};
+ghost use Rattle.std.specs.Prelude.{◌≡◌, ◌≤◌, map, option_map, string_bytes, IfSome, IsSome};
+ghost use Rattle.relay_command.specs.Words.{number_within, pieces, command_of};
 ghost use Rattle.relay_command.specs.Told.{told};
 ghost use Rattle.relay_command.specs.Founds.{command_left};
 
-use crate::Command;
 use crate::found::Found;
 use crate::piece::first_piece;
+use crate::{Command, Mode};
 
 /// The command that words are behind those that were found.
 fn command_behind<'a>(found: Found<'a>, words: &'a [String]) -> Option<Command<'a>>
@@ -25,8 +25,12 @@ fn command_behind<'a>(found: Found<'a>, words: &'a [String]) -> Option<Command<'
 ///
 /// Each of `--mode run|trace|check|load`, `--net real|loop`, `--turns N` and `--cut N` may stand once, its value behind
 /// it or joined to it by `=`, before or behind the one word that names the script; behind `--` no word is an option.
+/// A load names its clients there, and runs over the network in memory.
 pub fn command_of(words: &[String]) -> Option<Command<'_>>
-    ensures { option_map told result ≡ command_of (map string_bytes words.now) }
+    ensures command { option_map told result ≡ command_of (map string_bytes words.now) }
+    ensures turns { IfSome result (λ c. (1 ≤ c.turns) × (c.turns ≤ 999999999999999999)) }
+    ensures cut { IfSome result (λ c. (1 ≤ c.cut) × (c.cut ≤ 4096)) }
+    ensures load { IfSome result (λ c. c.mode ≡ Mode.Load → IsSome (number_within 1 10000 c.script.now)) }
 {
     command_behind(Found::new(), words)
 }
