@@ -1,10 +1,8 @@
 -- A core, and the rules from the state that it stands for: nothing different is seen of the two.
-use Rattle.std.proofs.Common.{◌≡◌, ◌∙◌, ℕ, List, [], true, Option, Some, None, refl, sym, ap, subst}
+use Rattle.std.proofs.Common.{◌≡◌, ◌∙◌, ℕ, List, [], sym, ap, subst}
 use Rattle.rand_core.specs.Stream.{Stream}
-use Rattle.dill_calls.specs.declared.ran.LackPlace.{LackPlace}
 use Rattle.dill_calls.specs.Program.{Program, Begins}
-use Rattle.dill_chan.specs.Channels.{Channels, no_channels}
-use Rattle.dill_kernel.specs.declared.ready.Ready.{Ready}
+use Rattle.dill_chan.specs.Channels.{Channels}
 use Rattle.dill_rules.specs.Links.{Links, no_links}
 use Rattle.dill_rules.specs.Seen.{turn_seen}
 use Rattle.dill_rules.specs.State.{State, opening_state, expired, shut, woke}

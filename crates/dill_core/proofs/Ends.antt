@@ -1,5 +1,5 @@
 -- Once the root was closed a core goes on, and owes fewer turns after each.
-use Rattle.std.proofs.Common.{◌≡◌, ◌<◌, ◌≤◌, ◌^◌, ℕ, true, Option, None, sym, ap, subst}
+use Rattle.std.proofs.Common.{◌≡◌, ◌<◌, ◌≤◌, ◌^◌, true, Option, sym, subst}
 use Rattle.dill_calls.specs.declared.ran.LackPlace.{LackPlace}
 use Rattle.dill_calls.specs.Program.{Program}
 use Rattle.dill_kept.specs.Kept.{Kept, has_answer, kept_turn, kept_shut}

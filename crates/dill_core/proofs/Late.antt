@@ -1,12 +1,12 @@
 -- Passed deadlines, one after the other.
-use Rattle.std.proofs.Common.{◌≡◌, ◌∙◌, ℕ, ◌<◌, List, [], ◌∷◌, map, filter_map, ◌&&◌, Bool, true, false, Option, Some, None, IfSome, if◌then◌else◌, nat_le, refl, sym, ap}
+use Rattle.std.proofs.Common.{◌≡◌, ◌∙◌, ℕ, List, [], ◌∷◌, map, filter_map, ◌&&◌, Bool, true, false, Option, Some, None, IfSome, if◌then◌else◌, nat_le, refl, ap}
 use Rattle.std.specs.List.{list_all, cons_option}
 use Rattle.dill_calls.specs.declared.call.Call.{Call}
 use Rattle.dill_maps.specs.Maps.{if_some}
 use Rattle.dill_rules.specs.declared.coroutine.Coroutine.{Coroutine}
 use Rattle.dill_rules.specs.declared.coroutine.Mode.{Mode}
 use Rattle.dill_rules.specs.declared.coroutine.Mode.TheVariants as modes
-use Rattle.dill_rules.specs.Expiring.{Timer, due_of, timer_of, in_order, passed}
+use Rattle.dill_rules.specs.Expiring.{Timer, due_of, in_order, passed}
 use Rattle.dill_rules.specs.State.{lined_mode, lined}
 use Rattle.dill_rules.specs.World.{World, pending_call}
 use Rattle.dill_kept.specs.Well.{Numbered}

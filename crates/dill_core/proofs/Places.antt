@@ -3,7 +3,6 @@ use Rattle.std.proofs.Common.{◌≡◌, ◌∙◌, ℕ, ◌+◌, ◌≤◌, Lis
 use Rattle.std.specs.List.{remove}
 use Rattle.dill_calls.specs.Program.{Program}
 use Rattle.dill_scope.specs.Scopes as scopes
-use Rattle.dill_rules.specs.declared.coroutine.Coroutine.{Coroutine}
 use Rattle.dill_rules.specs.State.{lined, fresh}
 use Rattle.dill_rules.specs.World.{World, begin, from_start, opening}
 use Rattle.dill_kept.specs.Kept.{Kept, opening_kept, queued, has_answer}

@@ -1,5 +1,5 @@
 -- Who waits, one after the other, and that their numbers rise.
-use Rattle.std.proofs.Common.{◌≡◌, ◌∙◌, ℕ, ◌<◌, List, [], ◌∷◌, map, filter_map, find, cond, Bool, true, false, Option, Some, None, nat_lt, refl, sym, ap, subst, arith}
+use Rattle.std.proofs.Common.{◌≡◌, ℕ, ◌<◌, List, [], ◌∷◌, map, filter_map, find, cond, Bool, true, false, Option, Some, None, nat_lt, refl, arith}
 use Rattle.std.specs.Option.{option_map}
 use Rattle.std.specs.List.{cons_option}
 use Rattle.dill_calls.specs.declared.call.Call.{Call}

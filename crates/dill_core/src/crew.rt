@@ -60,6 +60,7 @@ fn make_room(ready: &mut Vec<u64>, count: usize) -> bool
     ensures items { ready.new.items ≡ ready.old.items }
     ensures capacity { vec_capacity ready.old ≤ vec_capacity ready.new }
     ensures room { result ≡ true → count + 1 ≤ vec_capacity ready.new }
+    ensures kept { count + 1 ≤ vec_capacity ready.old → result ≡ true }
 {
     let more = count.saturating_sub(ready.len()).saturating_add(1);
     let _ = ready.reserve(more);

@@ -1,9 +1,9 @@
-use Rattle.std.proofs.Common.{◌≡◌, ◌∙◌, ◌≤◌, length, vec_capacity, ℕ, arith, refl, sym, ap, subst}
+use Rattle.std.proofs.Common.{◌≡◌, ◌∙◌, length, vec_capacity, ℕ, arith, sym, ap, subst}
 use Rattle.dill_rules.specs.Settling.{settle}
 use Rattle.dill_rules.specs.World as world
 use Rattle.dill_rules.specs.World.{World}
 use Rattle.dill_scope.specs.Scopes as scopes
-use Rattle.dill_kept.specs.Kept.{Kept, queued}
+use Rattle.dill_kept.specs.Kept.{queued}
 use Rattle.dill_debts.specs.Closing.{IsStable}
 use Rattle.dill_world.specs.Store.{Store, world_of}
 use Rattle.dill_core.specs.Holding.{Holding, kept_of}

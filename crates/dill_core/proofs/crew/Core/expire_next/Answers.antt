@@ -1,4 +1,4 @@
-use Rattle.std.proofs.Common.{◌≡◌, ◌∙◌, ◌∷◌, ℕ, List, length, vec_capacity, arith, sym, ap, subst}
+use Rattle.std.proofs.Common.{◌≡◌, ◌∙◌, ◌∷◌, vec_capacity, arith, ap, subst}
 use Rattle.dill_rules.specs.Expiring.{expire_one, passed}
 use Rattle.dill_rules.specs.World.{World}
 use Rattle.dill_kept.specs.Kept.{Kept}

@@ -1,4 +1,4 @@
-use Rattle.std.proofs.Common.{◌≡◌, ◌∙◌, ap, subst}
+use Rattle.std.proofs.Common.{◌∙◌, ap, subst}
 use Rattle.dill_rules.specs.Waiting.{waiters}
 use Rattle.dill_kept.specs.Kept.{kept_waiting}
 use Rattle.dill_drive.specs.Waiting.{next_above, Rises}
