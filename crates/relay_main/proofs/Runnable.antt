@@ -59,7 +59,7 @@ runs within formed mains built text script e =
     (and_true (list_all takes_its script) (all_say is_formed script && all_say says_plain script) (mains is_built_so_far text script e)
     (and_true (all_say is_formed script) (all_say says_plain script) (formed is_built_so_far text script e)
     (all_more (λ program. list_all (says_built is_built_so_far) program.statements) (λ program. list_all says_plain program.statements)
-      (λ program. all_more (says_built is_built_so_far) says_plain statement_plain program.statements) script (built is_built_so_far text script e)))))
+    (λ program. all_more (says_built is_built_so_far) says_plain statement_plain program.statements) script (built is_built_so_far text script e)))))
 
 -- and begins at its `main`
 pub begins : MainBegins → (script : List Program) → is_runnable script ≡ true → Begins running (main_of script)

@@ -1,8 +1,7 @@
 use dill_base::Address;
 use dill_kernel::{Finished, Flow, Kernel, KernelFault, Limit, Made, ReadyList};
-use std::io;
-use std::thread;
 use std::time::{Clock, Duration, Instant};
+use std::{io, thread};
 
 /// The system's clock, and no network. Moments are milliseconds since it was made. It tells nothing, and keeps its count.
 #[derive(Drop)]
