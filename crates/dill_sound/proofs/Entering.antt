@@ -1,7 +1,7 @@
 -- Each plain call that is entered keeps a world in order.
-use Rattle.std.proofs.Common.{◌≡◌, ◌∙◌, ℕ, suc, ◌+◌, ◌<◌, ◌≤◌, ◌==◌, List, [], ◌∷◌, ◌++◌, length, find, Bool, true, false, not, ◌&&◌, ◌||◌, cond, ◌⊎◌, inl, inr, Option, Some, None, if◌then◌else◌, refl, sym, ap, subst, arith}
-use Rattle.std.specs.Prelude.{is_some, is_none, nat_le, option_to_list}
-use Rattle.std.specs.List.{list_all, list_any}
+use Rattle.std.proofs.Common.{◌≡◌, ◌∙◌, ℕ, ◌+◌, ◌<◌, ◌≤◌, ◌==◌, List, [], ◌∷◌, ◌++◌, length, find, Bool, true, false, not, ◌&&◌, ◌||◌, cond, inl, inr, Option, Some, None, if◌then◌else◌, refl, sym, ap, subst, arith}
+use Rattle.std.specs.Prelude.{is_some, is_none, nat_le}
+use Rattle.std.specs.List.{list_any}
 use Rattle.std.proofs.lemmas.Bool.Decides.{nat_tests}
 use Rattle.std.proofs.lemmas.List.Folds.{list_any-append}
 use Rattle.dill_base.specs.declared.errno.Errno.{Errno}
@@ -36,22 +36,20 @@ use Rattle.dill_rules.specs.Effects.{told, make, add_bundle, close_thing, bear, 
 use Rattle.dill_rules.specs.Entering.{keep_for, perform, is_too_late, late_answer, meet_deadline, done, enter}
 use Rattle.dill_rules.specs.Kinds.{value_of, is_dead, names_dead}
 use Rattle.dill_rules.specs.Naming.{gifts_of, draws_of, taken_by, bears, links}
-use Rattle.dill_rules.specs.Owning.{entry_of, move, release, close_bundle}
-use Rattle.dill_rules.specs.Refusals.{holds, holds_of_itself, refuse, order, giving_order, is_refused_by_stack, is_in_use, is_closed_bundle, is_short, has_no_coroutine, has_no_link}
+use Rattle.dill_rules.specs.Owning.{entry_of, move, release}
+use Rattle.dill_rules.specs.Refusals.{holds, holds_of_itself, refuse, order, giving_order, is_refused_by_stack, is_in_use, is_closed_bundle, has_no_coroutine, has_no_link}
 use Rattle.dill_rules.specs.Taking.{bundle_of, bundle_named, cannot_take, is_within, is_held_back, is_awaited, is_cancelled_taker, is_occupied, bears_inside, lives_inside}
-use Rattle.dill_rules.specs.World.{World, is_coroutine, coroutine_of, call_of, with_mode, set_mode, reply, pend, pending_call, is_ending}
+use Rattle.dill_rules.specs.World.{World, is_coroutine, coroutine_of, call_of, reply, pend, pending_call, is_ending}
 use Rattle.dill_kept.specs.Well.{is_at}
 use Rattle.dill_kept.proofs.Crew.{move_crew, release_crew, give_all_crew}
 use Rattle.dill_sound.specs.Order.{closes, is_there, FitsTogether, IsInOrder}
 use Rattle.dill_sound.proofs.Coming.{newborn}
 use Rattle.dill_sound.proofs.Counting.{found_push, pushed_found}
-use Rattle.dill_sound.proofs.Crews.{change_here}
 use Rattle.dill_sound.proofs.Fitting.{next_is_new, has_number, fits_keep}
-use Rattle.dill_sound.proofs.Gifts.{Outside, born_given, order_given}
+use Rattle.dill_sound.proofs.Gifts.{born_given, order_given}
 use Rattle.dill_sound.proofs.Going.{found_there}
 use Rattle.dill_sound.proofs.Handing.{equal, unequal, same_number, live}
 use Rattle.dill_sound.proofs.Leaving.{order_born}
-use Rattle.dill_sound.proofs.Lists.{both}
 use Rattle.dill_sound.proofs.Nearly.{is_free}
 use Rattle.dill_sound.proofs.Ordering.{order_set, order_reply, order_keep, order_make, order_add_bundle, order_move, order_release, free_closes}
 use Rattle.dill_sound.proofs.Owners.{new_is_free, bundle_new, owned_known}

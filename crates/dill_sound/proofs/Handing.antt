@@ -1,6 +1,6 @@
 -- New handles, handles that get another number and owner, and handles that are released: what keeps a world fitting together.
-use Rattle.std.proofs.Common.{◌≡◌, ◌∙◌, ℕ, ◌+◌, ◌-◌, ◌<◌, ◌≤◌, ◌==◌, List, [], ◌∷◌, ◌++◌, length, map, find, filter_map, Bool, true, false, not, ◌&&◌, cond, Option, Some, None, refl, sym, ap, subst, arith}
-use Rattle.std.specs.Prelude.{is_some, is_none, nat_le, All}
+use Rattle.std.proofs.Common.{◌≡◌, ◌∙◌, ℕ, ◌+◌, ◌<◌, ◌≤◌, ◌==◌, List, [], ◌∷◌, ◌++◌, find, Bool, true, false, not, Some, None, refl, sym, ap, subst, arith}
+use Rattle.std.specs.Prelude.{is_some, nat_le}
 use Rattle.std.specs.List.{list_all}
 use Rattle.std.proofs.lemmas.Bool.Decides.{nat_tests}
 use Rattle.std.proofs.lemmas.List.Elements.{All-push, All-weaker}
@@ -9,11 +9,8 @@ use Rattle.dill_handles.specs.declared.entry.Entry.{Entry}
 use Rattle.dill_scope.specs.declared.forest.Bundle.{Bundle}
 use Rattle.dill_scope.specs.Scopes as scopes
 use Rattle.dill_scope.specs.Scopes.{Scopes, owner_of}
-use Rattle.dill_scope.specs.Forest.{Inside}
 use Rattle.dill_scope.proofs.Growing.{bundle_keeps}
-use Rattle.dill_scope.proofs.Numbered.{found_number, change_numbers}
-use Rattle.dill_scope.proofs.Taking.{take_keeps}
-use Rattle.dill_maps.specs.Maps.{if_some, change, without}
+use Rattle.dill_maps.specs.Maps.{if_some, without}
 use Rattle.dill_rules.specs.declared.coroutine.Closing.{Closing}
 use Rattle.dill_rules.specs.declared.thing.Thing.{Thing}
 use Rattle.dill_rules.specs.declared.thing.Thing.TheVariants as things
@@ -21,13 +18,13 @@ use Rattle.dill_rules.specs.Owning.{entry_of}
 use Rattle.dill_rules.specs.Taking.{bundle_of}
 use Rattle.dill_rules.specs.World.{World}
 use Rattle.dill_rules.specs.Effects.{make, add_bundle}
-use Rattle.dill_kept.specs.Well.{bit, occurs}
-use Rattle.dill_kept.proofs.Lists.{all_found, all_without}
-use Rattle.dill_sound.specs.Order.{is_there, has_bundle, times_named, times_used, is_held, FitsTogether}
-use Rattle.dill_sound.proofs.Counting.{weigh, holds, weigh_push, weigh_found, weigh_without, length_without, length_push, weightless, weightless_none, weighs_found, heavy_found, used_more, all_push}
-use Rattle.dill_sound.proofs.Fitting.{names_it, closes_it, has_number, died_as, used, named, used_is, named_is, held_by, held_follow, there_is}
+use Rattle.dill_kept.specs.Well.{bit}
+use Rattle.dill_kept.proofs.Lists.{all_found}
+use Rattle.dill_sound.specs.Order.{is_there, has_bundle, is_held, FitsTogether}
+use Rattle.dill_sound.proofs.Counting.{weigh, holds, weigh_push, weigh_found, weigh_without, length_push, weightless, used_more, all_push}
+use Rattle.dill_sound.proofs.Fitting.{names_it, closes_it, has_number, used, named, used_is, named_is, held_follow, there_is}
 use Rattle.dill_sound.proofs.Lists.{both, join}
-use Rattle.dill_sound.proofs.Owners.{owns_is, new_is_free, bundle_other, bundle_new, take_other, take_here, owned_same}
+use Rattle.dill_sound.proofs.Owners.{owns_is, new_is_free, bundle_other, bundle_new}
 use Rattle.dill_sound.proofs.Sound.{owner_is}
 
 pub same_number : (n : ℕ) → (n == n) ≡ true

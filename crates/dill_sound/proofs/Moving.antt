@@ -1,18 +1,13 @@
 -- Handles that get another number and owner, or that are released, bundles that begin to close or are gone: what keeps a world fitting together.
-use Rattle.std.proofs.Common.{◌≡◌, ◌∙◌, ℕ, ◌+◌, ◌-◌, ◌<◌, ◌≤◌, ◌==◌, List, [], ◌∷◌, ◌++◌, length, map, find, filter_map, Bool, true, false, not, ◌&&◌, cond, Option, Some, None, refl, sym, ap, subst, arith}
-use Rattle.std.specs.Prelude.{is_some, is_none, nat_le, All}
+use Rattle.std.proofs.Common.{◌≡◌, ◌∙◌, ℕ, ◌+◌, ◌-◌, ◌<◌, ◌≤◌, ◌==◌, List, [], ◌∷◌, ◌++◌, length, map, find, filter_map, Bool, true, false, ◌&&◌, cond, Option, Some, None, refl, sym, ap, subst, arith}
+use Rattle.std.specs.Prelude.{is_some, nat_le, All}
 use Rattle.std.specs.List.{list_all}
-use Rattle.std.proofs.lemmas.Bool.Decides.{nat_tests}
-use Rattle.std.proofs.lemmas.List.{map-append}
 use Rattle.std.proofs.lemmas.List.Elements.{All-cons, All-head, All-tail}
-use Rattle.dill_calls.specs.declared.ran.Note.{Note}
-use Rattle.dill_calls.specs.declared.ran.Note.TheVariants.{Moved, Freed}
 use Rattle.dill_handles.specs.Handles as handles
 use Rattle.dill_handles.specs.declared.entry.Entry.{Entry}
 use Rattle.dill_scope.specs.declared.forest.Bundle.{Bundle}
 use Rattle.dill_scope.specs.Scopes as scopes
 use Rattle.dill_scope.specs.Scopes.{Scopes, is_bundle, owner_of, is_empty}
-use Rattle.dill_scope.specs.Keeping.{IsNewBundle}
 use Rattle.dill_scope.specs.Forest.{Inside}
 use Rattle.dill_scope.proofs.Leaving.{drop_keeps}
 use Rattle.dill_scope.proofs.Numbered.{found_number}
@@ -22,18 +17,17 @@ use Rattle.dill_maps.specs.Maps.{if_some, change, without}
 use Rattle.dill_rules.specs.declared.coroutine.Closing.{Closing}
 use Rattle.dill_rules.specs.declared.thing.Thing.{Thing}
 use Rattle.dill_rules.specs.declared.thing.Thing.TheVariants as things
-use Rattle.dill_rules.specs.Owning.{entry_of, take_thing, move, drop, release, close_bundle, free_bundle}
+use Rattle.dill_rules.specs.Owning.{entry_of, close_bundle}
 use Rattle.dill_rules.specs.Taking.{bundle_of}
-use Rattle.dill_rules.specs.World.{World, note}
+use Rattle.dill_rules.specs.World.{World}
 use Rattle.dill_kept.specs.Well.{bit, occurs}
-use Rattle.dill_kept.proofs.Lists.{all_found, all_without}
-use Rattle.dill_sound.specs.Order.{is_there, has_bundle, times_named, times_used, is_held, FitsTogether}
-use Rattle.dill_sound.proofs.Counting.{weigh, holds, weigh_push, weigh_found, weigh_without, length_without, length_push, none_without, none_left, others_left, small_bit, weightless, weightless_none, weighs_found, heavy_found, all_push}
-use Rattle.dill_sound.proofs.Fitting.{names_it, closes_it, has_number, died_as, used, named, used_is, named_is, held_by, held_follow, there_is, fits_anyway}
-use Rattle.dill_sound.proofs.Handing.{same_number, unequal, equal, tell, renumber_used, renumber_named, thing_names, Live, live}
-use Rattle.dill_sound.proofs.Lists.{both, join, all_follow}
-use Rattle.dill_sound.proofs.Owners.{owns_is, take_other, take_here, close_same, drop_other, drop_here, shut_other, shut_here, owned_no_root, owned_same}
-use Rattle.dill_sound.proofs.Sound.{owner_is}
+use Rattle.dill_kept.proofs.Lists.{all_without}
+use Rattle.dill_sound.specs.Order.{is_there, has_bundle, is_held, FitsTogether}
+use Rattle.dill_sound.proofs.Counting.{weigh, holds, weigh_push, weigh_found, weigh_without, length_without, length_push, none_left, others_left, small_bit, weightless, all_push}
+use Rattle.dill_sound.proofs.Fitting.{names_it, closes_it, has_number, died_as, named, used_is, named_is, held_by, held_follow, there_is}
+use Rattle.dill_sound.proofs.Handing.{unequal, equal, tell, renumber_used, renumber_named, live}
+use Rattle.dill_sound.proofs.Lists.{join, all_follow}
+use Rattle.dill_sound.proofs.Owners.{owns_is, take_other, take_here, close_same, drop_other, drop_here, shut_other, shut_here, owned_same}
 
 -- names stay below a bound as bundles change and go
 module _ (high : ℕ) where
