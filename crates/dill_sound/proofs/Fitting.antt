@@ -85,6 +85,7 @@ module _ {V : Type 0} where
     room = f.room;
     numbers = f.numbers;
     names = f.names;
+    kinds = f.kinds;
     held = f.held;
   }
 
@@ -104,6 +105,7 @@ module _ {V : Type 0} where
     room = f.room;
     numbers = f.numbers;
     names = f.names;
+    kinds = f.kinds;
     held = all_follow (is_held w) (is_held (record w { coroutines = ds })) w.handles.entries (λ x g. ap (λ b. b && if_some (bundle_of x.thing) true (has_bundle w x.owner)) (there_same w.coroutines ds x.owner e) ∙ g) f.held;
   }
 
@@ -125,6 +127,7 @@ module _ {V : Type 0} where
     room = omega (arith, l);
     numbers = f.numbers;
     names = f.names;
+    kinds = f.kinds;
     held = f.held;
   }
 

@@ -29,7 +29,7 @@ use Rattle.dill_rules.specs.World.{World, Place, is_coroutine, coroutine_of, wit
 use Rattle.dill_rules.specs.Effects.{make, add_bundle}
 use Rattle.dill_kept.specs.Well.{bit, is_at}
 use Rattle.dill_kept.proofs.Lists.{all_found, all_without}
-use Rattle.dill_sound.specs.Order.{closes, waits_for, is_there, has_bundle, is_kept_open, has_waiter, has_closing, FitsTogether, IsInOrder}
+use Rattle.dill_sound.specs.Order.{closes, waits_for, is_there, has_bundle, is_kept_open, has_waiter, has_closing, FitsTogether, IsInOrder, is_proper_thing}
 use Rattle.dill_sound.proofs.Counting.{weigh, weightless, all_push}
 use Rattle.dill_sound.proofs.Crews.{change_here}
 use Rattle.dill_sound.proofs.Fitting.{closes_it, has_number, named, named_is, fits_anyway}
@@ -144,10 +144,10 @@ module _ {V : Type 0} where
   pub order_keep : (w : World V) (count : ℕ) → FitsTogether (record w { handles = handles.keep w.handles count }) → IsInOrder w → IsInOrder (record w { handles = handles.keep w.handles count })
   order_keep w count fits o = record { fits = fits; closings = o.closings; waiters = o.waiters; endings = o.endings }
 
-  pub order_make : (w : World V) (thing : Thing) (who : ℕ) → bundle_of thing ≡ None → is_there w who ≡ true → 1 ≤ w.handles.kept → IsInOrder w → IsInOrder (make w thing who)
-  order_make w thing who none there kept o =
+  pub order_make : (w : World V) (thing : Thing) (who : ℕ) → bundle_of thing ≡ None → is_proper_thing thing ≡ true → is_there w who ≡ true → 1 ≤ w.handles.kept → IsInOrder w → IsInOrder (make w thing who)
+  order_make w thing who none proper there kept o =
       let y : Entry Thing = record { number = handles.next_number w.handles; thing = thing; owner = who } in
-      order_with w (handles.make w.handles thing who) w.scopes w.last_bundle (λ x. true) o (fits_make w thing who none there kept o.fits) (all_true w.closings) (λ x e. refl)
+      order_with w (handles.make w.handles thing who) w.scopes w.last_bundle (λ x. true) o (fits_make w thing who none proper there kept o.fits) (all_true w.closings) (λ x e. refl)
       (all_push (is_kept_open w) w.handles.entries y o.endings (ap (λ p. if_some p true (λ name. not (is_at is_ending w.coroutines who))) none))
 
   pub order_add_bundle : (w : World V) (who : ℕ) → is_there w who ≡ true → is_at is_ending w.coroutines who ≡ false → 1 ≤ w.handles.kept → IsInOrder w → IsInOrder (add_bundle w who)

@@ -183,6 +183,7 @@ module _ {V : Type 0} where
       numbers = λ number. omega arith;
       names = λ name. opening_free (0 == name) (record { name = 0; owner = None; closing = false }) refl;
       held = refl;
+      kinds = refl;
     };
     closings = refl;
     waiters = refl;
