@@ -58,7 +58,7 @@ use Rattle.dill_sound.proofs.Sound.{same_there}
 
 -- ---- what a call isn't refused for
 
-or_nots : (a b : Bool) → (a || b) ≡ false → (a ≡ false) × (b ≡ false)
+pub or_nots : (a b : Bool) → (a || b) ≡ false → (a ≡ false) × (b ≡ false)
 or_nots true b e = cc
 or_nots false b e = (refl, e)
 
@@ -96,13 +96,13 @@ unrefused f false e =
 
 module _ {V : Type 0} (p : Program V) where
   -- what a call that isn't refused may do
-  record May (w : World V) (who : ℕ) (view : V) (call : Call) : Type 0 where
-    room : length w.handles.entries + w.handles.kept + draws_of call ≤ 65536
-    takes : list_any (cannot_take w who call) (taken_by call) ≡ false
-    alive : names_dead w call ≡ false
-    other : names_other w call ≡ false
-    valid : is_invalid p view call ≡ false
-    crew : (bears (word_of call) && has_no_coroutine w) ≡ false
+  pub record May (w : World V) (who : ℕ) (view : V) (call : Call) : Type 0 where
+    pub room : length w.handles.entries + w.handles.kept + draws_of call ≤ 65536
+    pub takes : list_any (cannot_take w who call) (taken_by call) ≡ false
+    pub alive : names_dead w call ≡ false
+    pub other : names_other w call ≡ false
+    pub valid : is_invalid p view call ≡ false
+    pub crew : (bears (word_of call) && has_no_coroutine w) ≡ false
 
   room_is : (h : handles.Handles Thing) (count : ℕ) → not (handles.has_room h count) ≡ false → length h.entries + h.kept + count ≤ 65536
   room_is h count e = at (nat_le (length h.entries + h.kept + count) 65536) refl e
@@ -111,7 +111,7 @@ module _ {V : Type 0} (p : Program V) where
       at true f g = grind (arith, nat_tests)
       at false f g = cc
 
-  may : (w : World V) (who : ℕ) (view : V) (call : Call) → refuse p w who view call ≡ None → May w who view call
+  pub may : (w : World V) (who : ℕ) (view : V) (call : Call) → refuse p w who view call ≡ None → May w who view call
   may w who view call e =
       let u = unrefused (holds p w who view call) (gives_up (word_of call)) e in
       let short = (or_nots (holds_of_itself p w who view call errnos.Emfile) (is_refused_by_stack w call errnos.Emfile) u.short).0 in
