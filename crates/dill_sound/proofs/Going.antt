@@ -111,7 +111,7 @@ none_when : (b : Bool) (answer : Answer) → when b answer ≡ None → b ≡ fa
 none_when true answer e = cc
 none_when false answer e = refl
 
-or_none : {A : Type 0} (o p : Option A) → option_or o p ≡ None → (o ≡ None) × (p ≡ None)
+pub or_none : {A : Type 0} (o p : Option A) → option_or o p ≡ None → (o ≡ None) × (p ≡ None)
 or_none None p e = (refl, e)
 or_none (Some a) p e = cc
 

@@ -144,10 +144,13 @@ module _ {V : Type 0} (p : Program V) where
       at true = ended
       at false = ended
 
+  -- the coroutine of a turn goes on from its answer
+  pub order_go_on : (lack : Option LackPlace) (w : World V) (who : ℕ) (c : Coroutine V) → IsInOrder w → coroutine_of w who ≡ Some c → is_answered c.mode ≡ true → MovesPlain (move_of p w who c.body) → IsInOrder (go_on p lack (begin w) who c.body)
+  order_go_on lack w who c o e a m = from_move lack (begin w) who c (p.short c.body (answer_given (begin w) who).1) (move_of p (begin w) who c.body) (order_begin w o) e a m
+
+  -- a turn goes on, and then the world settles
+  pub turn_is : (lack : Option LackPlace) (w : World V) (who : ℕ) (c : Coroutine V) → coroutine_of w who ≡ Some c → settle (go_on p lack (begin w) who c.body) ≡ turn p lack w who
+  turn_is lack w who c e = sym (ap (λ q. if_some q w (λ d. settle (go_on p lack (begin w) who d.body))) e)
+
   pub order_turn : (lack : Option LackPlace) (w : World V) (who : ℕ) (c : Coroutine V) → IsPlain w → IsInOrder w → coroutine_of w who ≡ Some c → is_answered c.mode ≡ true → MovesPlain (move_of p w who c.body) → IsInOrder (turn p lack w who)
-  order_turn lack w who c plain o e a m =
-      let b = begin w in
-      let moved = go_on p lack b who c.body in
-      let after : IsInOrder moved = from_move lack b who c (p.short c.body (answer_given b who).1) (move_of p b who c.body) (order_begin w o) e a m in
-      let is : settle moved ≡ turn p lack w who = sym (ap (λ q. if_some q w (λ d. settle (go_on p lack (begin w) who d.body))) e) in
-      subst IsInOrder is (order_settle moved (go_on_plain p lack b who c.body m (begin_plain w plain)) after)
+  order_turn lack w who c plain o e a m = subst IsInOrder (turn_is lack w who c e) (order_settle (go_on p lack (begin w) who c.body) (go_on_plain p lack (begin w) who c.body m (begin_plain w plain)) (order_go_on lack w who c o e a m))

@@ -232,7 +232,7 @@ lined_waits number modes.Running = refl
 lined_waits number (modes.Answered word answer) = refl
 lined_waits number (modes.Ending outcome) = refl
 
-lined_ends : (mode : Mode) → is_ending (lined_mode mode) ≡ is_ending mode
+pub lined_ends : (mode : Mode) → is_ending (lined_mode mode) ≡ is_ending mode
 lined_ends (modes.Fresh word answer) = refl
 lined_ends (modes.Pending call) = refl
 lined_ends modes.Running = refl

@@ -19,3 +19,4 @@ pub mod Entering
 pub mod Keeping
 pub mod Stepping
 pub mod Resting
+pub mod Calming

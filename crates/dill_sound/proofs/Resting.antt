@@ -274,13 +274,8 @@ module _ {V : Type 0} (p : Program V) where
       at true = still_end (resume w who new) who outcome (resumed_almost who new w.coroutines s)
       at false = still_end (resume w who new) who outcome (resumed_almost who new w.coroutines s)
 
-  pub still_turn : (lack : Option LackPlace) (w : World V) (who : ℕ) (c : Coroutine V) → IsPlain w → list_all is_proper w.handles.entries ≡ true → coroutine_of w who ≡ Some c → MovesPlain (move_of p w who c.body) → Still w.coroutines → Still (turn p lack w who).coroutines
-  still_turn lack w who c plain proper e m s =
-      let b = begin w in
-      let moved = go_on p lack b who c.body in
-      let after : Still moved.coroutines = still_move lack b who (p.short c.body (answer_given b who).1) (move_of p b who c.body) m plain.things proper s in
-      let is : settle moved ≡ turn p lack w who = sym (ap (λ q. if_some q w (λ d. settle (go_on p lack (begin w) who d.body))) e) in
-      subst (λ v. Still v.coroutines) is (still_settle moved (go_on_plain p lack b who c.body m (begin_plain w plain)) after)
+  pub still_go_on : (lack : Option LackPlace) (w : World V) (who : ℕ) (view : V) → list_all is_plain_entry w.handles.entries ≡ true → list_all is_proper w.handles.entries ≡ true → MovesPlain (move_of p w who view) → Still w.coroutines → Still (go_on p lack (begin w) who view).coroutines
+  still_go_on lack w who view plain proper m s = still_move lack (begin w) who (p.short view (answer_given (begin w) who).1) (move_of p (begin w) who view) m plain proper s
 
 lined_rests : (mode : Mode) → is_still mode ≡ true → is_resting (lined_mode mode) ≡ true
 lined_rests (modes.Fresh word answer) e = refl

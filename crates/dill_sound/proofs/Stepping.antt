@@ -49,7 +49,7 @@ use Rattle.dill_sound.proofs.Ordering.{order_anyway, order_closed}
 timed_open : (call : Call) (number : ℕ) → is_some (due_of call) ≡ true → call ≡ calls.Hclose number → ⊥
 timed_open call number e f = let bad : is_some (due_of (calls.Hclose number)) ≡ true = ap (λ c. is_some (due_of c)) (sym f) ∙ e in cc
 
-lined_pending : (mode : Mode) → pending_call (lined_mode mode) ≡ pending_call mode
+pub lined_pending : (mode : Mode) → pending_call (lined_mode mode) ≡ pending_call mode
 lined_pending (modes.Fresh word answer) = refl
 lined_pending (modes.Pending call) = refl
 lined_pending modes.Running = refl
@@ -126,7 +126,7 @@ module _ {V : Type 0} where
       at (Some call) e f = let c = found_call w who call e in order_give w who call (late_answer call) c.0 o (call_waits w who call plain e) c.1 c.2 (λ number s. absurd (timed_open call number f s))
 
   -- who has a passed deadline has one
-  passed_timed : (w : World V) → IsInOrder w → list_all (is_timed w) (passed w) ≡ true
+  pub passed_timed : (w : World V) → IsInOrder w → list_all (is_timed w) (passed w) ≡ true
   passed_timed w o = list_all-map (is_timed w) (λ (x : Timer). x.who) (in_order (filter_map late w.coroutines)) ∙ in_order_all (λ x. is_timed w x.who) (filter_map late w.coroutines) (given_all (λ x. is_timed w x.who) late w.coroutines (all_by_number (λ c. if_some (late c) true (λ x. is_timed w x.who)) w.coroutines 0 w.last_coroutine o.fits.numbered (λ c e. by c e (pending_call c.mode) refl)))
     where
       late : Coroutine V → Option Timer
@@ -155,7 +155,7 @@ module _ {V : Type 0} where
   order_queued : (w : World V) (ready : List ℕ) (early : ℕ) → IsInOrder w → IsInOrder (queued w ready early).world
   order_queued w ready early o = order_lined w o
 
-  order_root_closed : (w : World V) → IsInOrder w → IsInOrder (root_closed w)
+  pub order_root_closed : (w : World V) → IsInOrder w → IsInOrder (root_closed w)
   order_root_closed w o =
       let closed = order_closed w 0 o in
       order_anyway (record w { scopes = scopes.close w.scopes 0 }) w.channels w.links at_start [] w.words w.moment [] closed

@@ -35,6 +35,11 @@ is_resting _ = false
 abbrev pub IsAtRest : {V : Type 0} → World V → Type 0
 IsAtRest w = list_all (λ c. is_resting c.mode) w.coroutines ≡ true
 
+-- between two steps all are at rest, and nothing is due
+pub record Rests {V : Type 0} (w : World V) : Type 0 where
+  pub rest : IsAtRest w
+  pub settled : IsSettled w
+
 -- what it is pending in has a deadline, if it is pending
 abbrev pub is_timed : {V : Type 0} → World V → ℕ → Bool
 is_timed w who = if_some (call_of w who) true (λ call. is_some (due_of call))
@@ -52,6 +57,20 @@ pub record KeepsOrder {V : Type 0} (p : Program V) : Type 0 where
 
 abbrev pub StepsKeepOrder : {V : Type 0} → Program V → Type 0
 StepsKeepOrder p = IsLawful p → MakesPlain p → KeepsOrder p
+
+-- so each step leads from rest to rest; after an expiry something may be due until the world settles
+pub record KeepsRest {V : Type 0} (p : Program V) : Type 0 where
+  pub opening : (view : V) → Rests (opening_kept view).world
+  pub turned : (k : Kept V) (lack : Option LackPlace) → IsWell p k → IsInOrder k.world → Rests k.world → Rests (kept_turn p lack k).world
+  pub started : (k : Kept V) → IsWell p k → Rests k.world → Rests (begin k.world)
+  pub expires : (k : Kept V) (who : ℕ) → IsWell p k → IsAtRest k.world → IsAtRest (kept_expire_next k who).world
+  pub settled : (k : Kept V) → IsWell p k → IsAtRest k.world → Rests (queued (settle k.world) k.ready k.early).world
+  pub expired : (k : Kept V) → IsWell p k → IsAtRest k.world → Rests (kept_expired k).world
+  pub shut : (k : Kept V) → IsWell p k → IsAtRest k.world → Rests (kept_shut k).world
+  pub woke : (k : Kept V) (told : ℕ) (ready : List Ready) → IsWell p k → Rests k.world → Rests (kept_woke k told ready).world
+
+abbrev pub StepsKeepRest : {V : Type 0} → Program V → Type 0
+StepsKeepRest p = IsLawful p → MakesPlain p → KeepsRest p
 
 -- a world in order is sound
 abbrev pub OrderIsSound : (V : Type 0) → Type 0
