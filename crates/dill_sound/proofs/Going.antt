@@ -264,9 +264,9 @@ module _ {V : Type 0} where
           next r.who (omega (arith, l)) (climb w.scopes 0 r.who low.name who d r.home other low.owned ∙ f) (under who (parent_is w.scopes r.who low.name who r.home low.owned) i) r.there
 
 pub closing_goes_on : (V : Type 0) → GoesOn V
-closing_goes_on V w name order plain rests e lived =
+closing_goes_on V w name order plain settled rest e lived =
     let r = resident w name order.fits lived in
-    deeper w name (record { order = order; plain = plain; settled = rests.settled; rest = rests.rest }) e (length w.scopes.homes) 0 r.who (omega arith) refl (lives r.home) r.there
+    deeper w name (record { order = order; plain = plain; settled = settled; rest = rest }) e (length w.scopes.homes) 0 r.who (omega arith) refl (lives r.home) r.there
 
 queued_one : (ready : List ℕ) (who : ℕ) → occurs who ready ≡ 1 → has_answer ready ≡ true
 queued_one [] who e = absurd (omega arith)
@@ -276,7 +276,7 @@ main_there : {V : Type 0} (w : World V) → FitsTogether w → w.ended ≡ None 
 main_there w fits e = sym fits.main ∙ ap is_none e
 
 pub root_goes_on : {V : Type 0} (p : Program V) → RootGoesOn p
-root_goes_on p k well order rests e lives_on =
+root_goes_on p k well order settled rest e lives_on =
     let there = main_there k.world order.fits lives_on in
-    let one = deeper k.world 0 (record { order = order; plain = well.plain; settled = rests.settled; rest = rests.rest }) e (length k.world.scopes.homes) 0 1 (omega arith) refl (there_inside k.world 1 order.fits there) there in
+    let one = deeper k.world 0 (record { order = order; plain = well.plain; settled = settled; rest = rest }) e (length k.world.scopes.homes) 0 1 (omega arith) refl (there_inside k.world 1 order.fits there) there in
     queued_one k.ready one.who (well.queue.once one.who ∙ ap bit one.answered)

@@ -86,10 +86,10 @@ pub record HasGoing {V : Type 0} (w : World V) (name : ℕ) : Type 0 where
   pub inside : Inside w.scopes name who
   pub answered : is_at is_answered w.coroutines who ≡ true
 
--- where a bundle is closing in which somebody lives, somebody inside it has an answer
+-- where a bundle is closing in which somebody lives, somebody inside it has an answer once nothing is due
 abbrev pub GoesOn : (V : Type 0) → Type 0
-GoesOn V = (w : World V) (name : ℕ) → IsInOrder w → IsPlain w → Rests w → is_closing w.scopes name ≡ true → is_empty w.scopes name ≡ false → HasGoing w name
+GoesOn V = (w : World V) (name : ℕ) → IsInOrder w → IsPlain w → IsSettled w → IsAtRest w → is_closing w.scopes name ≡ true → is_empty w.scopes name ≡ false → HasGoing w name
 
 -- where the root is closing and `main` hasn't ended, somebody is queued
 abbrev pub RootGoesOn : {V : Type 0} → Program V → Type 0
-RootGoesOn {V} p = (k : Kept V) → IsWell p k → IsInOrder k.world → Rests k.world → is_closing k.world.scopes 0 ≡ true → k.world.ended ≡ None → has_answer k.ready ≡ true
+RootGoesOn {V} p = (k : Kept V) → IsWell p k → IsInOrder k.world → IsSettled k.world → IsAtRest k.world → is_closing k.world.scopes 0 ≡ true → k.world.ended ≡ None → has_answer k.ready ≡ true
