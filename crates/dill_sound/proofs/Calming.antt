@@ -21,10 +21,10 @@ use Rattle.dill_rules.specs.Hearing.{heat_ready}
 use Rattle.dill_rules.specs.Links.{Links}
 use Rattle.dill_rules.specs.Settling.{can_finish, is_clear, answer_due, settle}
 use Rattle.dill_rules.specs.State.{lined}
-use Rattle.dill_rules.specs.Turning.{turn, go_on, move_of, answer_given}
-use Rattle.dill_rules.specs.World.{World, Place, at_start, begin, pending_call, is_ending}
+use Rattle.dill_rules.specs.Turning.{go_on, move_of, answer_given}
+use Rattle.dill_rules.specs.World.{World, Place, at_start, begin, pending_call}
 use Rattle.dill_kept.specs.Kept.{Kept, opening_kept, queued, turn_first, kept_turn, kept_expire_next, kept_late, kept_expired, kept_shut, kept_woke}
-use Rattle.dill_kept.specs.Laws.{MayTurn, KeepsWell}
+use Rattle.dill_kept.specs.Laws.{KeepsWell}
 use Rattle.dill_kept.specs.Plain.{may_wait, waits_plainly, IsPlain}
 use Rattle.dill_kept.specs.Settled.{IsSettled}
 use Rattle.dill_kept.specs.Well.{Numbered, IsWell}
@@ -33,7 +33,7 @@ use Rattle.dill_kept.proofs.Plainly.{begin_plain}
 use Rattle.dill_kept.proofs.Settling.{settles_all}
 use Rattle.dill_kept.proofs.Steps.{settle_plain}
 use Rattle.dill_kept.proofs.Turns.{root_closed, closed_plain, go_on_plain}
-use Rattle.dill_sound.specs.Laws.{is_resting, IsAtRest, Rests, KeepsRest, StepsKeepRest}
+use Rattle.dill_sound.specs.Laws.{IsAtRest, Rests, StepsKeepRest}
 use Rattle.dill_sound.specs.Order.{IsInOrder}
 use Rattle.dill_sound.proofs.Going.{or_none}
 use Rattle.dill_sound.proofs.Keeping.{order_go_on, turn_is}
@@ -79,8 +79,8 @@ module _ {V : Type 0} where
       record {
         endings = none_finish w v lined (λ c. ap (λ b. b && is_clear w c.number) (lined_ends c.mode)) w.coroutines s.endings;
         answers = none_due w v lined
-        (λ c e. ap (λ o. if_some o None (λ call. if_some (answer_of v c.number call) None (λ a. Some (c.number, call, a)))) (lined_pending c.mode)
-        ∙ due_same w v c.number (pending_call c.mode) (answer_same w (map lined w.coroutines) w.channels w.links w.place w.wrote w.words w.moment w.notes c.number) e) w.coroutines plain.calls s.answers;
+            (λ c e. ap (λ o. if_some o None (λ call. if_some (answer_of v c.number call) None (λ a. Some (c.number, call, a)))) (lined_pending c.mode)
+            ∙ due_same w v c.number (pending_call c.mode) (answer_same w (map lined w.coroutines) w.channels w.links w.place w.wrote w.words w.moment w.notes c.number) e) w.coroutines plain.calls s.answers;
       }
 
   map_itself : (cs : List (Coroutine V)) → map (λ c. c) cs ≡ cs

@@ -1,6 +1,6 @@
 -- After each step nobody is making a call, and whoever was answered has a place in the queue.
-use Rattle.std.proofs.Common.{◌≡◌, ◌∙◌, ℕ, zero, suc, ◌+◌, ◌-◌, ◌<◌, ◌≤◌, ◌==◌, List, [], ◌∷◌, ◌++◌, length, map, find, fold, Bool, true, false, not, ◌&&◌, ◌||◌, cond, Option, Some, None, if◌then◌else◌, refl, sym, ap, subst, arith}
-use Rattle.std.specs.Prelude.{is_some, is_none, nat_le, nat_lt}
+use Rattle.std.proofs.Common.{◌≡◌, ◌∙◌, ℕ, zero, suc, ◌+◌, ◌==◌, List, [], ◌∷◌, ◌++◌, length, map, find, Bool, true, false, not, ◌&&◌, ◌||◌, cond, Option, Some, None, if◌then◌else◌, refl, sym, ap, subst, arith}
+use Rattle.std.specs.Prelude.{is_none}
 use Rattle.std.specs.List.{list_all, list_any}
 use Rattle.std.proofs.lemmas.Bool.Decides.{nat_tests}
 use Rattle.dill_base.specs.declared.errno.Errno.{Errno}
@@ -9,7 +9,6 @@ use Rattle.dill_calls.specs.declared.answer.Answer.{Answer}
 use Rattle.dill_calls.specs.declared.answer.Answer.TheVariants.{Number, Fault}
 use Rattle.dill_calls.specs.declared.call.Call.{Call}
 use Rattle.dill_calls.specs.declared.call.Call.TheVariants as calls
-use Rattle.dill_calls.specs.declared.lists.Arg.{Arg}
 use Rattle.dill_calls.specs.declared.ran.LackPlace.{LackPlace}
 use Rattle.dill_calls.specs.declared.word.Word.{Word}
 use Rattle.dill_calls.specs.declared.word.Word.TheVariants as words
@@ -17,7 +16,7 @@ use Rattle.dill_calls.specs.CallTable.{word_of, takes_memory, is_built}
 use Rattle.dill_calls.specs.Program.{Program, Move, Calls, Ends}
 use Rattle.dill_handles.specs.declared.entry.Entry.{Entry}
 use Rattle.dill_plain.specs.Plain.{is_plain, MovesPlain}
-use Rattle.dill_maps.specs.Maps.{if_some, first_some, change, without}
+use Rattle.dill_maps.specs.Maps.{if_some, first_some, change}
 use Rattle.dill_rules.specs.declared.coroutine.Coroutine.{Coroutine}
 use Rattle.dill_rules.specs.declared.coroutine.Mode.{Mode}
 use Rattle.dill_rules.specs.declared.coroutine.Mode.TheVariants as modes
@@ -27,21 +26,20 @@ use Rattle.dill_rules.specs.Effects.{told, make, add_bundle, close_thing, bear, 
 use Rattle.dill_rules.specs.Entering.{entered, keep_for, perform, is_too_late, late_answer, meet_deadline, done, enter, lack_fault}
 use Rattle.dill_rules.specs.Expiring.{expire_one}
 use Rattle.dill_rules.specs.Giving.{give}
-use Rattle.dill_rules.specs.Kinds.{value_of, is_dead, is_other_kind, is_other_top, is_of_kind, kind_of}
+use Rattle.dill_rules.specs.Kinds.{value_of, is_dead, is_other_kind, is_other_top, kind_of}
 use Rattle.dill_rules.specs.Naming.{gifts_of}
 use Rattle.dill_rules.specs.Owning.{entry_of, move, release, close_bundle, is_dead_as, free_bundle}
 use Rattle.dill_rules.specs.Refusals.{refuse}
-use Rattle.dill_rules.specs.Settling.{can_finish, finish, free_all, release_all, keep_end, outcome_of, answer_due, give_first, settle_one, settle_within, pass_all, settle, close_all, end}
+use Rattle.dill_rules.specs.Settling.{can_finish, finish, free_all, release_all, answer_due, give_first, settle_one, settle_within, settle, close_all, end}
 use Rattle.dill_rules.specs.State.{lined, lined_mode}
 use Rattle.dill_rules.specs.Taking.{bundle_of, bundle_named}
-use Rattle.dill_rules.specs.Turning.{is_build, is_entry, as_running, may_lack_build, resume, answer_given, move_of, make_move, lack_move, go_on, turn}
-use Rattle.dill_rules.specs.World.{World, is_coroutine, coroutine_of, call_of, with_mode, set_mode, reply, pend, begin, from_start}
-use Rattle.dill_kept.specs.Plain.{may_wait, waits_plainly, is_plain_thing, is_plain_entry, IsPlain}
+use Rattle.dill_rules.specs.Turning.{is_build, is_entry, as_running, may_lack_build, resume, answer_given, move_of, make_move, lack_move, go_on}
+use Rattle.dill_rules.specs.World.{World, is_coroutine, call_of, with_mode, reply, pend, begin}
+use Rattle.dill_kept.specs.Plain.{may_wait, is_plain_thing, is_plain_entry, IsPlain}
 use Rattle.dill_kept.proofs.Crew.{SameCrew, move_crew, release_crew, free_dead_crew, close_all_crew, give_all_crew, bare_crew}
 use Rattle.dill_kept.proofs.Lists.{all_found, all_without}
-use Rattle.dill_kept.proofs.Plainly.{begin_plain}
 use Rattle.dill_kept.proofs.Steps.{settle_one_plain, within_plain, pass_plain, first_waits, call_waits}
-use Rattle.dill_kept.proofs.Turns.{entered_plain, go_on_plain}
+use Rattle.dill_kept.proofs.Turns.{entered_plain}
 use Rattle.dill_sound.specs.Laws.{is_resting, IsAtRest}
 use Rattle.dill_sound.specs.Order.{is_proper, is_proper_thing}
 use Rattle.dill_sound.proofs.Counting.{all_push}

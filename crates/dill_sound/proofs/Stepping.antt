@@ -111,14 +111,14 @@ module _ {V : Type 0} where
   give_timed w who n (calls.Hclose number) answer c m d e t = cc
   give_timed w who n _ answer c m d e t = cc
 
-  expire_timed : (w : World V) (who n : ℕ) → IsPlain w → is_timed w who ≡ true → is_timed w n ≡ true → is_timed (expire_one w who) n ≡ true
+  pub expire_timed : (w : World V) (who n : ℕ) → IsPlain w → is_timed w who ≡ true → is_timed w n ≡ true → is_timed (expire_one w who) n ≡ true
   expire_timed w who n plain d t = at (call_of w who) refl d
     where
       at : (o : Option Call) → call_of w who ≡ o → timed o ≡ true → is_timed (if_some o w (λ call. give w who call (late_answer call))) n ≡ true
       at None e f = t
       at (Some call) e f = let c = found_call w who call e in give_timed w who n call (late_answer call) c.0 (call_waits w who call plain e) f c.1 t
 
-  order_expire_one : (w : World V) (who : ℕ) → IsPlain w → IsInOrder w → is_timed w who ≡ true → IsInOrder (expire_one w who)
+  pub order_expire_one : (w : World V) (who : ℕ) → IsPlain w → IsInOrder w → is_timed w who ≡ true → IsInOrder (expire_one w who)
   order_expire_one w who plain o d = at (call_of w who) refl d
     where
       at : (p : Option Call) → call_of w who ≡ p → timed p ≡ true → IsInOrder (if_some p w (λ call. give w who call (late_answer call)))
