@@ -18,7 +18,7 @@ use Rattle.dill_rules.specs.World.{World, begin, call_of, is_answered}
 use Rattle.dill_kept.specs.Kept.{Kept, has_answer, opening_kept, queued, kept_turn, kept_expire_next, kept_expired, kept_shut, kept_woke}
 use Rattle.dill_kept.specs.Plain.{IsPlain}
 use Rattle.dill_kept.specs.Settled.{IsSettled}
-use Rattle.dill_kept.specs.Well.{is_at, IsWell}
+use Rattle.dill_kept.specs.Well.{occurs, is_at, IsWell}
 use Rattle.dill_sound.specs.Order.{is_there, IsInOrder}
 
 -- the closing of a bundle has begun
@@ -93,3 +93,13 @@ GoesOn V = (w : World V) (name : ℕ) → IsInOrder w → IsPlain w → IsSettle
 -- where the root is closing and `main` hasn't ended, somebody is queued
 abbrev pub RootGoesOn : {V : Type 0} → Program V → Type 0
 RootGoesOn {V} p = (k : Kept V) → IsWell p k → IsInOrder k.world → IsSettled k.world → IsAtRest k.world → is_closing k.world.scopes 0 ≡ true → k.world.ended ≡ None → has_answer k.ready ≡ true
+
+-- somebody inside a bundle is queued with an answer
+pub record HasQueued {V : Type 0} (k : Kept V) (name : ℕ) : Type 0 where
+  pub who : ℕ
+  pub inside : Inside k.world.scopes name who
+  pub queued : occurs who k.ready ≡ 1
+
+-- where a bundle is closing in which somebody lives, somebody inside it is queued
+abbrev pub BundleGoesOn : {V : Type 0} → Program V → Type 0
+BundleGoesOn {V} p = (k : Kept V) (name : ℕ) → IsWell p k → IsInOrder k.world → IsSettled k.world → IsAtRest k.world → is_closing k.world.scopes name ≡ true → is_empty k.world.scopes name ≡ false → HasQueued k name

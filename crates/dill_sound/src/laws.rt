@@ -1,4 +1,4 @@
-ghost use Rattle.dill_sound.specs.Laws.{KeepsOrder, KeepsRest, OrderIsSound, CancelsAll, GoesOn, RootGoesOn};
+ghost use Rattle.dill_sound.specs.Laws.{KeepsOrder, KeepsRest, OrderIsSound, CancelsAll, GoesOn, RootGoesOn, BundleGoesOn};
 
 use dill_calls::Body;
 use dill_plain::PlainBody;
@@ -21,6 +21,11 @@ pub fn closing_goes_on<B: Body>()
 /// Where the root is closing and `main` has not ended, somebody is queued with an answer, once nothing is due.
 pub fn root_goes_on<B: PlainBody>()
     ensures { RootGoesOn B.means }
+{}
+
+/// Where a bundle is closing in which somebody lives, somebody inside it is queued with an answer, once nothing is due.
+pub fn bundle_goes_on<B: PlainBody>()
+    ensures { BundleGoesOn B.means }
 {}
 
 /// Each step of programs that make plain calls keeps what a core keeps in order.
