@@ -32,7 +32,7 @@ use Rattle.dill_kept.specs.Kept.{has_answer}
 use Rattle.dill_kept.specs.Well.{Numbered, bit, occurs}
 use Rattle.dill_kept.proofs.Lists.{all_found}
 use Rattle.dill_kept.proofs.Stepping.{passes}
-use Rattle.dill_sound.specs.Laws.{is_closing, is_resting, IsAtRest, HasGoing, HasQueued, GoesOn, RootGoesOn, BundleGoesOn}
+use Rattle.dill_sound.specs.Laws.{is_closing, is_resting, IsAtRest, HasGoing, GoesOn, RootGoesOn, BundleGoesOn}
 use Rattle.dill_sound.specs.Order.{is_there, has_bundle, has_closing, closes, FitsTogether, IsInOrder}
 use Rattle.dill_sound.proofs.Lists.{both}
 use Rattle.dill_sound.proofs.Sound.{owner_is, same_there, inside_cancelled, there_inside}
