@@ -1,16 +1,16 @@
-mod Blind
-mod Settles
-mod Lists
-mod Plainly
-mod Steps
-mod Turns
-mod Evolving
-mod Answered
-mod Crew
-mod Walking
-mod Stepping
-mod Lining
-mod Resuming
-mod Keeping
-mod Following
-mod Settling
+pub mod Blind
+pub mod Settles
+pub mod Lists
+pub mod Plainly
+pub mod Steps
+pub mod Turns
+pub mod Evolving
+pub mod Answered
+pub mod Crew
+pub mod Walking
+pub mod Stepping
+pub mod Lining
+pub mod Resuming
+pub mod Keeping
+pub mod Following
+pub mod Settling

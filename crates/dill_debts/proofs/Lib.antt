@@ -1,0 +1,14 @@
+pub mod Lists
+pub mod Evolving
+pub mod Entering
+pub mod Walking
+pub mod Settling
+pub mod Flagging
+pub mod Shutting
+pub mod Standing
+pub mod Turning
+pub mod Keeping
+pub mod Lowering
+pub mod Bounded
+pub mod Ending
+pub mod Tracking

@@ -1,0 +1,5 @@
+pub mod Owed
+pub mod Says
+pub mod Flags
+pub mod Closing
+pub mod Laws

@@ -1,0 +1,3 @@
+//! The debt of a bundle that is closing: the turns that its coroutines may still take, and that it falls. Definitions and
+//! laws; it holds no code.
+#![tactic(auto)]

@@ -1,0 +1,9 @@
+pub mod Lists
+pub mod Sound
+pub mod Going
+pub mod Counting
+pub mod Owners
+pub mod Crews
+pub mod Fitting
+pub mod Handing
+pub mod Moving

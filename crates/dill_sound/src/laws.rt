@@ -1,0 +1,24 @@
+ghost use Rattle.dill_sound.specs.Laws.{KeepsOrder, OrderIsSound, CancelsAll, GoesOn, RootGoesOn};
+
+use dill_calls::Body;
+use dill_plain::PlainBody;
+
+/// A world in order is sound.
+pub fn order_is_sound<B: Body>()
+    ensures { OrderIsSound B }
+{}
+
+/// Where the root is closing, everybody is cancelled.
+pub fn all_cancelled<B: Body>()
+    ensures { CancelsAll B }
+{}
+
+/// Where a bundle is closing in which somebody lives, somebody inside it has an answer, once nothing is due.
+pub fn closing_goes_on<B: Body>()
+    ensures { GoesOn B }
+{}
+
+/// Where the root is closing and `main` has not ended, somebody is queued with an answer, once nothing is due.
+pub fn root_goes_on<B: PlainBody>()
+    ensures { RootGoesOn B.means }
+{}
