@@ -1,5 +1,5 @@
 -- What is owed is bounded, and who is queued is early where the root begins to close.
-use Rattle.std.proofs.Common.{◌≡◌, ◌∙◌, ◌+◌, ◌*◌, ◌^◌, ◌≤◌, ◌<◌, ◌==◌, ℕ, zero, suc, List, [], ◌∷◌, length, find, Bool, true, false, cond, Option, Some, None, if◌then◌else◌, refl, sym, ap, subst, arith}
+use Rattle.std.proofs.Common.{◌≡◌, ◌∙◌, ◌+◌, ◌*◌, ◌^◌, ◌≤◌, ◌<◌, ◌==◌, ℕ, zero, suc, List, [], ◌∷◌, length, find, Bool, true, false, Some, if◌then◌else◌, refl, ap, arith}
 use Rattle.std.specs.List.{AllByRecursion, list_all, list_any}
 use Rattle.dill_calls.specs.Program.{Program, IsLawful}
 use Rattle.dill_maps.specs.Maps.{if_some}
@@ -10,7 +10,7 @@ use Rattle.dill_rules.specs.World.{is_coroutine, is_ending, is_answered}
 use Rattle.dill_kept.specs.Well.{IsAlive, Lives, Numbered, bit, occurs, is_at, IsQueue}
 use Rattle.dill_sound.specs.Laws.{is_resting}
 use Rattle.dill_debts.specs.Owed.{share_by}
-use Rattle.dill_debts.specs.Says.{LowersIn, IsLowering, AllLower}
+use Rattle.dill_debts.specs.Says.{LowersIn, AllLower}
 use Rattle.dill_kept.proofs.Settles.{both}
 use Rattle.dill_debts.proofs.Lists.{total, all_to, equal_number, above_of, above}
 use Rattle.dill_debts.proofs.Walking.{unlike}
@@ -50,7 +50,7 @@ module _ {V : Type 0} where
   each_found (x ∷ cs) low high n = (
     rw (equal_number x.number x.number refl) refl,
     all_to (λ c. find (is_coroutine c.number) cs ≡ Some c) (λ c. find (is_coroutine c.number) (x ∷ cs) ≡ Some c) cs
-    (λ c e. rw (above_of x.number c.number (above x.number high (is_coroutine c.number) cs c e n.1)) e) (each_found cs x.number high n.1),
+        (λ c e. rw (above_of x.number c.number (above x.number high (is_coroutine c.number) cs c e n.1)) e) (each_found cs x.number high n.1),
   )
 
 occurs_any : (n : ℕ) (xs : List ℕ) → 1 ≤ occurs n xs → list_any (λ m. m == n) xs ≡ true

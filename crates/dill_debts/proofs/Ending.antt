@@ -1,6 +1,6 @@
 -- From the closing of the root on, each turn lowers what is owed, and somebody has an answer until `main` has ended.
-use Rattle.std.proofs.Common.{◌≡◌, ◌∙◌, ◌+◌, ◌-◌, ◌*◌, ◌^◌, ◌≤◌, ◌<◌, ◌==◌, ℕ, zero, suc, List, [], ◌∷◌, ◌++◌, length, map, take, fold, find, sum_by, Bool, true, false, ◌&&◌, cond, Option, Some, None, is_some, if◌then◌else◌, refl, sym, ap, subst, arith}
-use Rattle.std.specs.List.{AllByRecursion, list_all, list_any}
+use Rattle.std.proofs.Common.{◌≡◌, ◌∙◌, ◌+◌, ◌-◌, ◌^◌, ◌≤◌, ◌<◌, ◌==◌, ℕ, zero, suc, List, [], ◌∷◌, ◌++◌, length, map, take, fold, find, Bool, true, false, ◌&&◌, cond, Option, Some, None, is_some, if◌then◌else◌, refl, sym, ap, subst, arith}
+use Rattle.std.specs.List.{AllByRecursion, list_any}
 use Rattle.std.specs.List.Sorted.{IsStrictlyIncreasing}
 use Rattle.std.specs.Option.{option_or}
 use Rattle.std.proofs.lemmas.Bool.Decides.{nat_tests}
@@ -10,9 +10,8 @@ use Rattle.dill_calls.specs.declared.answer.Answer.TheVariants.{Number}
 use Rattle.dill_calls.specs.declared.call.Call.{Call}
 use Rattle.dill_calls.specs.declared.call.Call.TheVariants as calls
 use Rattle.dill_calls.specs.declared.ran.LackPlace.{LackPlace}
-use Rattle.dill_calls.specs.declared.word.Word.{Word}
 use Rattle.dill_calls.specs.declared.word.Word.TheVariants.{Start}
-use Rattle.dill_calls.specs.Program.{Program, IsLawful, GoesOn}
+use Rattle.dill_calls.specs.Program.{Program, IsLawful}
 use Rattle.dill_scope.specs.declared.forest.Bundle.{Bundle}
 use Rattle.dill_scope.specs.Scopes as scopes
 use Rattle.dill_maps.specs.Maps.{if_some, first_some, change}
@@ -20,7 +19,7 @@ use Rattle.dill_plain.specs.Plain.{MakesPlain}
 use Rattle.dill_rules.specs.declared.coroutine.Coroutine.{Coroutine}
 use Rattle.dill_rules.specs.declared.coroutine.Mode.{Mode}
 use Rattle.dill_rules.specs.declared.coroutine.Mode.TheVariants as modes
-use Rattle.dill_rules.specs.World.{World, is_coroutine, coroutine_of, begin, with_mode, pending_call, is_ending, is_answered}
+use Rattle.dill_rules.specs.World.{World, is_coroutine, coroutine_of, begin, pending_call, is_ending, is_answered}
 use Rattle.dill_rules.specs.Taking.{is_cancelled}
 use Rattle.dill_rules.specs.Answers.{answer_of}
 use Rattle.dill_rules.specs.Settling.{is_clear, can_finish, answer_due, settle_one, settle}
@@ -30,23 +29,23 @@ use Rattle.dill_kept.specs.Kept.{Kept, has_answer, queued, turn_first, kept_turn
 use Rattle.dill_kept.specs.Laws.{MayTurn, KeepsWell}
 use Rattle.dill_kept.specs.Plain.{may_wait, IsPlain}
 use Rattle.dill_kept.specs.Settled.{IsSettled, SettlesAll}
-use Rattle.dill_kept.specs.Well.{IsAlive, Lives, Numbered, bit, occurs, is_at, IsQueue, IsWell}
-use Rattle.dill_sound.specs.Laws.{is_closing, is_resting, CancelsAll, RootGoesOn}
+use Rattle.dill_kept.specs.Well.{Numbered, bit, occurs, IsQueue, IsWell}
+use Rattle.dill_sound.specs.Laws.{is_closing, CancelsAll, RootGoesOn}
 use Rattle.dill_sound.specs.Order.{IsInOrder}
 use Rattle.dill_debts.specs.Closing.{IsStable, IsClosing}
 use Rattle.dill_debts.specs.Laws.{KeepsStable, EndsClosing, turn_until}
 use Rattle.dill_debts.specs.Owed.{share_by, is_early, owed}
-use Rattle.dill_debts.specs.Says.{Says, SaysIn, LowersIn, IsLowering, AllLower}
+use Rattle.dill_debts.specs.Says.{Says, SaysIn, IsLowering, AllLower}
 use Rattle.dill_kept.proofs.Plainly.{begin_plain}
-use Rattle.dill_kept.proofs.Steps.{settle_one_plain, settle_plain}
+use Rattle.dill_kept.proofs.Steps.{settle_one_plain}
 use Rattle.dill_kept.proofs.Turns.{root_closed, closed_plain, go_on_plain}
 use Rattle.dill_debts.proofs.Bounded.{owes_few, all_early}
-use Rattle.dill_debts.proofs.Keeping.{root_flags, IsGood, good_stable, good_moved, good_settle, settle_holds, sits_resumed, turn_is}
-use Rattle.dill_debts.proofs.Lists.{total, is_total, all_found, all_to, found_passes, equal_number, number_of, above_of, above, numbered_change, found_changed}
+use Rattle.dill_debts.proofs.Keeping.{root_flags, good_stable, settle_holds, sits_resumed, turn_is}
+use Rattle.dill_debts.proofs.Lists.{total, is_total, all_found, all_to, found_passes, equal_number, found_changed}
 use Rattle.dill_debts.proofs.Lowering.{all_calm, owed_evolves, lowers_evolves, owed_lined, all_lower_lined, others_lower, share_falls, answered_owes, called_falls, ended_falls, first_gone, others_same}
 use Rattle.dill_debts.proofs.Settling.{AllSit, leads_sits, settle_one_leads, settle_leads}
 use Rattle.dill_debts.proofs.Shutting.{AllHold, Lasts, settle_one_shut, go_on_shut}
-use Rattle.dill_debts.proofs.Turning.{Went, called, ended, MayGo, go_on_went, went_leads, found_number, all_resumed}
+use Rattle.dill_debts.proofs.Turning.{Went, called, ended, go_on_went, went_leads, found_number, all_resumed}
 use Rattle.dill_debts.proofs.Walking.{Leads, unlike}
 
 -- steps within a step keep a world in order

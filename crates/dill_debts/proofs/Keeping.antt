@@ -1,20 +1,18 @@
 -- Each step keeps what holds between steps.
-use Rattle.std.proofs.Common.{◌≡◌, ◌∙◌, inl, ◌+◌, ◌-◌, ◌≤◌, ◌==◌, ℕ, zero, suc, List, [], ◌∷◌, length, map, fold, Bool, true, false, ◌&&◌, Option, Some, None, if◌then◌else◌, refl, sym, ap, subst, arith}
+use Rattle.std.proofs.Common.{◌≡◌, ◌∙◌, inl, ◌-◌, ◌≤◌, ℕ, zero, suc, List, [], ◌∷◌, length, map, fold, Bool, true, false, Option, Some, refl, sym, ap, subst, arith}
 use Rattle.std.specs.List.{AllByRecursion, list_all}
-use Rattle.dill_calls.specs.declared.answer.Answer.TheVariants.{Number}
 use Rattle.dill_calls.specs.declared.ran.LackPlace.{LackPlace}
 use Rattle.dill_calls.specs.declared.word.Word.{Word}
-use Rattle.dill_calls.specs.declared.word.Word.TheVariants.{Start}
 use Rattle.dill_calls.specs.Program.{Program, IsLawful, Begins}
 use Rattle.dill_kernel.specs.declared.ready.Ready.{Ready}
 use Rattle.dill_scope.specs.declared.forest.Bundle.{Bundle}
 use Rattle.dill_scope.specs.Scopes as scopes
 use Rattle.dill_maps.specs.Maps.{if_some}
-use Rattle.dill_plain.specs.Plain.{MovesPlain, MakesPlain}
+use Rattle.dill_plain.specs.Plain.{MakesPlain}
 use Rattle.dill_rules.specs.declared.coroutine.Coroutine.{Coroutine}
 use Rattle.dill_rules.specs.declared.coroutine.Mode.{Mode}
 use Rattle.dill_rules.specs.declared.coroutine.Mode.TheVariants as modes
-use Rattle.dill_rules.specs.World.{World, is_coroutine, coroutine_of, begin}
+use Rattle.dill_rules.specs.World.{World, is_coroutine, coroutine_of, begin, pending_call}
 use Rattle.dill_rules.specs.Expiring.{expire_one, passed}
 use Rattle.dill_rules.specs.Hearing.{heat_ready}
 use Rattle.dill_rules.specs.Settling.{settle_one, settle_within, settle}
@@ -22,9 +20,9 @@ use Rattle.dill_rules.specs.State.{lined_mode, lined}
 use Rattle.dill_rules.specs.Turning.{as_running, resume, answer_given, go_on, turn}
 use Rattle.dill_kept.specs.Kept.{Kept, opening_kept, queued, turn_first, kept_turn, kept_expire_next, kept_late, kept_expired, kept_shut, kept_woke}
 use Rattle.dill_kept.specs.Laws.{MayTurn, KeepsWell}
-use Rattle.dill_kept.specs.Plain.{waits_plainly}
+use Rattle.dill_kept.specs.Plain.{may_wait, waits_plainly}
 use Rattle.dill_kept.specs.Well.{Numbered, IsWell}
-use Rattle.dill_sound.specs.Laws.{KeepsOrder, is_resting}
+use Rattle.dill_sound.specs.Laws.{KeepsOrder, is_resting, is_timed}
 use Rattle.dill_sound.specs.Order.{IsInOrder}
 use Rattle.dill_debts.specs.Closing.{IsStable}
 use Rattle.dill_debts.specs.Flags.{IsFlagged, HasFlags}
@@ -34,14 +32,13 @@ use Rattle.dill_kept.proofs.Lists.{join}
 use Rattle.dill_kept.proofs.Settles.{both}
 use Rattle.dill_kept.proofs.Turns.{root_closed}
 use Rattle.dill_debts.proofs.Entering.{start_only}
-use Rattle.dill_debts.proofs.Evolving.{evolves_all}
 use Rattle.dill_debts.proofs.Flagging.{all_picked, ranked_change}
-use Rattle.dill_debts.proofs.Lists.{all_change, all_map, all_to, numbered_change, above_other, number_of}
+use Rattle.dill_debts.proofs.Lists.{all_change, all_map, all_to, numbered_change, number_of}
 use Rattle.dill_debts.proofs.Settling.{Sits, AllSit, leads_sits, leads_numbered, settle_one_leads, settle_within_leads, settle_leads, pass_nothing, expire_leads}
 use Rattle.dill_debts.proofs.Shutting.{AllHold, Lasts, settle_one_shut, expire_one_shut, go_on_shut}
-use Rattle.dill_debts.proofs.Standing.{stands, IsStanding, MayRun, leads_stand, leads_run, all_stand, all_running}
-use Rattle.dill_debts.proofs.Turning.{MayGo, Went, go_on_went, went_leads}
-use Rattle.dill_debts.proofs.Walking.{Leads, leads_then}
+use Rattle.dill_debts.proofs.Standing.{stands, IsStanding, leads_stand, leads_run, all_stand, all_running}
+use Rattle.dill_debts.proofs.Turning.{go_on_went, went_leads}
+use Rattle.dill_debts.proofs.Walking.{Leads}
 
 -- nobody is among the calm
 abbrev pub nobody_calm : ℕ → Bool
@@ -57,6 +54,13 @@ any_lasts = record { owned = λ x owner a. tt; closed = λ x a. tt; made = λ la
 all_any : (xs : List Bundle) → AllByRecursion AnyBundle xs
 all_any [] = tt
 all_any (x ∷ xs) = (tt, all_any xs)
+
+lined_pending : (mode : Mode) → pending_call (lined_mode mode) ≡ pending_call mode
+lined_pending (modes.Pending call) = refl
+lined_pending modes.Running = refl
+lined_pending (modes.Fresh word answer) = refl
+lined_pending (modes.Answered word answer) = refl
+lined_pending (modes.Ending outcome) = refl
 
 module _ {V : Type 0} (P : Bundle → Type 0) (low : ℕ) (lasts : Lasts P low) (p : Program V) where
   within_holds : (k : ℕ) (w : World V) → AllSit p w.coroutines → Numbered 0 w.coroutines w.last_coroutine → AllHold P low w → AllHold P low (settle_within k w)
@@ -155,6 +159,30 @@ module _ {V : Type 0} (p : Program V) where
     flags = record { ranked = g.holds.flags.ranked; flagged = g.holds.flags.flagged };
   }
 
+module _ {V : Type 0} (p : Program V) where
+  numbered_lined : (cs : List (Coroutine V)) (low high : ℕ) → Numbered low cs high → Numbered low (map lined cs) high
+  numbered_lined [] low high h = h
+  numbered_lined (c ∷ cs) low high h = (h.0, numbered_lined cs c.number high h.1)
+
+  lined_sits : (c : Coroutine V) (mode : Mode) → c.mode ≡ mode → Sits p c → Sits p (lined c)
+  lined_sits c mode e s = (ap (λ o. if_some o true may_wait) (lined_pending c.mode) ∙ s.0, says_lined p (p.said c.body) c.mode s.1)
+
+  lined_stands : (mode : Mode) → stands mode ≡ true → stands (lined_mode mode) ≡ true
+  lined_stands (modes.Pending call) e = refl
+  lined_stands modes.Running e = cc
+  lined_stands (modes.Fresh word answer) e = refl
+  lined_stands (modes.Answered word answer) e = refl
+  lined_stands (modes.Ending outcome) e = refl
+
+  -- a place in the queue keeps a world good
+  pub good_queued : (v : World V) (ready : List ℕ) (early : ℕ) → IsGood p v → IsGood p (queued v ready early).world
+  good_queued v ready early g = record {
+    numbered = numbered_lined v.coroutines 0 v.last_coroutine g.numbered;
+    sits = all_map (Sits p) lined v.coroutines (λ c s. lined_sits c c.mode refl s) g.sits;
+    stand = all_map IsStanding lined v.coroutines (λ c s. lined_stands c.mode s) g.stand;
+    holds = record { given = g.holds.given; bundles = g.holds.bundles; things = g.holds.things; flags = record { ranked = g.holds.flags.ranked; flagged = g.holds.flags.flagged } };
+  }
+
 -- the turn of the first of the queue
 module _ {V : Type 0} (p : Program V) (law : IsLawful p) (plainly : MakesPlain p) where
   pub sits_resumed : (w : World V) (who : ℕ) (view : V) (c : Coroutine V) → coroutine_of w who ≡ Some c → AllSit p w.coroutines → AllSit p (resume w who view).coroutines
@@ -227,12 +255,19 @@ module _ {V : Type 0} (p : Program V) (law : IsLawful p) (plainly : MakesPlain p
   started : (k : Kept V) → IsStable p k → IsStable p (record k { world = begin k.world })
   started k s = record { well = keeps.started k s.well; order = ordered.started k s.order; says = s.says; things = s.things; rest = s.rest; flags = record { ranked = s.flags.ranked; flagged = s.flags.flagged } }
 
-  expires : (k : Kept V) (who : ℕ) → IsStable p k → IsStable p (kept_expire_next k who)
-  expires k who s = stable_queued p (expire_one k.world who) k.ready k.early (keeps.expires k who s.well) (ordered.expires k who s.well s.order) (good_expire p k.world who (good_stable p k s))
+  expires : (k : Kept V) (who : ℕ) → IsStable p k → is_timed k.world who ≡ true → IsStable p (kept_expire_next k who)
+  expires k who s e = stable_queued p (expire_one k.world who) k.ready k.early (keeps.expires k who s.well) (ordered.expires k who s.well s.order e) (good_expire p k.world who (good_stable p k s))
 
-  expire_all : (xs : List ℕ) (k : Kept V) → IsStable p k → IsStable p (fold kept_expire_next k xs)
-  expire_all [] k s = s
-  expire_all (x ∷ xs) k s = expire_all xs (kept_expire_next k x) (expires k x s)
+  good_late : (xs : List ℕ) (k : Kept V) → IsGood p k.world → IsGood p (fold kept_expire_next k xs).world
+  good_late [] k g = g
+  good_late (x ∷ xs) k g = good_late xs (kept_expire_next k x) (good_queued p (expire_one k.world x) k.ready k.early (good_expire p k.world x g))
+
+  expired : (k : Kept V) → IsStable p k → IsStable p (kept_expired k)
+  expired k s =
+      let g = good_stable p k s in
+      let begun : IsGood p (begin k.world) = record { numbered = g.numbered; sits = g.sits; stand = g.stand; holds = record { given = omega arith; bundles = g.holds.bundles; things = g.holds.things; flags = record { ranked = g.holds.flags.ranked; flagged = g.holds.flags.flagged } } } in
+      let late = good_late (passed k.world) (record k { world = begin k.world }) begun in
+      stable_queued p (settle (kept_late k).world) (kept_late k).ready (kept_late k).early (keeps.expired k s.well) (ordered.expired k s.well s.order) (good_settle p (kept_late k).world late)
 
   settled : (k : Kept V) → IsStable p k → IsStable p (queued (settle k.world) k.ready k.early)
   settled k s = stable_queued p (settle k.world) k.ready k.early (keeps.settled k s.well) (ordered.settled k s.well s.order) (good_settle p k.world (good_stable p k s))
@@ -262,7 +297,7 @@ module _ {V : Type 0} (p : Program V) (law : IsLawful p) (plainly : MakesPlain p
     started = started;
     expires = expires;
     settled = settled;
-    expired = λ k s. settled (kept_late k) (expire_all (passed k.world) (record k { world = begin k.world }) (started k s));
+    expired = expired;
     shut = shut;
     woke = woke;
   }

@@ -11,4 +11,7 @@ pub mod Keeping
 pub mod Lowering
 pub mod Bounded
 pub mod Ending
+pub mod Within
+pub mod Rooting
 pub mod Tracking
+pub mod Holding

@@ -1,12 +1,11 @@
 -- Once the root closes, each turn lowers what is owed.
-use Rattle.std.proofs.Common.{◌≡◌, ◌∙◌, ◌+◌, ◌-◌, ◌≤◌, ◌<◌, ◌==◌, ℕ, zero, suc, List, [], ◌∷◌, ◌++◌, length, map, take, find, Bool, true, false, cond, Option, Some, None, if◌then◌else◌, refl, sym, ap, subst, arith}
-use Rattle.std.specs.List.{AllByRecursion, list_any}
+use Rattle.std.proofs.Common.{◌≡◌, ◌∙◌, ◌+◌, ◌-◌, ◌≤◌, ◌<◌, ◌==◌, ℕ, zero, suc, List, [], ◌∷◌, map, take, find, Bool, true, false, Option, Some, if◌then◌else◌, refl, sym, ap, subst, arith}
+use Rattle.std.specs.List.{list_any}
 use Rattle.std.proofs.lemmas.Bool.Decides.{nat_tests}
 use Rattle.dill_base.specs.declared.errno.Errno.{Errno}
-use Rattle.dill_calls.specs.declared.answer.Answer.{Answer}
 use Rattle.dill_calls.specs.declared.word.Word.{Word}
-use Rattle.dill_calls.specs.Program.{Program, IsLawful, GoesOn, Lowers}
-use Rattle.dill_maps.specs.Maps.{if_some, change}
+use Rattle.dill_calls.specs.Program.{Program, GoesOn, Lowers}
+use Rattle.dill_maps.specs.Maps.{change}
 use Rattle.dill_rules.specs.declared.coroutine.Coroutine.{Coroutine}
 use Rattle.dill_rules.specs.declared.coroutine.Mode.{Mode}
 use Rattle.dill_rules.specs.declared.coroutine.Mode.TheVariants as modes
@@ -16,10 +15,9 @@ use Rattle.dill_rules.specs.World.{is_coroutine, with_mode, is_ending, is_answer
 use Rattle.dill_kept.specs.Well.{Numbered, bit, occurs}
 use Rattle.dill_debts.specs.Owed.{share_by}
 use Rattle.dill_debts.specs.Says.{SaysIn, LowersIn, IsLowering, AllLower}
-use Rattle.dill_debts.proofs.Evolving.{Evolves, Suits, newborn, evolves_all, evolves_total}
-use Rattle.dill_debts.proofs.Lists.{total, total_map, total_change, number_of}
+use Rattle.dill_debts.proofs.Evolving.{Evolves, Suits, evolves_all, evolves_total}
+use Rattle.dill_debts.proofs.Lists.{total, total_map, total_change}
 use Rattle.dill_debts.proofs.Turning.{total_resumed}
-use Rattle.dill_debts.proofs.Walking.{unlike}
 
 -- everybody is among the calm
 abbrev pub all_calm : ℕ → Bool

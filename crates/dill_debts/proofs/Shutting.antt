@@ -1,5 +1,5 @@
 -- What holds of each bundle under every owner stays so, and the handles stay those of plain programs.
-use Rattle.std.proofs.Common.{◌≡◌, ◌∙◌, ◌+◌, ◌≤◌, ◌<◌, ◌==◌, ℕ, zero, suc, List, [], ◌∷◌, ◌++◌, length, fold, filter, reverse, find, Bool, true, false, ◌&&◌, cond, Option, Some, None, if◌then◌else◌, refl, sym, ap, subst, arith}
+use Rattle.std.proofs.Common.{◌≡◌, ◌+◌, ◌≤◌, ◌==◌, ℕ, List, [], ◌∷◌, fold, filter, reverse, find, Bool, true, false, ◌&&◌, cond, Option, Some, None, if◌then◌else◌, refl, sym, subst, arith}
 use Rattle.std.specs.List.{AllByRecursion}
 use Rattle.dill_base.specs.declared.errno.Errno.{Errno}
 use Rattle.dill_base.specs.declared.errno.Errno.TheVariants.{Enomem}
@@ -22,12 +22,12 @@ use Rattle.dill_rules.specs.declared.coroutine.Closing.{Closing}
 use Rattle.dill_rules.specs.declared.coroutine.Coroutine.{Coroutine}
 use Rattle.dill_rules.specs.declared.thing.Thing.{Thing}
 use Rattle.dill_rules.specs.declared.thing.Thing.TheVariants as things
-use Rattle.dill_rules.specs.World.{World, call_of, reply, note, from_start, begin}
+use Rattle.dill_rules.specs.World.{World, call_of, reply, note, from_start}
 use Rattle.dill_rules.specs.Naming.{gifts_of}
 use Rattle.dill_rules.specs.Owning.{entry_of, take_thing, move, drop, release, close_bundle, free_bundle, is_dead_as}
 use Rattle.dill_rules.specs.Taking.{bundle_of, bundle_named}
 use Rattle.dill_rules.specs.Refusals.{refuse}
-use Rattle.dill_rules.specs.Effects.{make, add_bundle, close_thing, start, give_all, bear}
+use Rattle.dill_rules.specs.Effects.{make, add_bundle, close_thing, start, give_all}
 use Rattle.dill_rules.specs.Entering.{entered, keep_for, perform, is_too_late, late_answer, meet_deadline, done, enter}
 use Rattle.dill_rules.specs.Expiring.{expire_one}
 use Rattle.dill_rules.specs.Giving.{give}
@@ -146,7 +146,7 @@ module _ {V : Type 0} (P : Bundle → Type 0) (low : ℕ) (lasts : Lasts P low) 
   close_bundle_shut w owner bundle number h = record {
     given = h.given;
     bundles = all_changed P (scopes.is_bundle bundle) scopes.as_closing (scopes.take w.scopes bundle owner).bundles (λ x a. lasts.closed x a)
-    (all_changed P (scopes.is_bundle bundle) (scopes.with_owner owner) w.scopes.bundles (λ x a. lasts.owned x owner a) h.bundles);
+        (all_changed P (scopes.is_bundle bundle) (scopes.with_owner owner) w.scopes.bundles (λ x a. lasts.owned x owner a) h.bundles);
     things = all_without IsProper (handles.is_entry number) w.handles.entries h.things;
     flags = record {
       ranked = ranked_change (scopes.is_bundle bundle) scopes.as_closing (scopes.take w.scopes bundle owner).bundles 0 w.last_bundle (λ x. refl) (ranked_change (scopes.is_bundle bundle) (scopes.with_owner owner) w.scopes.bundles 0 w.last_bundle (λ x. refl) h.flags.ranked);

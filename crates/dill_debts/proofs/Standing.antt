@@ -1,5 +1,5 @@
 -- Whoever makes its call has its answer then or waits for it: nobody is left running.
-use Rattle.std.proofs.Common.{◌≡◌, ◌∙◌, ◌+◌, ◌==◌, ◌≤◌, ◌<◌, ℕ, List, [], ◌∷◌, ◌++◌, find, Bool, true, false, ◌&&◌, cond, Option, Some, None, if◌then◌else◌, is_none, nat_lt, refl, sym, ap, subst, arith}
+use Rattle.std.proofs.Common.{◌≡◌, ◌∙◌, ◌+◌, ◌==◌, ◌≤◌, ℕ, List, [], ◌∷◌, find, Bool, true, false, ◌&&◌, cond, Option, Some, None, if◌then◌else◌, is_none, nat_lt, refl, sym, ap, arith}
 use Rattle.std.specs.List.{AllByRecursion}
 use Rattle.dill_base.specs.declared.errno.Errno.{Errno}
 use Rattle.dill_base.specs.declared.errno.Errno.TheVariants.{Enomem}
@@ -10,7 +10,7 @@ use Rattle.dill_calls.specs.declared.call.Call.TheVariants as calls
 use Rattle.dill_calls.specs.declared.word.Word.{Word}
 use Rattle.dill_calls.specs.declared.word.Word.TheVariants as words
 use Rattle.dill_calls.specs.CallTable.{word_of, takes_memory}
-use Rattle.dill_calls.specs.Program.{Program, Begins}
+use Rattle.dill_calls.specs.Program.{Program}
 use Rattle.dill_handles.specs.Handles as handles
 use Rattle.dill_handles.specs.declared.entry.Entry.{Entry}
 use Rattle.dill_maps.specs.Maps.{if_some, change}
@@ -33,7 +33,7 @@ use Rattle.dill_kept.specs.Well.{Numbered}
 use Rattle.dill_debts.specs.Says.{IsProperThing, IsProper}
 use Rattle.dill_kept.proofs.Crew.{SameCrew, crew_then, move_crew, release_crew, give_all_crew}
 use Rattle.dill_debts.proofs.Entering.{Names, unrefused_names}
-use Rattle.dill_debts.proofs.Evolving.{Suits, newborn, evolves_all}
+use Rattle.dill_debts.proofs.Evolving.{Suits, evolves_all}
 use Rattle.dill_debts.proofs.Lists.{all_found, found_changed, find_append, all_to, some_same, number_of, above_other}
 use Rattle.dill_debts.proofs.Walking.{Leads, unlike}
 

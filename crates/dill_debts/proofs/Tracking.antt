@@ -1,11 +1,11 @@
 -- Who is inside a bundle stays so, and nobody comes in, where homes and owners change only as told.
-use Rattle.std.proofs.Common.{◌≡◌, ◌∙◌, ◌⊎◌, inl, inr, ◌+◌, ◌≤◌, ◌<◌, ◌==◌, ℕ, suc, List, [], ◌∷◌, ◌++◌, length, map, find, Bool, true, false, cond, Option, Some, None, option_map, is_some, refl, sym, ap, subst, arith}
-use Rattle.std.specs.Prelude.{option_and_then, IsSome}
+use Rattle.std.proofs.Common.{◌≡◌, ◌∙◌, ◌⊎◌, inl, inr, ◌+◌, ◌≤◌, ◌<◌, ◌==◌, ℕ, suc, List, [], ◌∷◌, map, find, Bool, true, false, Option, Some, None, option_map, is_some, refl, sym, ap, subst, arith}
+use Rattle.std.specs.Prelude.{option_and_then}
 use Rattle.std.specs.List.{AllByRecursion}
 use Rattle.std.specs.List.Sorted.{IsStrictlyIncreasing}
 use Rattle.dill_scope.specs.declared.forest.Bundle.{Bundle}
 use Rattle.dill_scope.specs.declared.forest.Home.{Home}
-use Rattle.dill_scope.specs.Scopes.{Scopes, is_home, is_bundle, home_of, owner_of, parent, is_inside}
+use Rattle.dill_scope.specs.Scopes.{Scopes, is_home, is_bundle, home_of, owner_of, is_inside}
 use Rattle.dill_scope.specs.Forest.{Inside, lives, under, Rooted, at_root, below, IsForest}
 use Rattle.dill_scope.specs.Keeping.{IsThere, IsOrderedForest}
 use Rattle.dill_scope.proofs.Carrying.{parent_told, parent_is}

@@ -13,19 +13,19 @@ use Rattle.dill_maps.specs.Maps.{if_some, change}
 use Rattle.dill_plain.specs.Plain.{MovesPlain, MakesPlain}
 use Rattle.dill_rules.specs.declared.coroutine.Coroutine.{Coroutine}
 use Rattle.dill_rules.specs.declared.coroutine.Mode.TheVariants as modes
-use Rattle.dill_rules.specs.World.{World, is_coroutine, coroutine_of, call_of, with_mode, reply, pending_call, is_ending}
+use Rattle.dill_rules.specs.World.{World, is_coroutine, coroutine_of, with_mode, reply, pending_call}
 use Rattle.dill_rules.specs.Taking.{is_cancelled}
 use Rattle.dill_rules.specs.Entering.{entered, lack_fault}
-use Rattle.dill_rules.specs.Settling.{close_all, end}
-use Rattle.dill_rules.specs.Turning.{is_build, is_entry, as_running, may_lack_build, resume, answer_given, move_of, make_move, lack_move, go_on}
+use Rattle.dill_rules.specs.Settling.{end}
+use Rattle.dill_rules.specs.Turning.{is_build, is_entry, as_running, may_lack_build, resume, answer_given, make_move, lack_move, go_on}
 use Rattle.dill_kept.specs.Well.{Numbered}
 use Rattle.dill_debts.specs.Says.{IsProper}
 use Rattle.dill_kept.proofs.Crew.{close_all_crew}
 use Rattle.dill_debts.proofs.Entering.{word_entered, entered_plain, entered_passes, lack_lowers}
-use Rattle.dill_debts.proofs.Evolving.{Evolves, turns, Suits}
-use Rattle.dill_debts.proofs.Lists.{found_changed, found_passes, number_of, some_same, above_other, total, all_to}
-use Rattle.dill_debts.proofs.Standing.{Stands, IsHere, reply_stands, enter_stands}
-use Rattle.dill_debts.proofs.Walking.{Leads, crew_leads, leads_then, Runs, Enters, reply_leads, enter_leads}
+use Rattle.dill_debts.proofs.Evolving.{Evolves, turns}
+use Rattle.dill_debts.proofs.Lists.{found_changed, found_passes, number_of, some_same, above_other, total}
+use Rattle.dill_debts.proofs.Standing.{Stands, reply_stands, enter_stands}
+use Rattle.dill_debts.proofs.Walking.{Leads, Runs, Enters, reply_leads, enter_leads}
 
 -- where a coroutine is found by its number, it has it
 pub found_number : {V : Type 0} (who : ℕ) (cs : List (Coroutine V)) (c : Coroutine V) → find (is_coroutine who) cs ≡ Some c → c.number ≡ who

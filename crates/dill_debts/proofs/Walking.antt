@@ -1,5 +1,5 @@
 -- Every plain step changes the coroutines as told: one that isn't ending stands elsewhere, one is gone, or a new one begins.
-use Rattle.std.proofs.Common.{◌≡◌, ◌∙◌, ◌+◌, ◌==◌, ℕ, suc, List, [], ◌∷◌, ◌++◌, length, find, Bool, true, false, not, ◌&&◌, ◌||◌, cond, Option, Some, None, if◌then◌else◌, refl, sym, ap, subst}
+use Rattle.std.proofs.Common.{◌≡◌, ◌∙◌, ◌+◌, ℕ, suc, List, [], ◌∷◌, length, find, Bool, true, false, ◌&&◌, Option, Some, None, if◌then◌else◌, refl, sym, ap, subst}
 use Rattle.dill_base.specs.declared.errno.Errno.{Errno}
 use Rattle.dill_base.specs.declared.errno.Errno.TheVariants as errnos
 use Rattle.dill_calls.specs.declared.answer.Answer.{Answer}
@@ -10,7 +10,7 @@ use Rattle.dill_calls.specs.declared.lists.Arg.{Arg}
 use Rattle.dill_calls.specs.declared.lists.Arg.TheVariants.{Show, Give}
 use Rattle.dill_calls.specs.declared.word.Word.{Word}
 use Rattle.dill_calls.specs.declared.word.Word.TheVariants as words
-use Rattle.dill_calls.specs.CallTable.{word_of, is_quiet, takes_memory}
+use Rattle.dill_calls.specs.CallTable.{word_of, takes_memory}
 use Rattle.dill_calls.specs.Program.{Program, Begins, IsLawful, Lowers, PassesWell}
 use Rattle.dill_maps.specs.Maps.{if_some, change}
 use Rattle.dill_plain.specs.Plain.{is_plain}
@@ -24,9 +24,9 @@ use Rattle.dill_rules.specs.Naming.{gifts_of}
 use Rattle.dill_rules.specs.Kinds.{value_of}
 use Rattle.dill_rules.specs.Owning.{entry_of, move, close_bundle, release}
 use Rattle.dill_rules.specs.Taking.{bundle_named, is_cancelled}
-use Rattle.dill_rules.specs.Refusals.{refuse, has_twice, holds, is_invalid, is_refused_by_stack}
+use Rattle.dill_rules.specs.Refusals.{refuse}
 use Rattle.dill_rules.specs.Effects.{make, add_bundle, close_thing, start, give_all, told, bear, next_number, passed_answer}
-use Rattle.dill_rules.specs.Entering.{keep_for, perform, is_late, is_too_late, late_answer, meet_deadline, done, enter}
+use Rattle.dill_rules.specs.Entering.{keep_for, is_too_late, late_answer, meet_deadline, done, enter}
 use Rattle.dill_kept.specs.Plain.{may_wait}
 use Rattle.dill_kept.proofs.Crew.{SameCrew, crew_then, move_crew, release_crew, give_all_crew}
 use Rattle.dill_debts.proofs.Entering.{by_quiet, refusal_lowers, unrefused_quiet, starts_nobody, is_called_off_at_once, go_known, bundle_go_known}
@@ -107,7 +107,7 @@ module _ {V : Type 0} (p : Program V) (calm : ℕ → Bool) where
       let runs : Runs p after who (word_of call) = record { one = with_mode (modes.Pending call) here.one; found = there; going = refl; number = here.number; said = here.said } in
       let one : Leads p calm w after = leads_then w v after (crew_leads w v same) (pend_leads v who call here m) in
       let is : meet_deadline after who ≡ (if is_too_late after who call then reply after who (word_of call) (late_answer call) else after) =
-          ap (λ o. if_some o after (λ d. if is_too_late after who d then reply after who (word_of d) (late_answer d) else after)) (stands_in v who (modes.Pending call) here.one here.found) in
+      ap (λ o. if_some o after (λ d. if is_too_late after who d then reply after who (word_of d) (late_answer d) else after)) (stands_in v who (modes.Pending call) here.one here.found) in
       subst (Leads p calm w) (sym is) (leads_then w after (if is_too_late after who call then reply after who (word_of call) (late_answer call) else after) one (late_leads (is_too_late after who call) after who call runs l))
 
   -- a new coroutine begins, and then the caller is answered

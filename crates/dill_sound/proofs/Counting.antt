@@ -201,6 +201,79 @@ pub small_bit : (b : Bool) → bit b ≤ 1
 small_bit true = omega arith
 small_bit false = omega arith
 
+-- the first that passes a test, where no number stands twice
+module _ {X : Type 0} (key : X → ℕ) (p : X → Bool) where
+  pub record First (xs : List X) (x : X) (rest : List X) : Type 0 where
+    pub found : find (λ y. key y == key x) xs ≡ Some x
+    pub passed : p x ≡ true
+    pub left : filter p (without (λ y. key y == key x) xs) ≡ rest
+
+  heads : (x y : X) (xs ys : List X) → ◌≡◌ {A = List X} (x ∷ xs) (y ∷ ys) → (x ≡ y) × (xs ≡ ys)
+  heads x y xs ys e = (cc, cc)
+
+  pub filter_first : (xs : List X) (x : X) (rest : List X) → filter p xs ≡ x ∷ rest → weigh (λ y. bit (key y == key x)) xs ≤ 1 → First xs x rest
+  filter_first [] x rest e w = absurd (none e)
+    where
+      none : ◌≡◌ {A = List X} [] (x ∷ rest) → ⊥
+      none f = cc
+  filter_first (y ∷ ys) x rest e w = at (p y) refl e (filter_first ys x rest)
+    where
+      by : (t : Bool) → (key y == key x) ≡ t → p y ≡ false → First ys x rest → First (y ∷ ys) x rest
+      by true f g r =
+          let same : (key x == key x) ≡ true = grind (arith, nat_tests) in
+          let m = weighs_found (λ z. key z == key x) (λ z. key z == key x) ys x r.found same in
+          let one : bit (key y == key x) ≡ 1 = ap bit f in
+          absurd (omega arith)
+      by false f g r = record { found = rw f r.found; passed = r.passed; left = rw f (rw g r.left) }
+
+      at : (t : Bool) → p y ≡ t → cond t (y ∷ filter p ys) (filter p ys) ≡ x ∷ rest → (filter p ys ≡ x ∷ rest → weigh (λ z. bit (key z == key x)) ys ≤ 1 → First ys x rest) → First (y ∷ ys) x rest
+      at true f g next =
+          let h = heads y x (filter p ys) rest g in
+          let t : (key y == key x) ≡ true = let k : key y ≡ key x = ap key h.0 in grind (arith, nat_tests) in
+          record { found = rw t (ap (λ z. Some z) h.0); passed = ap p (sym h.0) ∙ f; left = rw t h.1 }
+      at false f g next =
+          let less : weigh (λ z. bit (key z == key x)) ys ≤ 1 = omega (arith, w) in
+          by (key y == key x) refl f (next g less)
+
+  -- nothing passes the test
+  pub filter_none : (xs : List X) → filter p xs ≡ [] → list_all (λ x. not (p x)) xs ≡ true
+  filter_none [] e = refl
+  filter_none (x ∷ xs) e = at (p x) e (filter_none xs)
+    where
+      at : (t : Bool) → cond t (x ∷ filter p xs) (filter p xs) ≡ [] → (filter p xs ≡ [] → list_all (λ y. not (p y)) xs ≡ true) → (not t && list_all (λ y. not (p y)) xs) ≡ true
+      at true f rest = absurd (some f)
+        where
+          some : ◌≡◌ {A = List X} (x ∷ filter p xs) [] → ⊥
+          some g = cc
+      at false f rest = rest f
+
+  -- what is found of each where no number stands twice
+  pub all_unique : (test : X → Bool) (xs : List X) → ((n : ℕ) → weigh (λ y. bit (key y == n)) xs ≤ 1) → ((x : X) → find (λ y. key y == key x) xs ≡ Some x → test x ≡ true) → list_all test xs ≡ true
+  all_unique test [] w h = refl
+  all_unique test (x ∷ xs) w h =
+      let same : (key x == key x) ≡ true = grind (arith, nat_tests) in
+      join (test x) (list_all test xs) (h x (rw same refl))
+      (all_unique test xs (λ n. let l = w n in omega (arith, l)) (λ y e. h y (skip y e (key x == key y) refl)))
+    where
+      skip : (y : X) → find (λ z. key z == key y) xs ≡ Some y → (b : Bool) → (key x == key y) ≡ b → cond (key x == key y) (Some x) (find (λ z. key z == key y) xs) ≡ Some y
+      skip y e true f =
+          let t : (key y == key y) ≡ true = grind (arith, nat_tests) in
+          let m = weighs_found (λ z. key z == key y) (λ z. key z == key y) xs y e t in
+          let l = w (key y) in
+          let one : bit (key x == key y) ≡ 1 = ap bit f in
+          absurd (omega arith)
+      skip y e false f = rw f e
+
+-- two tests, one after the other
+pub filter_both : {X : Type 0} (p q : X → Bool) (xs : List X) → filter (λ x. p x && q x) xs ≡ filter q (filter p xs)
+filter_both p q [] = refl
+filter_both p q (x ∷ xs) = at (p x) (q x) refl (filter_both p q xs)
+  where
+    at : (t u : Bool) → q x ≡ u → filter (λ y. p y && q y) xs ≡ filter q (filter p xs) → cond (t && u) (x ∷ filter (λ y. p y && q y) xs) (filter (λ y. p y && q y) xs) ≡ filter q (cond t (x ∷ filter p xs) (filter p xs))
+    at true true f r = rw f (ap (λ ys. x ∷ ys) r)
+    at true false f r = rw f r
+    at false u f r = r
+
 -- a number above the last one is used by none
 pub used_more : (m last k : ℕ) → k ≤ bit (nat_le m last) → k + bit (last + 1 == m) ≤ bit (nat_le m (last + 1))
 used_more m last k e = at (nat_le m last) (last + 1 == m) (nat_le m (last + 1)) refl refl refl e

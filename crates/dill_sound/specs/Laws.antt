@@ -1,8 +1,9 @@
 -- Laws of worlds in order: each step keeps them so, and where a bundle is closing somebody inside it has an answer.
-use Rattle.std.specs.Prelude.{◌≡◌, ℕ, List, Bool, true, false, Option, None, find}
+use Rattle.std.specs.Prelude.{◌≡◌, ℕ, List, Bool, true, false, Option, None, find, is_some}
 use Rattle.std.specs.List.{list_all}
 use Rattle.dill_calls.specs.declared.ran.LackPlace.{LackPlace}
-use Rattle.dill_calls.specs.Program.{Program}
+use Rattle.dill_calls.specs.Program.{Program, IsLawful}
+use Rattle.dill_plain.specs.Plain.{MakesPlain}
 use Rattle.dill_kernel.specs.declared.ready.Ready.{Ready}
 use Rattle.dill_scope.specs.Scopes.{Scopes, is_bundle, is_empty}
 use Rattle.dill_scope.specs.Forest.{Inside}
@@ -12,7 +13,8 @@ use Rattle.dill_rules.specs.declared.coroutine.Mode.TheVariants as modes
 use Rattle.dill_rules.specs.Laws.{IsSound}
 use Rattle.dill_rules.specs.Settling.{settle}
 use Rattle.dill_rules.specs.Taking.{is_cancelled}
-use Rattle.dill_rules.specs.World.{World, begin, is_answered}
+use Rattle.dill_rules.specs.Expiring.{due_of}
+use Rattle.dill_rules.specs.World.{World, begin, call_of, is_answered}
 use Rattle.dill_kept.specs.Kept.{Kept, has_answer, opening_kept, queued, kept_turn, kept_expire_next, kept_expired, kept_shut, kept_woke}
 use Rattle.dill_kept.specs.Plain.{IsPlain}
 use Rattle.dill_kept.specs.Settled.{IsSettled}
@@ -33,16 +35,23 @@ is_resting _ = false
 abbrev pub IsAtRest : {V : Type 0} → World V → Type 0
 IsAtRest w = list_all (λ c. is_resting c.mode) w.coroutines ≡ true
 
+-- what it is pending in has a deadline, if it is pending
+abbrev pub is_timed : {V : Type 0} → World V → ℕ → Bool
+is_timed w who = if_some (call_of w who) true (λ call. is_some (due_of call))
+
 -- so it is of programs that make plain calls
 pub record KeepsOrder {V : Type 0} (p : Program V) : Type 0 where
   pub opening : (view : V) → IsInOrder (opening_kept view).world
   pub turned : (k : Kept V) (lack : Option LackPlace) → IsWell p k → IsInOrder k.world → IsInOrder (kept_turn p lack k).world
   pub started : (k : Kept V) → IsInOrder k.world → IsInOrder (begin k.world)
-  pub expires : (k : Kept V) (who : ℕ) → IsWell p k → IsInOrder k.world → IsInOrder (kept_expire_next k who).world
+  pub expires : (k : Kept V) (who : ℕ) → IsWell p k → IsInOrder k.world → is_timed k.world who ≡ true → IsInOrder (kept_expire_next k who).world
   pub settled : (k : Kept V) → IsWell p k → IsInOrder k.world → IsInOrder (queued (settle k.world) k.ready k.early).world
   pub expired : (k : Kept V) → IsWell p k → IsInOrder k.world → IsInOrder (kept_expired k).world
   pub shut : (k : Kept V) → IsWell p k → IsInOrder k.world → IsInOrder (kept_shut k).world
   pub woke : (k : Kept V) (told : ℕ) (ready : List Ready) → IsInOrder k.world → IsInOrder (kept_woke k told ready).world
+
+abbrev pub StepsKeepOrder : {V : Type 0} → Program V → Type 0
+StepsKeepOrder p = IsLawful p → MakesPlain p → KeepsOrder p
 
 -- a world in order is sound
 abbrev pub OrderIsSound : (V : Type 0) → Type 0

@@ -22,3 +22,8 @@ pub fn closing_goes_on<B: Body>()
 pub fn root_goes_on<B: PlainBody>()
     ensures { RootGoesOn B.means }
 {}
+
+/// Each step of programs that make plain calls keeps what a core keeps in order.
+pub fn steps_keep_order<B: PlainBody>()
+    ensures { KeepsOrder B.means }
+{}

@@ -3,4 +3,4 @@
 
 mod laws;
 
-pub use laws::{all_cancelled, closing_goes_on, order_is_sound, root_goes_on};
+pub use laws::{all_cancelled, closing_goes_on, order_is_sound, root_goes_on, steps_keep_order};
