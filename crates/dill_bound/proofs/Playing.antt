@@ -165,7 +165,7 @@ module _ {V : Type 0} (p : Program V) (follows : Follows p) (ends : EndsClosing 
     stop_place c (inl is) = (ap is_behind is, λ e. cc (e, is))
     stop_place c (inr is) = (ap is_behind is, λ e. cc (e, is))
 
-    stop_within : (k : Kept V) (s : State V) (run : Playing (State V)) → StandsFor k s → IsStable p k → IsAtStop s run → owed p (kept_shut k) ≤ total → IsWithin p total run.config
+    stop_within : (k : Kept V) (s : State V) (run : Playing (State V)) → StandsFor k s → IsStable p k → IsAtStop s run.config → owed p (kept_shut k) ≤ total → IsWithin p total run.config
     stop_within k s run stands stable stop few =
         let place = stop_place run.config stop.place in
         record {

@@ -1,23 +1,41 @@
 -- Once a run has stopped, `main` ends within as many turns as are owed.
-use Rattle.std.specs.Prelude.{◌≡◌, ◌⊎◌, ℕ, ◌≤◌, Bool}
-use Rattle.dill_calls.specs.Program.{Program}
-use Rattle.dill_rules.specs.State.{State, shut}
+use Rattle.std.specs.Prelude.{◌≡◌, ◌⊎◌, ℕ, ◌≤◌, List, Option, Bool}
+use Rattle.rand_core.specs.Stream.{Stream}
+use Rattle.dill_calls.specs.Program.{Program, Begins}
+use Rattle.dill_kernel.specs.declared.replies.KernelReply.{KernelReply}
+use Rattle.dill_rules.specs.State.{State, opening_state, shut}
 use Rattle.dill_drive.specs.ByRules.{machine_of}
-use Rattle.dill_drive.specs.Play.{Playing, play}
-use Rattle.dill_drive.specs.Story.{Closing, Writing}
+use Rattle.dill_drive.specs.Play.{Lack, Playing, advance, opening, play}
+use Rattle.dill_drive.specs.Story.{Closing, Config, Writing}
 use Rattle.dill_kept.specs.Kept.{Kept, kept_shut}
 use Rattle.dill_kept.specs.Stands.{StandsFor}
 use Rattle.dill_debts.specs.Closing.{IsStable}
 use Rattle.dill_debts.specs.Owed.{owed}
 
 -- The root of a state was closed, the lines of that step went out or are still to, and no turn was made since.
-pub record IsAtStop {V : Type 0} (s : State V) (run : Playing (State V)) : Type 0 where
-  pub place : (run.config.place ≡ Closing) ⊎ (run.config.place ≡ Writing Closing)
-  pub state : run.config.state ≡ shut s
-  pub none : run.config.tally.closing ≡ 0
+pub record IsAtStop {V : Type 0} (s : State V) (c : Config (State V)) : Type 0 where
+  pub place : (c.place ≡ Closing) ⊎ (c.place ≡ Writing Closing)
+  pub state : c.state ≡ shut s
+  pub none : c.tally.closing ≡ 0
 
 -- From a stop on, however far the run goes and whatever comes from outside, the turns that were made since are at most what is owed of what a core keeps of the state.
 abbrev pub ClosingIsBounded : {V : Type 0} → Program V → Type 0
-ClosingIsBounded {V} p = (k : Kept V) (s : State V) (traced : Bool) (most : ℕ) (run : Playing (State V))
-    → StandsFor k s → IsStable p k → IsAtStop s run
-    → (n : ℕ) → (play (machine_of p) traced most n run).config.tally.closing ≤ owed p (kept_shut k)
+ClosingIsBounded {V} p = (k : Kept V) (s : State V) (traced : Bool) (most : ℕ) (run : Playing (State V)) → StandsFor k s → IsStable p k → IsAtStop s run.config → (n : ℕ) → (play (machine_of p) traced most n run).config.tally.closing ≤ owed p (kept_shut k)
+
+-- A run stops: after so many steps a stable core stands for its state, whose root is closed by the next one.
+pub record StopsAt {V : Type 0} (p : Program V) (traced : Bool) (most : ℕ) (begun : Playing (State V)) : Type 0 where
+  pub steps : ℕ
+  pub kept : Kept V
+  pub stands : StandsFor kept (play (machine_of p) traced most steps begun).config.state
+  pub stable : IsStable p kept
+  pub stop : IsAtStop (play (machine_of p) traced most steps begun).config.state (advance (machine_of p) traced most (play (machine_of p) traced most steps begun)).config
+
+-- no turn is counted after a stop, or the run stops and no more are than were owed there
+abbrev pub HasFew : {V : Type 0} → Program V → Bool → ℕ → Playing (State V) → ℕ → Type 0
+HasFew p traced most begun count = (count ≡ 0) ⊎ ((stops : StopsAt p traced most begun) × (count ≤ owed p (kept_shut stops.kept)))
+
+-- so it is of each run from its beginning, however far it goes
+abbrev pub RunsAreBounded : {V : Type 0} → Program V → Type 0
+RunsAreBounded {V} p = (view : V) (words keys : Stream) (traced : Bool) (most : ℕ) (replies : List KernelReply) (lacks : List Lack) (halt : Option ℕ) (n : ℕ) → Begins p view
+    → let begun = opening (machine_of p) traced most (opening_state view words) keys replies lacks halt in
+    HasFew p traced most begun (play (machine_of p) traced most n begun).config.tally.closing

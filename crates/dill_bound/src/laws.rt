@@ -1,6 +1,6 @@
-ghost use Rattle.dill_bound.specs.Bound.{ClosingIsBounded};
+ghost use Rattle.dill_bound.specs.Bound.{ClosingIsBounded, RunsAreBounded};
 
-use dill_debts::root_debt_falls;
+use dill_debts::{root_debt_falls, steps_keep_stable};
 use dill_kept::follows_states;
 use dill_plain::PlainBody;
 
@@ -10,5 +10,14 @@ pub fn closing_is_bounded<B: PlainBody>()
     ensures { ClosingIsBounded B.means }
 {
     follows_states::<B>();
+    root_debt_falls::<B>();
+}
+
+/// A run from its beginning counts no turn after a stop, or it stops and counts no more of them than were owed there.
+pub fn runs_are_bounded<B: PlainBody>()
+    ensures { RunsAreBounded B.means }
+{
+    follows_states::<B>();
+    steps_keep_stable::<B>();
     root_debt_falls::<B>();
 }
