@@ -15,3 +15,4 @@ pub mod Within
 pub mod Rooting
 pub mod Tracking
 pub mod Holding
+pub mod Tree
