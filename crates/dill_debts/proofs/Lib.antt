@@ -16,3 +16,4 @@ pub mod Rooting
 pub mod Tracking
 pub mod Holding
 pub mod Tree
+pub mod Beginning

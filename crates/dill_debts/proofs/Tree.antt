@@ -172,7 +172,7 @@ module _ {V : Type 0} (s : Scopes) (b : ℕ) where
   abbrev TracksTo : World V → Type 0
   TracksTo v = Tracks s b v.scopes
 
-  drop_same : (v : World V) (thing : Thing) → (drop v thing).scopes ≡ v.scopes
+  pub drop_same : (v : World V) (thing : Thing) → (drop v thing).scopes ≡ v.scopes
   drop_same v (things.Bundle name) = refl
   drop_same v (things.End end) = refl
   drop_same v (things.Listener link) = refl
