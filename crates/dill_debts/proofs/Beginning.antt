@@ -77,7 +77,7 @@ module _ {V : Type 0} (s : Scopes) where
 
   release_flags : (v : World V) (number : ℕ) → Flags v → Flags (release v number)
   release_flags v number h = some_flags (entry_of v number) v (λ x. note (drop (record v { handles = handles.retire v.handles number }) x.thing) (Freed number)) h
-      (λ x. subst (λ t. AllByRecursion (OldFlag s) t.bundles) (sym (drop_same s 0 (record v { handles = handles.retire v.handles number }) x.thing)) h)
+      (λ x. subst (λ t. AllByRecursion (OldFlag s) t.bundles) (sym (drop_same (record v { handles = handles.retire v.handles number }) x.thing)) h)
 
   give_all_flags : (numbers : List ℕ) (v : World V) (owner : ℕ) → Flags v → Flags (give_all v numbers owner)
   give_all_flags [] v owner h = h
