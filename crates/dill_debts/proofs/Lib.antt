@@ -17,3 +17,4 @@ pub mod Tracking
 pub mod Holding
 pub mod Tree
 pub mod Beginning
+pub mod Falling
