@@ -15,3 +15,6 @@ pub mod Within
 pub mod Rooting
 pub mod Tracking
 pub mod Holding
+pub mod Tree
+pub mod Beginning
+pub mod Falling

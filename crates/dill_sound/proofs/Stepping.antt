@@ -112,14 +112,14 @@ module _ {V : Type 0} where
   give_timed w who n (calls.Hclose number) answer c m d e t = cc
   give_timed w who n _ answer c m d e t = cc
 
-  expire_timed : (w : World V) (who n : ℕ) → IsPlain w → is_timed w who ≡ true → is_timed w n ≡ true → is_timed (expire_one w who) n ≡ true
+  pub expire_timed : (w : World V) (who n : ℕ) → IsPlain w → is_timed w who ≡ true → is_timed w n ≡ true → is_timed (expire_one w who) n ≡ true
   expire_timed w who n plain d t = at (call_of w who) refl d
     where
       at : (o : Option Call) → call_of w who ≡ o → timed o ≡ true → is_timed (if_some o w (λ call. give w who call (late_answer call))) n ≡ true
       at None e f = t
       at (Some call) e f = let c = found_call w who call e in give_timed w who n call (late_answer call) c.0 (call_waits w who call plain e) f c.1 t
 
-  order_expire_one : (w : World V) (who : ℕ) → IsPlain w → IsInOrder w → is_timed w who ≡ true → IsInOrder (expire_one w who)
+  pub order_expire_one : (w : World V) (who : ℕ) → IsPlain w → IsInOrder w → is_timed w who ≡ true → IsInOrder (expire_one w who)
   order_expire_one w who plain o d = at (call_of w who) refl d
     where
       at : (p : Option Call) → call_of w who ≡ p → timed p ≡ true → IsInOrder (if_some p w (λ call. give w who call (late_answer call)))
@@ -127,7 +127,7 @@ module _ {V : Type 0} where
       at (Some call) e f = let c = found_call w who call e in order_give w who call (late_answer call) c.0 o (call_waits w who call plain e) c.1 c.2 (λ number s. absurd (timed_open call number f s))
 
   -- who has a passed deadline has one
-  passed_timed : (w : World V) → IsInOrder w → list_all (is_timed w) (passed w) ≡ true
+  pub passed_timed : (w : World V) → IsInOrder w → list_all (is_timed w) (passed w) ≡ true
   passed_timed w o = list_all-map (is_timed w) (λ (x : Timer). x.who) (in_order (filter_map late w.coroutines)) ∙ in_order_all (λ x. is_timed w x.who) (filter_map late w.coroutines) (given_all (λ x. is_timed w x.who) late w.coroutines (all_by_number (λ c. if_some (late c) true (λ x. is_timed w x.who)) w.coroutines 0 w.last_coroutine o.fits.numbered (λ c e. by c e (pending_call c.mode) refl)))
     where
       late : Coroutine V → Option Timer
