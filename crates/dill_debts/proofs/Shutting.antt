@@ -1,5 +1,5 @@
 -- What holds of each bundle under every owner stays so, and the handles stay those of plain programs.
-use Rattle.std.proofs.Common.{◌≡◌, ◌+◌, ◌≤◌, ◌==◌, ℕ, List, [], ◌∷◌, fold, filter, reverse, find, Bool, true, false, ◌&&◌, cond, Option, Some, None, if◌then◌else◌, refl, sym, subst, arith}
+use Rattle.std.proofs.Common.{◌≡◌, ◌∙◌, ◌+◌, ◌≤◌, ◌==◌, ℕ, List, [], ◌∷◌, fold, filter, reverse, find, Bool, true, false, ◌&&◌, cond, Option, Some, None, if◌then◌else◌, refl, sym, subst, arith}
 use Rattle.std.specs.List.{AllByRecursion}
 use Rattle.dill_base.specs.declared.errno.Errno.{Errno}
 use Rattle.dill_base.specs.declared.errno.Errno.TheVariants.{Enomem}
@@ -49,10 +49,10 @@ pub record AllHold {V : Type 0} (P : Bundle → Type 0) (low : ℕ) (w : World V
   pub things : AllByRecursion IsProper w.handles.entries
   pub flags : HasFlags w
 
--- what holds of a bundle under each owner, of one whose closing has begun, and of a new one
+-- what holds of a bundle under each owner, of an owned one whose closing has begun, and of a new one
 pub record Lasts (P : Bundle → Type 0) (low : ℕ) : Type 0 where
   pub owned : (x : Bundle) (owner : ℕ) → P x → P (scopes.with_owner owner x)
-  pub closed : (x : Bundle) → P x → P (scopes.as_closing x)
+  pub closed : (x : Bundle) (owner : ℕ) → P x → P (scopes.as_closing (scopes.with_owner owner x))
   pub made : (last owner : ℕ) → low ≤ last → P (record { name = last + 1; owner = Some owner; closing = false })
 
 module _ {X : Type 0} (P : X → Type 0) where
@@ -63,6 +63,14 @@ module _ {X : Type 0} (P : X → Type 0) where
       at : (found : Bool) → AllByRecursion P (change pick g xs) → AllByRecursion P (cond found (g x ∷ xs) (x ∷ change pick g xs))
       at true rest = (h x a.0, a.1)
       at false rest = (a.0, rest)
+
+  all_changed_twice : (pick : X → Bool) (f g : X → X) (xs : List X) → ((x : X) → pick (f x) ≡ pick x) → ((x : X) → P x → P (g (f x))) → AllByRecursion P xs → AllByRecursion P (change pick g (change pick f xs))
+  all_changed_twice pick f g [] same h a = tt
+  all_changed_twice pick f g (x ∷ xs) same h a = at (pick x) refl (all_changed_twice pick f g xs same h a.1)
+    where
+      at : (found : Bool) → pick x ≡ found → AllByRecursion P (change pick g (change pick f xs)) → AllByRecursion P (change pick g (cond found (f x ∷ xs) (x ∷ change pick f xs)))
+      at true e rest = let now : pick (f x) ≡ true = same x ∙ e in rw now (h x a.0, a.1)
+      at false e rest = rw e (a.0, rest)
 
 module _ {V : Type 0} (P : Bundle → Type 0) (low : ℕ) (lasts : Lasts P low) where
   -- the same bundles, handles and closings, and the same last number
@@ -145,8 +153,7 @@ module _ {V : Type 0} (P : Bundle → Type 0) (low : ℕ) (lasts : Lasts P low) 
   close_bundle_shut : (w : World V) (owner bundle number : ℕ) → AllHold P low w → AllHold P low (close_bundle w owner bundle number)
   close_bundle_shut w owner bundle number h = record {
     given = h.given;
-    bundles = all_changed P (scopes.is_bundle bundle) scopes.as_closing (scopes.take w.scopes bundle owner).bundles (λ x a. lasts.closed x a)
-        (all_changed P (scopes.is_bundle bundle) (scopes.with_owner owner) w.scopes.bundles (λ x a. lasts.owned x owner a) h.bundles);
+    bundles = all_changed_twice P (scopes.is_bundle bundle) (scopes.with_owner owner) scopes.as_closing w.scopes.bundles (λ x. refl) (λ x a. lasts.closed x owner a) h.bundles;
     things = all_without IsProper (handles.is_entry number) w.handles.entries h.things;
     flags = record {
       ranked = ranked_change (scopes.is_bundle bundle) scopes.as_closing (scopes.take w.scopes bundle owner).bundles 0 w.last_bundle (λ x. refl) (ranked_change (scopes.is_bundle bundle) (scopes.with_owner owner) w.scopes.bundles 0 w.last_bundle (λ x. refl) h.flags.ranked);
