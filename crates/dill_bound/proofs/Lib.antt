@@ -1,3 +1,5 @@
 pub mod Again
 pub mod Playing
+pub mod Unshut
+pub mod Owing
 pub mod Running

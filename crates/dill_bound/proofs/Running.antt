@@ -1,9 +1,14 @@
 -- Each step of a run up to its stop keeps: a stable core stands for the state, and nothing is counted. Or it is the stop.
-use Rattle.std.proofs.Common.{◌≡◌, ◌⊎◌, inl, inr, ◌∙◌, ℕ, zero, suc, ◌-◌, ◌==◌, List, [], ◌++◌, length, Option, Some, None, Bool, true, false, not, ◌||◌, if◌then◌else◌, refl, sym, ap, subst}
+use Rattle.std.proofs.Common.{◌≡◌, ◌⊎◌, inl, inr, ◌∙◌, ℕ, zero, suc, ◌-◌, ◌≤◌, ◌^◌, ◌==◌, List, [], ◌++◌, length, Option, Some, None, Bool, true, false, not, ◌||◌, if◌then◌else◌, refl, sym, ap, subst}
 use Rattle.dill_base.specs.declared.status.Status.{Status}
 use Rattle.dill_base.specs.declared.status.Status.TheVariants as status
 use Rattle.dill_calls.specs.declared.ran.LackPlace.{LackPlace}
-use Rattle.dill_calls.specs.Program.{Program}
+use Rattle.dill_calls.specs.Program.{Program, IsLawful}
+use Rattle.dill_plain.specs.Plain.{MakesPlain}
+use Rattle.dill_rules.specs.Debts.{debt}
+use Rattle.dill_kept.specs.Laws.{KeepsWell}
+use Rattle.dill_bound.proofs.Owing.{owed_is_debt}
+use Rattle.dill_bound.proofs.Unshut.{IsUnshut, expired_unshut, opening_unshut, turned_unshut, woke_unshut}
 use Rattle.dill_kernel.specs.declared.replies.KernelAsk.{KernelAsk}
 use Rattle.dill_kernel.specs.declared.replies.KernelReply.{KernelReply}
 use Rattle.dill_kernel.specs.declared.replies.KernelReply.TheVariants as reply
@@ -17,11 +22,12 @@ use Rattle.dill_drive.specs.Machine.{Machine}
 use Rattle.dill_drive.specs.Play.{Playing, advance, advance_at, asks_try, halt_within, lack_of, opening, play, writes}
 use Rattle.dill_drive.specs.Story.{Place, Round, Asking, Trying, Turns, Due, Stopping, Closing, Last, Closes, Writing, Over, Config, after_test, after_turn, after_wait, at, final, halted, has_ended, is_empty, is_sink, is_spent, is_well, notes_of, one_round, one_turn, showing, stopped, summary_of, waiting_lines}
 use Rattle.dill_kept.specs.Following.{Follows}
-use Rattle.dill_kept.specs.Kept.{Kept, kept_expired, kept_turn, kept_woke, opening_kept}
+use Rattle.dill_debts.specs.Owed.{owed}
+use Rattle.dill_kept.specs.Kept.{Kept, kept_expired, kept_shut, kept_turn, kept_woke, opening_kept}
 use Rattle.dill_kept.specs.Stands.{StandsFor}
 use Rattle.dill_debts.specs.Closing.{IsStable}
 use Rattle.dill_debts.specs.Laws.{EndsClosing, KeepsStable}
-use Rattle.dill_bound.specs.Bound.{IsAtStop, HasFew, RunsAreBounded}
+use Rattle.dill_bound.specs.Bound.{IsAtStop, StopsWithin, RunsAreBounded}
 use Rattle.dill_bound.proofs.Playing.{closing_is_bounded}
 
 -- places where no stop is behind
@@ -35,18 +41,19 @@ abbrev is_early : Place → Bool
 is_early (Writing next) = goes_on next
 is_early other = goes_on other
 
--- a stable core stands for the state
+-- a stable core stands for the state, whose root is open
 record Stable {V : Type 0} (p : Program V) (s : State V) : Type 0 where
   pub kept : Kept V
   pub stands : StandsFor kept s
   pub stable : IsStable p kept
+  pub unshut : IsUnshut s
 
 record IsEarly {V : Type 0} (p : Program V) (c : Config (State V)) : Type 0 where
   pub state : Stable p c.state
   pub none : c.tally.closing ≡ 0
   pub place : is_early c.place ≡ true
 
-module _ {V : Type 0} (p : Program V) (follows : Follows p) (keeps : KeepsStable p) (traced : Bool) (most : ℕ) where
+module _ {V : Type 0} (p : Program V) (law : IsLawful p) (plainly : MakesPlain p) (well : KeepsWell p) (keeps : KeepsStable p) (follows : Follows p) (traced : Bool) (most : ℕ) where
   abbrev m : Machine (State V)
   m = machine_of p
 
@@ -93,7 +100,7 @@ module _ {V : Type 0} (p : Program V) (follows : Follows p) (keeps : KeepsStable
   expires c h none =
       let late = m.expire c.state in
       shows c.state (record c { state = late }) (Turns 64) (notes_of m traced most late)
-      (record { kept = kept_expired h.kept; stands = follows.expired h.kept c.state h.stable.well h.stands; stable = keeps.expired h.kept h.stable }) none refl refl
+      (record { kept = kept_expired h.kept; stands = follows.expired h.kept c.state h.stable.well h.stands; stable = keeps.expired h.kept h.stable; unshut = expired_unshut p law plainly well keeps follows h.kept c.state h.stable h.stands h.unshut }) none refl refl
 
   finishes : (c : Config (State V)) → Stable p c.state → c.tally.closing ≡ 0 → Leads c.state (after_test m traced most c Closes)
   finishes c h none =
@@ -111,7 +118,7 @@ module _ {V : Type 0} (p : Program V) (follows : Follows p) (keeps : KeepsStable
   -- a wait
   wakes : (c : Config (State V)) (said : KernelReply) → Stable p c.state → c.tally.closing ≡ 0 → Leads c.state (after_wait m traced most c said)
   wakes c (reply.Woke moment ready) h none = inl (record {
-    state = record { kept = kept_woke h.kept moment ready; stands = follows.woke h.kept c.state moment ready h.stable.well h.stands; stable = keeps.woke h.kept moment ready h.stable };
+    state = record { kept = kept_woke h.kept moment ready; stands = follows.woke h.kept c.state moment ready h.stable.well h.stands; stable = keeps.woke h.kept moment ready h.stable; unshut = woke_unshut c.state moment ready h.unshut };
     none = none;
     place = refl;
   })
@@ -127,7 +134,7 @@ module _ {V : Type 0} (p : Program V) (follows : Follows p) (keeps : KeepsStable
   turns c left lack h none =
       let after = turn_seen p c.state lack c.keys in
       shows c.state (record c { state = after.0; tally = one_turn c.tally lack; keys = after.1 }) (Turns (left - 1)) (ran_bytes traced (m.ran c.state lack) ++ notes_of m traced most after.0)
-      (record { kept = kept_turn p lack h.kept; stands = follows.turned h.kept c.state lack c.keys h.stable.well h.stands; stable = keeps.turned h.kept lack h.stable }) none refl refl
+      (record { kept = kept_turn p lack h.kept; stands = follows.turned h.kept c.state lack c.keys h.stable.well h.stands; stable = keeps.turned h.kept lack h.stable; unshut = turned_unshut p law plainly well keeps follows h.kept c.state lack c.keys h.stable h.stands h.unshut }) none refl refl
 
   -- lines go out, or their write fails
   on_early : (next : Place) → goes_on next ≡ true → is_early next ≡ true
@@ -180,27 +187,40 @@ module _ {V : Type 0} (p : Program V) (follows : Follows p) (keeps : KeepsStable
   step : (run : Playing (State V)) → IsEarly p run.config → Leads run.config.state (advance m traced most run).config
   step run h = step_at run run.config.place refl h
 
-  -- a run that stops later stops
-  later : (run : Playing (State V)) (count : ℕ) → HasFew p traced most (advance m traced most run) count → HasFew p traced most run count
-  later run count (inl none) = inl none
-  later run count (inr (stops, few)) = inr (record { steps = suc stops.steps; kept = stops.kept; stands = stops.stands; stable = stops.stable; stop = stops.stop }, few)
+  -- no turn is counted, or the run stops
+  abbrev IsBounded : Playing (State V) → ℕ → Type 0
+  IsBounded begun count = (count ≡ 0) ⊎ StopsWithin p traced most begun count
 
-  plays : (ends : EndsClosing p) (n : ℕ) (run : Playing (State V)) → IsEarly p run.config → HasFew p traced most run (play m traced most n run).config.tally.closing
+  later : (run : Playing (State V)) (count : ℕ) → IsBounded (advance m traced most run) count → IsBounded run count
+  later run count (inl none) = inl none
+  later run count (inr stops) = inr (record { steps = suc stops.steps; stop = stops.stop; few = stops.few; small = stops.small })
+
+  -- the stop, and all that comes behind it
+  stops_within : (ends : EndsClosing p) (n : ℕ) (run : Playing (State V)) → Stable p run.config.state → IsAtStop run.config.state (advance m traced most run).config → StopsWithin p traced most run (play m traced most n (advance m traced most run)).config.tally.closing
+  stops_within ends n run h stop =
+      let there = advance m traced most run in
+      let count = (play m traced most n there).config.tally.closing in
+      let same : owed p (kept_shut h.kept) ≡ debt p there.config.state 0 = owed_is_debt p follows ends h.kept run.config.state h.stable h.stands h.unshut ∙ ap (λ s. debt p s 0) (sym stop.state) in
+      record {
+        steps = 0;
+        stop = stop;
+        few = subst (λ x. count ≤ x) same (closing_is_bounded p follows ends h.kept run.config.state traced most there h.stands h.stable stop n);
+        small = subst (λ x. x ≤ 2 ^ 48) same (ends.few (kept_shut h.kept) (ends.shut h.kept h.stable));
+      }
+
+  plays : (ends : EndsClosing p) (n : ℕ) (run : Playing (State V)) → IsEarly p run.config → IsBounded run (play m traced most n run).config.tally.closing
   plays ends zero run h = inl h.none
   plays ends (suc n) run h = at (step run h) (plays ends n (advance m traced most run))
     where
-      at : Leads run.config.state (advance m traced most run).config → (IsEarly p (advance m traced most run).config → HasFew p traced most (advance m traced most run) (play m traced most n (advance m traced most run)).config.tally.closing) → HasFew p traced most run (play m traced most n (advance m traced most run)).config.tally.closing
+      at : Leads run.config.state (advance m traced most run).config → (IsEarly p (advance m traced most run).config → IsBounded (advance m traced most run) (play m traced most n (advance m traced most run)).config.tally.closing) → IsBounded run (play m traced most n (advance m traced most run)).config.tally.closing
       at (inl early) rest = later run (play m traced most n (advance m traced most run)).config.tally.closing (rest early)
-      at (inr stop) rest = inr (
-        record { steps = 0; kept = h.state.kept; stands = h.state.stands; stable = h.state.stable; stop = stop },
-        closing_is_bounded p follows ends h.state.kept run.config.state traced most (advance m traced most run) h.state.stands h.state.stable stop n,
-      )
+      at (inr stop) rest = inr (stops_within ends n run h.state stop)
 
-pub runs_are_bounded : {V : Type 0} (p : Program V) → Follows p → KeepsStable p → EndsClosing p → RunsAreBounded p
-runs_are_bounded p follows keeps ends view words keys traced most replies lacks halt n begins =
+pub runs_are_bounded : {V : Type 0} (p : Program V) → IsLawful p → MakesPlain p → KeepsWell p → KeepsStable p → Follows p → EndsClosing p → RunsAreBounded p
+runs_are_bounded p law plainly well keeps follows ends view words keys traced most replies lacks halt n begins =
     let begun = opening (machine_of p) traced most (opening_state view words) keys replies lacks halt in
-    plays p follows keeps traced most ends n begun (record {
-      state = record { kept = opening_kept view; stands = follows.opening view words; stable = keeps.opening view begins };
+    plays p law plainly well keeps follows traced most ends n begun (record {
+      state = record { kept = opening_kept view; stands = follows.opening view words; stable = keeps.opening view begins; unshut = opening_unshut view words };
       none = refl;
       place = refl;
     })

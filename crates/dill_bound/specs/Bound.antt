@@ -1,8 +1,9 @@
 -- Once a run has stopped, `main` ends within as many turns as are owed.
-use Rattle.std.specs.Prelude.{◌≡◌, ◌⊎◌, ℕ, ◌≤◌, List, Option, Bool}
+use Rattle.std.specs.Prelude.{◌≡◌, ◌⊎◌, ℕ, ◌≤◌, ◌^◌, List, Option, Bool}
 use Rattle.rand_core.specs.Stream.{Stream}
 use Rattle.dill_calls.specs.Program.{Program, Begins}
 use Rattle.dill_kernel.specs.declared.replies.KernelReply.{KernelReply}
+use Rattle.dill_rules.specs.Debts.{debt}
 use Rattle.dill_rules.specs.State.{State, opening_state, shut}
 use Rattle.dill_drive.specs.ByRules.{machine_of}
 use Rattle.dill_drive.specs.Play.{Lack, Playing, advance, opening, play}
@@ -22,20 +23,20 @@ pub record IsAtStop {V : Type 0} (s : State V) (c : Config (State V)) : Type 0 w
 abbrev pub ClosingIsBounded : {V : Type 0} → Program V → Type 0
 ClosingIsBounded {V} p = (k : Kept V) (s : State V) (traced : Bool) (most : ℕ) (run : Playing (State V)) → StandsFor k s → IsStable p k → IsAtStop s run.config → (n : ℕ) → (play (machine_of p) traced most n run).config.tally.closing ≤ owed p (kept_shut k)
 
--- A run stops: after so many steps a stable core stands for its state, whose root is closed by the next one.
-pub record StopsAt {V : Type 0} (p : Program V) (traced : Bool) (most : ℕ) (begun : Playing (State V)) : Type 0 where
+-- a run from its beginning, one step behind so many
+abbrev pub stepped : {V : Type 0} → Program V → Bool → ℕ → Playing (State V) → ℕ → Playing (State V)
+stepped p traced most begun steps = advance (machine_of p) traced most (play (machine_of p) traced most steps begun)
+
+-- A run stops: the step behind so many closes the root. No more turns are counted than its debt is there.
+pub record StopsWithin {V : Type 0} (p : Program V) (traced : Bool) (most : ℕ) (begun : Playing (State V)) (count : ℕ) : Type 0 where
   pub steps : ℕ
-  pub kept : Kept V
-  pub stands : StandsFor kept (play (machine_of p) traced most steps begun).config.state
-  pub stable : IsStable p kept
-  pub stop : IsAtStop (play (machine_of p) traced most steps begun).config.state (advance (machine_of p) traced most (play (machine_of p) traced most steps begun)).config
+  pub stop : IsAtStop (play (machine_of p) traced most steps begun).config.state (stepped p traced most begun steps).config
+  pub few : count ≤ debt p (stepped p traced most begun steps).config.state 0
+  pub small : debt p (stepped p traced most begun steps).config.state 0 ≤ 2 ^ 48
 
--- no turn is counted after a stop, or the run stops and no more are than were owed there
-abbrev pub HasFew : {V : Type 0} → Program V → Bool → ℕ → Playing (State V) → ℕ → Type 0
-HasFew p traced most begun count = (count ≡ 0) ⊎ ((stops : StopsAt p traced most begun) × (count ≤ owed p (kept_shut stops.kept)))
-
--- so it is of each run from its beginning, however far it goes
+-- Of each run from its beginning, however far it goes: it has counted no turn after a stop, or it stops and has counted no more of them than the debt of the root was there.
 abbrev pub RunsAreBounded : {V : Type 0} → Program V → Type 0
 RunsAreBounded {V} p = (view : V) (words keys : Stream) (traced : Bool) (most : ℕ) (replies : List KernelReply) (lacks : List Lack) (halt : Option ℕ) (n : ℕ) → Begins p view
     → let begun = opening (machine_of p) traced most (opening_state view words) keys replies lacks halt in
-    HasFew p traced most begun (play (machine_of p) traced most n begun).config.tally.closing
+    let count = (play (machine_of p) traced most n begun).config.tally.closing in
+    (count ≡ 0) ⊎ StopsWithin p traced most begun count

@@ -1,7 +1,7 @@
 ghost use Rattle.dill_bound.specs.Bound.{ClosingIsBounded, RunsAreBounded};
 
 use dill_debts::{root_debt_falls, steps_keep_stable};
-use dill_kept::follows_states;
+use dill_kept::{follows_states, steps_keep_well};
 use dill_plain::PlainBody;
 
 /// Once a run has stopped, `main` ends within as many turns as are owed: a summary's `closing` is at most what is owed of
@@ -13,11 +13,13 @@ pub fn closing_is_bounded<B: PlainBody>()
     root_debt_falls::<B>();
 }
 
-/// A run from its beginning counts no turn after a stop, or it stops and counts no more of them than were owed there.
+/// A run from its beginning counts no turn after a stop; or it stops, and counts no more of them than the debt of the root
+/// was once it was closed, which is at most 2^48.
 pub fn runs_are_bounded<B: PlainBody>()
     ensures { RunsAreBounded B.means }
 {
-    follows_states::<B>();
+    steps_keep_well::<B>();
     steps_keep_stable::<B>();
+    follows_states::<B>();
     root_debt_falls::<B>();
 }
