@@ -33,7 +33,7 @@ is_behind (Writing Over) = true
 is_behind _ = false
 
 -- A closing core stands for the state; what was counted, and what is owed of it, are together at most this total.
-record Holds {V : Type 0} (p : Program V) (total : ℕ) (s : State V) (count : ℕ) : Type 0 where
+pub record Holds {V : Type 0} (p : Program V) (total : ℕ) (s : State V) (count : ℕ) : Type 0 where
   pub kept : Kept V
   pub stands : StandsFor kept s
   pub closing : IsClosing p kept
@@ -47,7 +47,7 @@ record IsWithin {V : Type 0} (p : Program V) (total : ℕ) (c : Config (State V)
 
 module _ {V : Type 0} (p : Program V) (follows : Follows p) (ends : EndsClosing p) (total : ℕ) where
   -- a turn is counted, and lowers what is owed
-  turn_holds : (s : State V) (count : ℕ) (lack : Option LackPlace) (words : Stream) → Holds p total s count → s.world.ended ≡ None → Holds p total (turn_seen p s lack words).0 (count + 1)
+  pub turn_holds : (s : State V) (count : ℕ) (lack : Option LackPlace) (words : Stream) → Holds p total s count → s.world.ended ≡ None → Holds p total (turn_seen p s lack words).0 (count + 1)
   turn_holds s count lack words h going =
       let well = h.closing.stable.well in
       let more = ends.goes_on h.kept h.closing (sym (follows.seen h.kept s well h.stands).ended ∙ going) in
@@ -77,7 +77,7 @@ module _ {V : Type 0} (p : Program V) (follows : Follows p) (ends : EndsClosing 
   noted_closing k c h = record { stable = noted_stable k h.stable; closing = h.closing; settled = h.settled; early = c.early; lowers = c.lowers }
 
   -- closing the root again owes no more
-  shut_holds : (s : State V) (count : ℕ) → Holds p total s count → Holds p total (shut s) count
+  pub shut_holds : (s : State V) (count : ℕ) → Holds p total s count → Holds p total (shut s) count
   shut_holds s count h =
       let k = h.kept in
       let same = again_same p k h.closing in
@@ -140,7 +140,7 @@ module _ {V : Type 0} (p : Program V) (follows : Follows p) (ends : EndsClosing 
     over_written run None h = record { holds = h; place = refl; going = λ e. cc }
     over_written run (Some count) h = record { holds = h; place = refl; going = λ e. cc }
 
-    next_none : (s : State V) (count : ℕ) → Holds p total s count → m.next_try s ≡ None
+    pub next_none : (s : State V) (count : ℕ) → Holds p total s count → m.next_try s ≡ None
     next_none s count h = (follows.seen h.kept s h.closing.stable.well h.stands).next_try
 
     step_at : (run : Playing (State V)) (place : Place) → run.config.place ≡ place → IsWithin p total run.config → IsWithin p total (advance_at m traced most run place).config

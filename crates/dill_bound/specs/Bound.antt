@@ -1,12 +1,12 @@
 -- Once a run has stopped, `main` ends within as many turns as are owed.
-use Rattle.std.specs.Prelude.{◌≡◌, ◌⊎◌, ℕ, ◌≤◌, ◌^◌, List, Option, Bool}
+use Rattle.std.specs.Prelude.{◌≡◌, ◌⊎◌, ℕ, ◌≤◌, ◌^◌, ◌+◌, ◌*◌, List, Option, Bool, true, is_some}
 use Rattle.rand_core.specs.Stream.{Stream}
 use Rattle.dill_calls.specs.Program.{Program, Begins}
 use Rattle.dill_kernel.specs.declared.replies.KernelReply.{KernelReply}
 use Rattle.dill_rules.specs.Debts.{debt}
 use Rattle.dill_rules.specs.State.{State, opening_state, shut}
 use Rattle.dill_drive.specs.ByRules.{machine_of}
-use Rattle.dill_drive.specs.Play.{Lack, Playing, advance, opening, play}
+use Rattle.dill_drive.specs.Play.{IsOver, Lack, Playing, advance, opening, play}
 use Rattle.dill_drive.specs.Story.{Closing, Config, Writing}
 use Rattle.dill_kept.specs.Kept.{Kept, kept_shut}
 use Rattle.dill_kept.specs.Stands.{StandsFor}
@@ -22,6 +22,11 @@ pub record IsAtStop {V : Type 0} (s : State V) (c : Config (State V)) : Type 0 w
 -- From a stop on, however far the run goes and whatever comes from outside, the turns that were made since are at most what is owed of what a core keeps of the state.
 abbrev pub ClosingIsBounded : {V : Type 0} → Program V → Type 0
 ClosingIsBounded {V} p = (k : Kept V) (s : State V) (traced : Bool) (most : ℕ) (run : Playing (State V)) → StandsFor k s → IsStable p k → IsAtStop s run.config → (n : ℕ) → (play (machine_of p) traced most n run).config.tally.closing ≤ owed p (kept_shut k)
+
+-- From a stop on, after three steps for each turn that is owed and four more the run is over, and `main` has ended.
+abbrev pub StoppedRunsEnd : {V : Type 0} → Program V → Type 0
+StoppedRunsEnd {V} p = (k : Kept V) (s : State V) (traced : Bool) (most : ℕ) (run : Playing (State V)) → StandsFor k s → IsStable p k → IsAtStop s run.config → (n : ℕ) → 3 * owed p (kept_shut k) + 4 ≤ n
+    → IsOver (machine_of p) traced most (play (machine_of p) traced most n run) × (is_some (play (machine_of p) traced most n run).config.state.world.ended ≡ true)
 
 -- a run from its beginning, one step behind so many
 abbrev pub stepped : {V : Type 0} → Program V → Bool → ℕ → Playing (State V) → ℕ → Playing (State V)
