@@ -18,3 +18,4 @@ pub mod Holding
 pub mod Tree
 pub mod Beginning
 pub mod Falling
+pub mod Stamping
