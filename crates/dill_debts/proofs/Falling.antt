@@ -82,7 +82,7 @@ module _ {V : Type 0} (p : Program V) (tree : ℕ → Bool) (early : ℕ → Boo
 
 -- ---- the world in which a bundle is closing
 
-ranked_bound : (bs : List Bundle) (low high name : ℕ) (x : Bundle) → Ranked low bs high → find (is_bundle name) bs ≡ Some x → x.name ≤ high
+pub ranked_bound : (bs : List Bundle) (low high name : ℕ) (x : Bundle) → Ranked low bs high → find (is_bundle name) bs ≡ Some x → x.name ≤ high
 ranked_bound [] low high name x r e = cc
 ranked_bound (y ∷ bs) low high name x r e = at (is_bundle name y) e (λ f. ranked_bound bs (y.name + 1) high name x r.1 f)
   where

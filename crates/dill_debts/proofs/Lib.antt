@@ -19,3 +19,4 @@ pub mod Tree
 pub mod Beginning
 pub mod Falling
 pub mod Stamping
+pub mod Stepwise
