@@ -45,7 +45,7 @@ module _ {V : Type 0} (p : Program V) (law : IsLawful p) (early : ℕ → Bool) 
 
 module _ {V : Type 0} where
   -- each is found by its number
-  each_found : (cs : List (Coroutine V)) (low high : ℕ) → Numbered low cs high → AllByRecursion (λ c. find (is_coroutine c.number) cs ≡ Some c) cs
+  pub each_found : (cs : List (Coroutine V)) (low high : ℕ) → Numbered low cs high → AllByRecursion (λ c. find (is_coroutine c.number) cs ≡ Some c) cs
   each_found [] low high n = tt
   each_found (x ∷ cs) low high n = (
     rw (equal_number x.number x.number refl) refl,

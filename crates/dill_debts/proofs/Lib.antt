@@ -18,3 +18,5 @@ pub mod Holding
 pub mod Tree
 pub mod Beginning
 pub mod Falling
+pub mod Stamping
+pub mod Stepwise
