@@ -1,5 +1,5 @@
 -- From a stop on each step brings the run nearer to its end.
-use Rattle.std.proofs.Common.{◌≡◌, ◌⊎◌, inl, inr, ◌∙◌, ℕ, zero, suc, ◌+◌, ◌*◌, ◌≤◌, List, [], ◌++◌, length, Option, Some, None, Bool, true, false, ◌||◌, if◌then◌else◌, is_some, refl, sym, ap, subst, arith}
+use Rattle.std.proofs.Common.{◌≡◌, ◌⊎◌, inl, inr, ℕ, zero, suc, ◌+◌, ◌*◌, ◌≤◌, List, [], ◌++◌, length, Option, Some, None, Bool, true, false, ◌||◌, if◌then◌else◌, is_some, refl, sym, ap, subst, arith}
 use Rattle.dill_base.specs.declared.errno.Errno.{Errno}
 use Rattle.dill_base.specs.declared.status.Status.TheVariants as status
 use Rattle.dill_calls.specs.declared.ran.LackPlace.{LackPlace}
@@ -11,7 +11,7 @@ use Rattle.dill_rules.specs.State.{State, shut}
 use Rattle.dill_drive.specs.ByRules.{machine_of}
 use Rattle.dill_drive.specs.Machine.{Machine}
 use Rattle.dill_drive.specs.Play.{IsOver, Playing, advance, advance_at, asks_try, halt_within, lack_of, play, writes}
-use Rattle.dill_drive.specs.Story.{Place, Closing, Last, Closes, Writing, Over, Config, after_last, after_test, at, final, is_empty, is_sink, is_well, notes_of, one_last, showing, summary_of}
+use Rattle.dill_drive.specs.Story.{Place, Closing, Last, Closes, Writing, Over, Config, after_last, after_test, at, final, is_empty, is_sink, is_well, notes_of, one_last, summary_of}
 use Rattle.dill_kept.specs.Following.{Follows}
 use Rattle.dill_kept.specs.Kept.{Kept, kept_shut}
 use Rattle.dill_kept.specs.Stands.{StandsFor}

@@ -58,7 +58,7 @@ abbrev IsOpenUnowned : Bundle → Type 0
 IsOpenUnowned x = x.owner ≡ None → x.closing ≡ false
 
 unowned_lasts : Lasts IsOpenUnowned 0
-unowned_lasts = record { owned = λ x owner a e. cc; closed = λ x owner a e. cc; made = λ last owner l e. cc }
+unowned_lasts = record { owned = λ x owner a e. cc; closed = λ x a e. cc; made = λ last owner l e. cc }
 
 -- nobody owns the root, and every other bundle has an owner
 owned_by : (s : Scopes) → IsOrderedForest s → (x : Bundle) → find (is_bundle x.name) s.bundles ≡ Some x → owner_of s x.name ≡ x.owner

@@ -63,7 +63,7 @@ new_other : (a b : ℕ) → a ≤ b → ((b + 1) == a) ≡ false
 new_other a b h = grind (arith, nat_tests)
 
 pub shut_lasts : (name : ℕ) → Lasts (IsShutAs name) name
-shut_lasts name = record { owned = λ x owner a. a; closed = λ x owner a e. refl; made = λ last owner l e. unlike ((last + 1) == name) (new_other name last l) e }
+shut_lasts name = record { owned = λ x owner a. a; closed = λ x a e. refl; made = λ last owner l e. unlike ((last + 1) == name) (new_other name last l) e }
 
 root_found : (o : Option Bundle) → is_some o ≡ true → ((x : Bundle) → o ≡ Some x → x.closing ≡ true) → if_some o false (λ x. x.closing) ≡ true
 root_found None e h = cc

@@ -52,7 +52,7 @@ pub record AllHold {V : Type 0} (P : Bundle → Type 0) (low : ℕ) (w : World V
 -- what holds of a bundle under each owner, of an owned one whose closing has begun, and of a new one
 pub record Lasts (P : Bundle → Type 0) (low : ℕ) : Type 0 where
   pub owned : (x : Bundle) (owner : ℕ) → P x → P (scopes.with_owner owner x)
-  pub closed : (x : Bundle) (owner : ℕ) → P x → P (scopes.as_closing (scopes.with_owner owner x))
+  pub closed : {owner : ℕ} (x : Bundle) → P x → P (scopes.as_closing (scopes.with_owner owner x))
   pub made : (last owner : ℕ) → low ≤ last → P (record { name = last + 1; owner = Some owner; closing = false })
 
 module _ {X : Type 0} (P : X → Type 0) where
@@ -153,7 +153,7 @@ module _ {V : Type 0} (P : Bundle → Type 0) (low : ℕ) (lasts : Lasts P low) 
   close_bundle_shut : (w : World V) (owner bundle number : ℕ) → AllHold P low w → AllHold P low (close_bundle w owner bundle number)
   close_bundle_shut w owner bundle number h = record {
     given = h.given;
-    bundles = all_changed_twice P (scopes.is_bundle bundle) (scopes.with_owner owner) scopes.as_closing w.scopes.bundles (λ x. refl) (λ x a. lasts.closed x owner a) h.bundles;
+    bundles = all_changed_twice P (scopes.is_bundle bundle) (scopes.with_owner owner) scopes.as_closing w.scopes.bundles (λ x. refl) (λ x a. lasts.closed {owner = owner} x a) h.bundles;
     things = all_without IsProper (handles.is_entry number) w.handles.entries h.things;
     flags = record {
       ranked = ranked_change (scopes.is_bundle bundle) scopes.as_closing (scopes.take w.scopes bundle owner).bundles 0 w.last_bundle (λ x. refl) (ranked_change (scopes.is_bundle bundle) (scopes.with_owner owner) w.scopes.bundles 0 w.last_bundle (λ x. refl) h.flags.ranked);
