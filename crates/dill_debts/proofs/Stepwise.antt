@@ -80,10 +80,10 @@ module _ {V : Type 0} where
     closed = λ x h. ((λ e. refl), h.1);
     made = λ last owner l. (
       (λ e.
-          let x = closing_found w.scopes (last + 1) e in
-          let name = number_of x.0.name (last + 1) (found_passes (is_bundle (last + 1)) w.scopes.bundles x.0 x.1) in
-          let bound = ranked_bound w.scopes.bundles 0 w.last_bundle (last + 1) x.0 f.ranked x.1 in
-          absurd (omega (arith, l, name, bound))),
+      let x = closing_found w.scopes (last + 1) e in
+      let name = number_of x.0.name (last + 1) (found_passes (is_bundle (last + 1)) w.scopes.bundles x.0 x.1) in
+      let bound = ranked_bound w.scopes.bundles 0 w.last_bundle (last + 1) x.0 f.ranked x.1 in
+      absurd (omega (arith, l, name, bound))),
       (λ e. no_stamp last w.last_bundle next closings l a),
     );
   }
@@ -262,7 +262,7 @@ module _ {V : Type 0} (p : Program V) (law : IsLawful p) (plainly : MakesPlain p
         (λ y e h. stamp_each y e h y.closing refl (is_closing k.world.scopes y.name) refl) bundle_found step.holds.bundles in
         record {
           low = subst (λ n. AllByRecursion {X = Stamp} (λ x. (x.of ≤ n) × (x.at < s.next + 1 + length (fresh u))) (s.closings ++ new_closings u.scopes.bundles s.closings s.next)) same_last
-              (subst (λ (t : Scopes). AllByRecursion {X = Stamp} (λ x. (x.of ≤ v.last_bundle) × (x.at < s.next + 1 + length (fresh u))) (s.closings ++ new_closings t.bundles s.closings s.next)) same_scopes low);
+          (subst (λ (t : Scopes). AllByRecursion {X = Stamp} (λ x. (x.of ≤ v.last_bundle) × (x.at < s.next + 1 + length (fresh u))) (s.closings ++ new_closings t.bundles s.closings s.next)) same_scopes low);
           each = subst (λ (t : Scopes). AllByRecursion (λ y. is_some (stamp_of (s.closings ++ new_closings t.bundles s.closings s.next) y.name) ≡ y.closing) t.bundles) same_scopes each;
         }
 
@@ -275,8 +275,8 @@ module _ {V : Type 0} (p : Program V) (law : IsLawful p) (plainly : MakesPlain p
         let here : find (is_bundle y.0.name) v.scopes.bundles ≡ Some y.0 = subst (λ m. find (is_bundle m) v.scopes.bundles ≡ Some y.0) (sym name) y.1 in
         let none = ok.1 (ap (is_closing k.world.scopes) name ∙ c) in
         let there : find (is_stamp_of b) (s.closings ++ new_closings u.scopes.bundles s.closings s.next) ≡ Some (record { of = y.0.name; at = s.next }) =
-        subst (λ (t : Scopes). find (is_stamp_of b) (s.closings ++ new_closings t.bundles s.closings s.next) ≡ Some (record { of = y.0.name; at = s.next })) same_scopes
-        (subst (λ m. find (is_stamp_of m) (s.closings ++ new_closings v.scopes.bundles s.closings s.next) ≡ Some (record { of = y.0.name; at = s.next })) name (new_stamp y.0 here y.2 none)) in
+            subst (λ (t : Scopes). find (is_stamp_of b) (s.closings ++ new_closings t.bundles s.closings s.next) ≡ Some (record { of = y.0.name; at = s.next })) same_scopes
+            (subst (λ m. find (is_stamp_of m) (s.closings ++ new_closings v.scopes.bundles s.closings s.next) ≡ Some (record { of = y.0.name; at = s.next })) name (new_stamp y.0 here y.2 none)) in
         let x = queued_stamp n 0 s.next s.answers stands.rise (subst (λ xs. list_any (λ m. m == n) xs ≡ true) stands.order q) in
         ap (λ o. if_some (option_map (λ (z : Stamp). z.at) o) false (λ closed. came (answers ++ stamped (s.next + 1) (fresh u)) n closed)) there
         ∙ came_now n s.next (omega arith) false g
