@@ -21,3 +21,4 @@ pub mod Falling
 pub mod Stamping
 pub mod Stepwise
 pub mod Moving
+pub mod Shifting

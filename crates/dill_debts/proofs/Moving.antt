@@ -64,10 +64,10 @@ module _ {V : Type 0} (Q : Scopes → Type 0) (dropped : (t : Scopes) (name : �
       subst (λ (v : World V). Q v.scopes) (sym (pass_nothing p done (leads_sits p nobody_calm w done leads a))) (within_scopes (length w.coroutines) w a m h)
 
 -- flags stay old
-flags_dropped : (s t : Scopes) (name : ℕ) → AllByRecursion (OldFlag s) t.bundles → AllByRecursion (OldFlag s) (scopes.drop_bundle t name).bundles
+pub flags_dropped : (s t : Scopes) (name : ℕ) → AllByRecursion (OldFlag s) t.bundles → AllByRecursion (OldFlag s) (scopes.drop_bundle t name).bundles
 flags_dropped s t name h = all_without (OldFlag s) (is_bundle name) t.bundles h
 
-flag_was : (s : Scopes) (t : Scopes) (b : ℕ) → AllByRecursion (OldFlag s) t.bundles → is_closing t b ≡ true → is_closing s b ≡ true
+pub flag_was : (s : Scopes) (t : Scopes) (b : ℕ) → AllByRecursion (OldFlag s) t.bundles → is_closing t b ≡ true → is_closing s b ≡ true
 flag_was s t b a c =
     let y = closing_found t b c in
     let name = number_of y.0.name b (found_passes (is_bundle b) t.bundles y.0 y.1) in
@@ -86,6 +86,10 @@ rest_unfresh modes.Running e = cc
 rest_unfresh (modes.Fresh word answer) e = cc
 rest_unfresh (modes.Answered word answer) e = refl
 rest_unfresh (modes.Ending outcome) e = refl
+
+pub unfresh_all : {V : Type 0} (cs : List (Coroutine V)) → list_all (λ c. is_resting c.mode) cs ≡ true → AllByRecursion NoAnswer cs
+unfresh_all [] e = tt
+unfresh_all (c ∷ cs) e = let h = both (is_resting c.mode) (list_all (λ d. is_resting d.mode) cs) e in (rest_unfresh c.mode h.0, unfresh_all cs h.1)
 
 module _ {V : Type 0} (p : Program V) where
   -- what an answer in this step must be, of who is inside
@@ -163,10 +167,6 @@ module _ {V : Type 0} (p : Program V) (law : IsLawful p) (plainly : MakesPlain p
       let done = evolves_all p nobody_calm (HadAnswer who k.ready) (λ d mode q a. absurd (suits_unanswered nobody_calm d mode q a)) (λ number view q r a. cc) moved.coroutines (settle moved).coroutines moved.last_coroutine (settle moved).last_coroutine (settles p moved good.sits good.numbered) after in
       subst (λ (v : World V). AllByRecursion (HadAnswer who k.ready) v.coroutines) (sym (turn_is p law plainly lack w who c may.found)) done
 
-  all_unfresh : (cs : List (Coroutine V)) → list_all (λ c. is_resting c.mode) cs ≡ true → AllByRecursion NoAnswer cs
-  all_unfresh [] e = tt
-  all_unfresh (c ∷ cs) e = let h = both (is_resting c.mode) (list_all (λ d. is_resting d.mode) cs) e in (rest_unfresh c.mode h.0, all_unfresh cs h.1)
-
   turned_begun : (k : Kept V) (lack : Option LackPlace) (who : ℕ) (rest : List ℕ) (b : ℕ) → (s : IsStable p k) → k.ready ≡ who ∷ rest → MayTurn p k.world who → is_closing k.world.scopes b ≡ false → is_closing (turn p lack k.world who).scopes b ≡ true → AllByRecursion (λ c. is_inside (turn p lack k.world who).scopes b c.number ≡ true → LowersFresh c.mode) (turn p lack k.world who).coroutines
   turned_begun k lack who rest b s e may old new =
       let w = k.world in
@@ -175,7 +175,7 @@ module _ {V : Type 0} (p : Program V) (law : IsLawful p) (plainly : MakesPlain p
       let is = turn_is p law plainly lack w who c may.found in
       let good = good_moved p law plainly lack w who may c may.found may.some may.real (good_stable p k s) in
       let plain_move = plainly c.body (answer_given (begin w) who).1 may.real may.some in
-      let begun = go_on_begun w.scopes p lack (begin w) who c may.found (all_unfresh w.coroutines s.rest) (old_flags w.scopes s.order.fits.forest) plain_move in
+      let begun = go_on_begun w.scopes p lack (begin w) who c may.found (unfresh_all w.coroutines s.rest) (old_flags w.scopes s.order.fits.forest) plain_move in
       let closing : is_closing (settle moved).scopes b ≡ true = subst (λ (v : World V). is_closing v.scopes b ≡ true) is new in
       subst (λ (v : World V). AllByRecursion (λ d. is_inside v.scopes b d.number ≡ true → LowersFresh d.mode) v.coroutines) (sym is)
       (at moved good (go_on_plain p lack (begin w) who c.body plain_move (begin_plain w s.well.plain)) (within.moved k lack who rest c s.well s.order e may.found) closing begun)
