@@ -20,3 +20,5 @@ pub mod Beginning
 pub mod Falling
 pub mod Stamping
 pub mod Stepwise
+pub mod Moving
+pub mod Shifting

@@ -104,7 +104,7 @@ module _ {V : Type 0} where
       some_stamp (find (is_stamp_of b) closings) (subst (λ n. is_some (find (is_stamp_of n) closings) ≡ true) name some)
 
   -- who is there lives somewhere
-  all_there : (w : World V) → IsInOrder w → AllByRecursion (λ c. IsThere w.scopes c.number) w.coroutines
+  pub all_there : (w : World V) → IsInOrder w → AllByRecursion (λ c. IsThere w.scopes c.number) w.coroutines
   all_there w o =
       all_to (λ c. find (is_coroutine c.number) w.coroutines ≡ Some c) (λ c. IsThere w.scopes c.number) w.coroutines (λ c e. there_is w c.number o.fits (ap (λ (q : Option (Coroutine V)). is_some q) e))
       (each_found w.coroutines 0 w.last_coroutine o.fits.numbered)

@@ -33,4 +33,4 @@ module _ {V : Type 0} where
   -- between two steps nothing is due besides
   pub record IsSteady (p : Program V) (s : State V) : Type 0 where
     pub even : IsEven p s
-    pub settled : IsSettled s.world
+    pub settled : IsSettled even.kept.world

@@ -176,7 +176,7 @@ module _ {V : Type 0} (p : Program V) (law : IsLawful p) (plainly : MakesPlain p
       ap (λ o. (if_some o (lend s words) (turn_of p lack (lend s words))).world.words) (next_is k s who rest stands e)
       ∙ ap (λ (w : World V). w.words) (turn_blind p words lack s.world who (goes k s who rest well stands e) (plain_of k s well.plain stands))
 
-  expired_next : (k : Kept V) (s : State V) (who : ℕ) → IsWell p k → StandsFor k s → StandsFor (kept_expire_next k who) (expire_next s who)
+  pub expired_next : (k : Kept V) (s : State V) (who : ℕ) → IsWell p k → StandsFor k s → StandsFor (kept_expire_next k who) (expire_next s who)
   expired_next k s who well stands =
       stands_queued (expire_one k.world who) k.ready k.early (expire_one s.world who) s.answers s.closings s.next
       (ap (λ w. expire_one w who) stands.world ∙ expire_one_blind no_words s.world who (plain_of k s well.plain stands)) stands.order stands.rise
