@@ -1,5 +1,5 @@
 -- No step but the closing of the root closes it: up to then it is open, and has no stamp.
-use Rattle.std.proofs.Common.{◌≡◌, ◌∙◌, ◌==◌, ℕ, List, [], ◌∷◌, map, filter, fold, find, Bool, true, false, not, ◌&&◌, cond, Option, Some, None, is_some, refl, sym, ap, subst, arith}
+use Rattle.std.proofs.Common.{◌≡◌, ◌∙◌, ◌==◌, ℕ, zero, suc, List, [], ◌∷◌, length, map, filter, fold, find, Bool, true, false, not, ◌&&◌, cond, Option, Some, None, is_some, refl, sym, ap, subst, arith}
 use Rattle.std.proofs.lemmas.List.Folds.{find-append}
 use Rattle.std.specs.List.{AllByRecursion, list_all, list_any}
 use Rattle.std.specs.Option.{option_or}
@@ -25,7 +25,7 @@ use Rattle.dill_rules.specs.Expiring.{expire_one, passed}
 use Rattle.dill_rules.specs.Giving.{give}
 use Rattle.dill_rules.specs.Hearing.{heat_ready}
 use Rattle.dill_rules.specs.Owning.{free_bundle, is_dead_as}
-use Rattle.dill_rules.specs.Settling.{settle}
+use Rattle.dill_rules.specs.Settling.{settle, settle_one, settle_within}
 use Rattle.dill_rules.specs.Seen.{lend, turn_seen}
 use Rattle.dill_rules.specs.State.{State, Stamp, is_stamp_of, closed_now, expire_next, expired, line_up, lined, lined_mode, next_turn, opening_state, turn_of, woke}
 use Rattle.dill_rules.specs.Turning.{answer_given, go_on, turn}
@@ -41,9 +41,11 @@ use Rattle.dill_kept.proofs.Steps.{call_waits}
 use Rattle.dill_kept.proofs.Turns.{expire_one_plain}
 use Rattle.dill_debts.specs.Closing.{IsStable}
 use Rattle.dill_debts.specs.Laws.{KeepsStable}
-use Rattle.dill_debts.proofs.Keeping.{IsGood, good_expire, good_moved, good_queued, good_stable, settle_holds, turn_is}
+use Rattle.dill_debts.proofs.Keeping.{IsGood, good_expire, good_moved, good_queued, good_stable, nobody_calm, turn_is}
 use Rattle.dill_debts.proofs.Lists.{all_without, equal_number, number_of}
-use Rattle.dill_debts.proofs.Shutting.{AllHold, Lasts, expire_one_shut, go_on_shut}
+use Rattle.dill_debts.proofs.Settling.{AllSit, leads_numbered, leads_sits, pass_nothing, settle_one_leads, settle_within_leads}
+use Rattle.dill_kept.specs.Well.{Numbered}
+use Rattle.dill_debts.proofs.Shutting.{AllHold, LastsOwned, settle_one_owned, expire_one_owned, go_on_owned}
 use Rattle.dill_debts.proofs.Tracking.{all_by_key}
 
 -- the root is open
@@ -57,8 +59,8 @@ RootIsOpen s = AllByRecursion IsOpenRoot s.bundles
 abbrev IsOpenUnowned : Bundle → Type 0
 IsOpenUnowned x = x.owner ≡ None → x.closing ≡ false
 
-unowned_lasts : Lasts IsOpenUnowned 0
-unowned_lasts = record { owned = λ x owner a e. cc; closed = λ x a e. cc; made = λ last owner l e. cc }
+unowned_lasts : LastsOwned IsOpenUnowned 0
+unowned_lasts = record { owned = λ x owner a e. cc; closed = λ x owner a e. cc; made = λ last owner l e. cc }
 
 -- nobody owns the root, and every other bundle has an owner
 owned_by : (s : Scopes) → IsOrderedForest s → (x : Bundle) → find (is_bundle x.name) s.bundles ≡ Some x → owner_of s x.name ≡ x.owner
@@ -190,6 +192,19 @@ module _ {V : Type 0} (p : Program V) (law : IsLawful p) (plainly : MakesPlain p
   holds_of : (k : Kept V) → IsStable p k → RootIsOpen k.world.scopes → Holds (begin k.world)
   holds_of k s a = record { given = omega arith; bundles = unowned_open k.world.scopes s.order.fits.forest a; things = s.things; flags = record { ranked = s.flags.ranked; flagged = s.flags.flagged } }
 
+  within_holds : (n : ℕ) (w : World V) → AllSit p w.coroutines → Numbered 0 w.coroutines w.last_coroutine → Holds w → Holds (settle_within n w)
+  within_holds zero w a n h = h
+  within_holds (suc k) w a n h =
+      let one = settle_one_leads p nobody_calm (λ v. Unit {0}) (λ v who c i e f. cc) w tt a n in
+      within_holds k (settle_one w) (leads_sits p nobody_calm w (settle_one w) one a) (leads_numbered p nobody_calm w (settle_one w) one n) (settle_one_owned IsOpenUnowned 0 unowned_lasts p w a n h)
+
+  settle_holds : (w : World V) → AllSit p w.coroutines → Numbered 0 w.coroutines w.last_coroutine → Holds w → Holds (settle w)
+  settle_holds w a n h =
+      let done = settle_within (length w.coroutines) w in
+      let leads = settle_within_leads p nobody_calm (λ v. Unit {0}) (λ v who c i e f. cc) (λ v i. tt) (length w.coroutines) w tt a n in
+      let same : settle w ≡ done = pass_nothing p done (leads_sits p nobody_calm w done leads a) in
+      subst Holds (sym same) (within_holds (length w.coroutines) w a n h)
+
   turned_holds : (k : Kept V) (lack : Option LackPlace) → IsStable p k → RootIsOpen k.world.scopes → AllByRecursion IsOpenUnowned (kept_turn p lack k).world.scopes.bundles
   turned_holds k lack s a = at k.ready refl
     where
@@ -200,21 +215,21 @@ module _ {V : Type 0} (p : Program V) (law : IsLawful p) (plainly : MakesPlain p
           let may = keeps.first k who rest s.well e in
           let view = may.one.body in
           let good = good_moved p law plainly lack w who may may.one may.found may.some may.real (good_stable p k s) in
-          let moved = go_on_shut IsOpenUnowned 0 unowned_lasts p lack (begin w) who view (plainly view (answer_given (begin w) who).1 may.real may.some) (holds_of k s a) in
-          let settled = settle_holds p IsOpenUnowned 0 unowned_lasts (go_on p lack (begin w) who view) good.sits good.numbered moved in
+          let moved = go_on_owned IsOpenUnowned 0 unowned_lasts p lack (begin w) who view (plainly view (answer_given (begin w) who).1 may.real may.some) (holds_of k s a) in
+          let settled = settle_holds (go_on p lack (begin w) who view) good.sits good.numbered moved in
           subst (λ (v : World V). AllByRecursion IsOpenUnowned v.scopes.bundles) (sym (turn_is p law plainly lack w who may.one may.found)) settled.bundles
 
   late_holds : (xs : List ℕ) (k : Kept V) → IsGood p k.world → Holds k.world → IsGood p (fold kept_expire_next k xs).world × Holds (fold kept_expire_next k xs).world
   late_holds [] k g h = (g, h)
   late_holds (x ∷ xs) k g h =
-      let next = expire_one_shut IsOpenUnowned 0 unowned_lasts p k.world x g.sits h in
+      let next = expire_one_owned IsOpenUnowned 0 unowned_lasts p k.world x g.sits h in
       late_holds xs (kept_expire_next k x) (good_queued p (expire_one k.world x) k.ready k.early (good_expire p k.world x g))
       (record { given = next.given; bundles = next.bundles; things = next.things; flags = record { ranked = next.flags.ranked; flagged = next.flags.flagged } })
 
   expired_holds : (k : Kept V) → IsStable p k → RootIsOpen k.world.scopes → AllByRecursion IsOpenUnowned (kept_expired k).world.scopes.bundles
   expired_holds k s a =
       let late = late_holds (passed k.world) (record k { world = begin k.world }) (good_stable p (record k { world = begin k.world }) (stays.started k s)) (holds_of k s a) in
-      (settle_holds p IsOpenUnowned 0 unowned_lasts (kept_late k).world late.0.sits late.0.numbered late.1).bundles
+      (settle_holds (kept_late k).world late.0.sits late.0.numbered late.1).bundles
 
   -- a turn
   turned_stamps : (lack : Option LackPlace) (s : State V) (o : Option ℕ) → RootIsOpen (if_some o s (turn_of p lack s)).world.scopes → IsUnstamped s.closings → IsUnstamped (if_some o s (turn_of p lack s)).closings
