@@ -45,7 +45,7 @@ module _ {V : Type 0} (p : Program V) (law : IsLawful p) (early : ℕ → Bool) 
 
 module _ {V : Type 0} where
   -- each is found by its number
-  each_found : (cs : List (Coroutine V)) (low high : ℕ) → Numbered low cs high → AllByRecursion (λ c. find (is_coroutine c.number) cs ≡ Some c) cs
+  pub each_found : (cs : List (Coroutine V)) (low high : ℕ) → Numbered low cs high → AllByRecursion (λ c. find (is_coroutine c.number) cs ≡ Some c) cs
   each_found [] low high n = tt
   each_found (x ∷ cs) low high n = (
     rw (equal_number x.number x.number refl) refl,
@@ -70,7 +70,7 @@ early_lowers (modes.Answered word answer) b r h e = unlike b e (h refl)
 early_lowers (modes.Ending outcome) b r h e = tt
 
 module _ {V : Type 0} (ready : List ℕ) (all : List (Coroutine V)) (q : IsQueue ready all) where
-  queued_early : (c : Coroutine V) → find (is_coroutine c.number) all ≡ Some c → is_answered c.mode ≡ true → list_any (λ m. m == c.number) ready ≡ true
+  pub queued_early : (c : Coroutine V) → find (is_coroutine c.number) all ≡ Some c → is_answered c.mode ≡ true → list_any (λ m. m == c.number) ready ≡ true
   queued_early c e a =
       let seen : is_at is_answered all c.number ≡ true = ap (λ o. if_some o false (λ d. is_answered d.mode)) e ∙ a in
       let one : bit (is_at is_answered all c.number) ≡ 1 = ap bit seen in

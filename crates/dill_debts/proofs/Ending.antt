@@ -56,13 +56,13 @@ pub record KeepsWithin {V : Type 0} (p : Program V) : Type 0 where
 
 -- ---- the root, once it is closing
 
-abbrev IsShutAs : ℕ → Bundle → Type 0
+abbrev pub IsShutAs : ℕ → Bundle → Type 0
 IsShutAs name x = (x.name == name) ≡ true → x.closing ≡ true
 
 new_other : (a b : ℕ) → a ≤ b → ((b + 1) == a) ≡ false
 new_other a b h = grind (arith, nat_tests)
 
-shut_lasts : (name : ℕ) → Lasts (IsShutAs name) name
+pub shut_lasts : (name : ℕ) → Lasts (IsShutAs name) name
 shut_lasts name = record { owned = λ x owner a. a; closed = λ x a e. refl; made = λ last owner l e. unlike ((last + 1) == name) (new_other name last l) e }
 
 root_found : (o : Option Bundle) → is_some o ≡ true → ((x : Bundle) → o ≡ Some x → x.closing ≡ true) → if_some o false (λ x. x.closing) ≡ true

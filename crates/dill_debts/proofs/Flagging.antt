@@ -75,7 +75,7 @@ ranked_others name (x ∷ bs) low high l r =
     let up : name + 1 ≤ x.name = omega (arith, l, m) in
     (beyond name x.name name up (equal_number name name refl), ranked_others name bs (x.name + 1) high (omega (arith, up)) r.1)
 
-both_all : {X : Type 0} (P Q R : X → Type 0) (xs : List X) → ((x : X) → P x → Q x → R x) → AllByRecursion P xs → AllByRecursion Q xs → AllByRecursion R xs
+pub both_all : {X : Type 0} (P Q R : X → Type 0) (xs : List X) → ((x : X) → P x → Q x → R x) → AllByRecursion P xs → AllByRecursion Q xs → AllByRecursion R xs
 both_all P Q R [] h a b = tt
 both_all P Q R (x ∷ xs) h a b = (h x a.0 b.0, both_all P Q R xs h a.1 b.1)
 

@@ -160,7 +160,7 @@ module _ {V : Type 0} (w : World V) (b : ℕ) (facts : Facts w b) where
       let it : is_some (find (is_bundle b) w.scopes.bundles) ≡ false = ap (λ (o : Option Bundle). is_some o) (subst (λ n. find (is_bundle n) w.scopes.bundles ≡ None) e facts.new_bundle) in
       unlike (is_some (find (is_bundle b) w.scopes.bundles)) it facts.known
 
-  new_outside : Inside w.scopes b (w.last_coroutine + 1) → ⊥
+  pub new_outside : Inside w.scopes b (w.last_coroutine + 1) → ⊥
   new_outside i =
       let lives = inside_lives w.scopes b i in
       let it : ◌≡◌ {A = Option ℕ} None (Some lives.0) = sym facts.new_home ∙ lives.1 in

@@ -48,7 +48,7 @@ nobody_calm who = false
 abbrev pub AnyBundle : Bundle → Type 0
 AnyBundle x = Unit {0}
 
-any_lasts : Lasts AnyBundle 0
+pub any_lasts : Lasts AnyBundle 0
 any_lasts = record { owned = λ x owner a. tt; closed = λ x a. tt; made = λ last owner l. tt }
 
 all_any : (xs : List Bundle) → AllByRecursion AnyBundle xs

@@ -15,3 +15,10 @@ pub mod Within
 pub mod Rooting
 pub mod Tracking
 pub mod Holding
+pub mod Tree
+pub mod Beginning
+pub mod Falling
+pub mod Stamping
+pub mod Stepwise
+pub mod Moving
+pub mod Shifting

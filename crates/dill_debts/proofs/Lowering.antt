@@ -23,7 +23,7 @@ use Rattle.dill_debts.proofs.Turning.{total_resumed}
 abbrev pub all_calm : ℕ → Bool
 all_calm who = true
 
-less_at : (b e : Bool) (x : ℕ) → e ≡ false → (if b then 0 else x) ≤ (if e then 0 else x)
+pub less_at : (b e : Bool) (x : ℕ) → e ≡ false → (if b then 0 else x) ≤ (if e then 0 else x)
 less_at true false x f = omega arith
 less_at false false x f = omega arith
 less_at b true x f = cc

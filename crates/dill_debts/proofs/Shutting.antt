@@ -1,5 +1,5 @@
 -- What holds of each bundle under every owner stays so, and the handles stay those of plain programs.
-use Rattle.std.proofs.Common.{◌≡◌, ◌+◌, ◌≤◌, ◌==◌, ℕ, List, [], ◌∷◌, fold, filter, reverse, find, Bool, true, false, ◌&&◌, cond, Option, Some, None, if◌then◌else◌, refl, sym, subst, arith}
+use Rattle.std.proofs.Common.{◌≡◌, ◌∙◌, ◌+◌, ◌≤◌, ◌==◌, ℕ, List, [], ◌∷◌, fold, filter, reverse, find, Bool, true, false, ◌&&◌, cond, Option, Some, None, if◌then◌else◌, refl, sym, subst, arith}
 use Rattle.std.specs.List.{AllByRecursion}
 use Rattle.dill_base.specs.declared.errno.Errno.{Errno}
 use Rattle.dill_base.specs.declared.errno.Errno.TheVariants.{Enomem}
@@ -55,6 +55,15 @@ pub record Lasts (P : Bundle → Type 0) (low : ℕ) : Type 0 where
   pub closed : (x : Bundle) → P x → P (scopes.as_closing x)
   pub made : (last owner : ℕ) → low ≤ last → P (record { name = last + 1; owner = Some owner; closing = false })
 
+-- the same, where it is an owned one whose closing begins
+pub record LastsOwned (P : Bundle → Type 0) (low : ℕ) : Type 0 where
+  pub owned : (x : Bundle) (owner : ℕ) → P x → P (scopes.with_owner owner x)
+  pub closed : (x : Bundle) (owner : ℕ) → P x → P (scopes.as_closing (scopes.with_owner owner x))
+  pub made : (last owner : ℕ) → low ≤ last → P (record { name = last + 1; owner = Some owner; closing = false })
+
+lasts_owned : (P : Bundle → Type 0) (low : ℕ) → Lasts P low → LastsOwned P low
+lasts_owned P low lasts = record { owned = lasts.owned; closed = λ x owner a. lasts.closed (scopes.with_owner owner x) (lasts.owned x owner a); made = lasts.made }
+
 module _ {X : Type 0} (P : X → Type 0) where
   all_changed : (pick : X → Bool) (g : X → X) (xs : List X) → ((x : X) → P x → P (g x)) → AllByRecursion P xs → AllByRecursion P (change pick g xs)
   all_changed pick g [] h a = tt
@@ -64,7 +73,15 @@ module _ {X : Type 0} (P : X → Type 0) where
       at true rest = (h x a.0, a.1)
       at false rest = (a.0, rest)
 
-module _ {V : Type 0} (P : Bundle → Type 0) (low : ℕ) (lasts : Lasts P low) where
+  all_changed_twice : (pick : X → Bool) (f g : X → X) (xs : List X) → ((x : X) → pick (f x) ≡ pick x) → ((x : X) → P x → P (g (f x))) → AllByRecursion P xs → AllByRecursion P (change pick g (change pick f xs))
+  all_changed_twice pick f g [] same h a = tt
+  all_changed_twice pick f g (x ∷ xs) same h a = at (pick x) refl (all_changed_twice pick f g xs same h a.1)
+    where
+      at : (found : Bool) → pick x ≡ found → AllByRecursion P (change pick g (change pick f xs)) → AllByRecursion P (change pick g (cond found (f x ∷ xs) (x ∷ change pick f xs)))
+      at true e rest = let now : pick (f x) ≡ true = same x ∙ e in rw now (h x a.0, a.1)
+      at false e rest = rw e (a.0, rest)
+
+module _ {V : Type 0} (P : Bundle → Type 0) (low : ℕ) (lasts : LastsOwned P low) where
   -- the same bundles, handles and closings, and the same last number
   same_shut : (w v : World V) → v.scopes.bundles ≡ w.scopes.bundles → v.last_bundle ≡ w.last_bundle → v.handles.entries ≡ w.handles.entries → v.closings ≡ w.closings → AllHold P low w → AllHold P low v
   same_shut w v e f g c h = record {
@@ -145,8 +162,7 @@ module _ {V : Type 0} (P : Bundle → Type 0) (low : ℕ) (lasts : Lasts P low) 
   close_bundle_shut : (w : World V) (owner bundle number : ℕ) → AllHold P low w → AllHold P low (close_bundle w owner bundle number)
   close_bundle_shut w owner bundle number h = record {
     given = h.given;
-    bundles = all_changed P (scopes.is_bundle bundle) scopes.as_closing (scopes.take w.scopes bundle owner).bundles (λ x a. lasts.closed x a)
-        (all_changed P (scopes.is_bundle bundle) (scopes.with_owner owner) w.scopes.bundles (λ x a. lasts.owned x owner a) h.bundles);
+    bundles = all_changed_twice P (scopes.is_bundle bundle) (scopes.with_owner owner) scopes.as_closing w.scopes.bundles (λ x. refl) (λ x a. lasts.closed x owner a) h.bundles;
     things = all_without IsProper (handles.is_entry number) w.handles.entries h.things;
     flags = record {
       ranked = ranked_change (scopes.is_bundle bundle) scopes.as_closing (scopes.take w.scopes bundle owner).bundles 0 w.last_bundle (λ x. refl) (ranked_change (scopes.is_bundle bundle) (scopes.with_owner owner) w.scopes.bundles 0 w.last_bundle (λ x. refl) h.flags.ranked);
@@ -244,8 +260,8 @@ module _ {V : Type 0} (P : Bundle → Type 0) (low : ℕ) (lasts : Lasts P low) 
       same_shut (keep_end done c) (leave done c) (ended_bundles (c.number == 1) done (from_start (record done { ended = Some (outcome_of c.mode) })) refl) refl refl refl kept
 
   -- what is due is given, and what is due may wait
-  pub settle_one_shut : (p : Program V) (w : World V) → AllSit p w.coroutines → Numbered 0 w.coroutines w.last_coroutine → AllHold P low w → AllHold P low (settle_one w)
-  settle_one_shut p w a n h = at (find (can_finish w) w.coroutines)
+  pub settle_one_owned : (p : Program V) (w : World V) → AllSit p w.coroutines → Numbered 0 w.coroutines w.last_coroutine → AllHold P low w → AllHold P low (settle_one w)
+  settle_one_owned p w a n h = at (find (can_finish w) w.coroutines)
     where
       given : (o : Option (ℕ × Call × Answer)) → first_some (answer_due w) w.coroutines ≡ o → AllHold P low (if_some o w (λ x. give w x.0 x.1 x.2))
       given None e = h
@@ -258,8 +274,8 @@ module _ {V : Type 0} (P : Bundle → Type 0) (low : ℕ) (lasts : Lasts P low) 
       at None = given (first_some (answer_due w) w.coroutines) refl
       at (Some c) = finish_shut w c h
 
-  pub expire_one_shut : (p : Program V) (w : World V) (who : ℕ) → AllSit p w.coroutines → AllHold P low w → AllHold P low (expire_one w who)
-  expire_one_shut p w who a h = at (call_of w who) refl
+  pub expire_one_owned : (p : Program V) (w : World V) (who : ℕ) → AllSit p w.coroutines → AllHold P low w → AllHold P low (expire_one w who)
+  expire_one_owned p w who a h = at (call_of w who) refl
     where
       at : (o : Option Call) → call_of w who ≡ o → AllHold P low (if_some o w (λ call. give w who call (late_answer call)))
       at None e = h
@@ -273,10 +289,20 @@ module _ {V : Type 0} (P : Bundle → Type 0) (low : ℕ) (lasts : Lasts P low) 
   lack_shut w who (Calls call) h = replied_shut w who call _ h
   lack_shut w who (Ends outcome) h = h
 
-  pub go_on_shut : (p : Program V) (lack : Option LackPlace) (w : World V) (who : ℕ) (view : V) → MovesPlain (move_of p w who view) → AllHold P low w → AllHold P low (go_on p lack w who view)
-  go_on_shut p lack w who view e h =
+  pub go_on_owned : (p : Program V) (lack : Option LackPlace) (w : World V) (who : ℕ) (view : V) → MovesPlain (move_of p w who view) → AllHold P low w → AllHold P low (go_on p lack w who view)
+  go_on_owned p lack w who view e h =
       let next = move_of p w who view in
       let short = p.short view (answer_given w who).1 in
       if_shut (is_build lack && may_lack_build next.1) (lack_move (resume w who short) who next.1) (make_move p (is_entry lack) (resume w who next.0) who next.0 next.1)
       (lack_shut (resume w who short) who next.1 (same_shut w (resume w who short) refl refl refl refl h))
       (move_made_shut p (is_entry lack) (resume w who next.0) who next.0 next.1 e (same_shut w (resume w who next.0) refl refl refl refl h))
+
+module _ {V : Type 0} (P : Bundle → Type 0) (low : ℕ) (lasts : Lasts P low) where
+  pub settle_one_shut : (p : Program V) (w : World V) → AllSit p w.coroutines → Numbered 0 w.coroutines w.last_coroutine → AllHold P low w → AllHold P low (settle_one w)
+  settle_one_shut p w a n h = settle_one_owned P low (lasts_owned P low lasts) p w a n h
+
+  pub expire_one_shut : (p : Program V) (w : World V) (who : ℕ) → AllSit p w.coroutines → AllHold P low w → AllHold P low (expire_one w who)
+  expire_one_shut p w who a h = expire_one_owned P low (lasts_owned P low lasts) p w who a h
+
+  pub go_on_shut : (p : Program V) (lack : Option LackPlace) (w : World V) (who : ℕ) (view : V) → MovesPlain (move_of p w who view) → AllHold P low w → AllHold P low (go_on p lack w who view)
+  go_on_shut p lack w who view e h = go_on_owned P low (lasts_owned P low lasts) p lack w who view e h

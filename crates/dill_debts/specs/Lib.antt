@@ -2,4 +2,5 @@ pub mod Owed
 pub mod Says
 pub mod Flags
 pub mod Closing
+pub mod Steady
 pub mod Laws

@@ -114,7 +114,7 @@ module _ {V : Type 0} where
   unlent_plain : (w : World V) → IsPlain (wordless w) → IsPlain w
   unlent_plain w plain = record { channels = plain.channels; links = plain.links; place = plain.place; wrote = plain.wrote; things = plain.things; calls = plain.calls }
 
-  plain_of : (k : Kept V) (s : State V) → IsPlain k.world → StandsFor k s → IsPlain s.world
+  pub plain_of : (k : Kept V) (s : State V) → IsPlain k.world → StandsFor k s → IsPlain s.world
   plain_of k s plain stands = unlent_plain s.world (subst IsPlain stands.world plain)
 
   -- whatever words are lent, the same core stands for it
@@ -127,14 +127,14 @@ module _ {V : Type 0} where
       let it : x.of ≡ who = cc in
       ap (option_map (λ (y : Stamp). y.of)) (ap least e ∙ least_first x xs s.next r.1) ∙ ap Some it
 
-  next_is : (k : Kept V) (s : State V) (who : ℕ) (rest : List ℕ) → StandsFor k s → k.ready ≡ who ∷ rest → next_turn s ≡ Some who
+  pub next_is : (k : Kept V) (s : State V) (who : ℕ) (rest : List ℕ) → StandsFor k s → k.ready ≡ who ∷ rest → next_turn s ≡ Some who
   next_is k s who rest stands e = first_of k s who rest s.answers refl (sym e ∙ stands.order) stands.rise
 
   none_next : (s : State V) (answers : List Stamp) → s.answers ≡ answers → [] ≡ map (λ x. x.of) answers → next_turn s ≡ None
   none_next s [] e f = ap (λ xs. option_map (λ (y : Stamp). y.of) (least xs)) e
   none_next s (x ∷ xs) e f = cc
 
-  nobody_next : (k : Kept V) (s : State V) → StandsFor k s → k.ready ≡ [] → next_turn s ≡ None
+  pub nobody_next : (k : Kept V) (s : State V) → StandsFor k s → k.ready ≡ [] → next_turn s ≡ None
   nobody_next k s stands e = none_next s s.answers refl (sym e ∙ stands.order)
 
 module _ {V : Type 0} (p : Program V) (law : IsLawful p) (plainly : MakesPlain p) where
@@ -176,7 +176,7 @@ module _ {V : Type 0} (p : Program V) (law : IsLawful p) (plainly : MakesPlain p
       ap (λ o. (if_some o (lend s words) (turn_of p lack (lend s words))).world.words) (next_is k s who rest stands e)
       ∙ ap (λ (w : World V). w.words) (turn_blind p words lack s.world who (goes k s who rest well stands e) (plain_of k s well.plain stands))
 
-  expired_next : (k : Kept V) (s : State V) (who : ℕ) → IsWell p k → StandsFor k s → StandsFor (kept_expire_next k who) (expire_next s who)
+  pub expired_next : (k : Kept V) (s : State V) (who : ℕ) → IsWell p k → StandsFor k s → StandsFor (kept_expire_next k who) (expire_next s who)
   expired_next k s who well stands =
       stands_queued (expire_one k.world who) k.ready k.early (expire_one s.world who) s.answers s.closings s.next
       (ap (λ w. expire_one w who) stands.world ∙ expire_one_blind no_words s.world who (plain_of k s well.plain stands)) stands.order stands.rise

@@ -1,0 +1,6 @@
+pub mod Again
+pub mod Playing
+pub mod Ending
+pub mod Unshut
+pub mod Owing
+pub mod Running

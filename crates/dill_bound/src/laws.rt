@@ -1,0 +1,33 @@
+ghost use Rattle.dill_bound.specs.Bound.{ClosingIsBounded, RunsAreBounded, StoppedRunsEnd};
+
+use dill_debts::{root_debt_falls, steps_keep_stable};
+use dill_kept::{follows_states, steps_keep_well};
+use dill_plain::PlainBody;
+
+/// Once a run has stopped no more turns are made than are owed: a summary's `closing` is at most what is owed of what a
+/// core keeps once the root is closed, whatever comes from outside.
+pub fn closing_is_bounded<B: PlainBody>()
+    ensures { ClosingIsBounded B.means }
+{
+    follows_states::<B>();
+    root_debt_falls::<B>();
+}
+
+/// Once a run has stopped `main` ends, and the run is over after three steps for each turn that is owed and four more.
+pub fn stopped_runs_end<B: PlainBody>()
+    ensures { StoppedRunsEnd B.means }
+{
+    follows_states::<B>();
+    root_debt_falls::<B>();
+}
+
+/// A run from its beginning counts no turn after a stop; or it stops, and counts no more of them than the debt of the root
+/// was once it was closed, which is at most 2^48.
+pub fn runs_are_bounded<B: PlainBody>()
+    ensures { RunsAreBounded B.means }
+{
+    steps_keep_well::<B>();
+    steps_keep_stable::<B>();
+    follows_states::<B>();
+    root_debt_falls::<B>();
+}

@@ -1,0 +1,6 @@
+//! That the turns after a stop are few: at most what is owed once the root is closed. Definitions and laws; it holds no code.
+#![tactic(auto)]
+
+mod laws;
+
+pub use laws::{closing_is_bounded, runs_are_bounded, stopped_runs_end};

@@ -1,0 +1,174 @@
+-- The closing of the root, an expiry and a settling, as steps of a state.
+use Rattle.std.proofs.Common.{◌≡◌, ◌∙◌, ◌⊎◌, inl, inr, ◌+◌, ◌≤◌, ◌<◌, ◌==◌, ℕ, List, [], ◌∷◌, length, map, find, Bool, true, false, ◌&&◌, cond, Option, Some, None, is_some, if◌then◌else◌, refl, sym, ap, subst, arith}
+use Rattle.std.specs.List.{AllByRecursion, list_any, list_all}
+use Rattle.std.specs.Option.{option_or}
+use Rattle.dill_calls.specs.declared.answer.Answer.{Answer}
+use Rattle.dill_calls.specs.declared.call.Call.{Call}
+use Rattle.dill_calls.specs.declared.call.Call.TheVariants as calls
+use Rattle.dill_calls.specs.CallTable.{word_of}
+use Rattle.dill_calls.specs.Program.{Program, IsLawful}
+use Rattle.dill_scope.specs.declared.forest.Bundle.{Bundle}
+use Rattle.dill_scope.specs.Scopes as scopes
+use Rattle.dill_scope.specs.Scopes.{Scopes, is_bundle, is_inside}
+use Rattle.dill_maps.specs.Maps.{if_some, first_some, change}
+use Rattle.dill_plain.specs.Plain.{MakesPlain}
+use Rattle.dill_rules.specs.declared.coroutine.Coroutine.{Coroutine}
+use Rattle.dill_rules.specs.declared.coroutine.Mode.{Mode}
+use Rattle.dill_rules.specs.declared.coroutine.Mode.TheVariants as modes
+use Rattle.dill_rules.specs.Debts.{is_early}
+use Rattle.dill_rules.specs.State.{State, Stamp, stamp_of, lined_mode, lined}
+use Rattle.dill_rules.specs.World.{World, is_coroutine, coroutine_of, call_of, begin, with_mode, pending_call, is_answered}
+use Rattle.dill_rules.specs.Answers.{answer_of}
+use Rattle.dill_rules.specs.Entering.{late_answer}
+use Rattle.dill_rules.specs.Expiring.{due_of, expire_one}
+use Rattle.dill_rules.specs.Giving.{give}
+use Rattle.dill_rules.specs.Settling.{answer_due, settle}
+use Rattle.dill_rules.specs.Taking.{is_cancelled}
+use Rattle.dill_kept.specs.Kept.{Kept, queued}
+use Rattle.dill_kept.specs.Plain.{may_wait, IsPlain}
+use Rattle.dill_kept.specs.Settled.{IsSettled}
+use Rattle.dill_kept.specs.Stands.{StandsFor}
+use Rattle.dill_kept.specs.Well.{Numbered, IsQueue}
+use Rattle.dill_kept.proofs.Turns.{root_closed, closed_plain}
+use Rattle.dill_sound.specs.Laws.{is_closing, is_timed}
+use Rattle.dill_debts.specs.Closing.{IsStable}
+use Rattle.dill_debts.specs.Says.{IsLowering}
+use Rattle.dill_debts.specs.Steady.{HasStamps, LowersInside}
+use Rattle.dill_debts.proofs.Beginning.{OldFlag, old_flags}
+use Rattle.dill_debts.proofs.Bounded.{each_found, queued_early}
+use Rattle.dill_debts.proofs.Ending.{IsShutAs}
+use Rattle.dill_debts.proofs.Entering.{answer_lowers}
+use Rattle.dill_debts.proofs.Evolving.{Suits, evolves_all}
+use Rattle.dill_debts.proofs.Falling.{share_in, LowersAt, Falls, owed_tree, lowers_tree, tree_self, settle_falls}
+use Rattle.dill_debts.proofs.Flagging.{all_picked}
+use Rattle.dill_debts.proofs.Holding.{tracks_close}
+use Rattle.dill_debts.proofs.Keeping.{nobody_calm, AnyBundle, any_lasts, IsGood, good_stable, good_closed, root_flags, settles, settle_holds}
+use Rattle.dill_debts.proofs.Lists.{total, all_to, found_changed, found_passes, number_of, some_same}
+use Rattle.dill_debts.proofs.Moving.{unfresh_all as all_unfresh_of, begun_settles, flag_was, flags_dropped, settle_scopes}
+use Rattle.dill_debts.proofs.Settling.{AllSit, PendsIn, call_pends, pending_runs, expire_leads}
+use Rattle.dill_debts.proofs.Shutting.{AllHold, Lasts, expire_one_shut}
+use Rattle.dill_debts.proofs.Stepwise.{LowersFresh, StampOk, stamp_lasts, stamps_self, Stepped, less_early}
+use Rattle.dill_debts.proofs.Tree.{InTree, tree_off}
+use Rattle.dill_debts.proofs.Walking.{Leads, unlike}
+use Rattle.dill_debts.proofs.Within.{order_root}
+
+module _ {V : Type 0} (p : Program V) (law : IsLawful p) (plainly : MakesPlain p) where
+  -- nobody's answer is taken
+  abbrev pub none_gone : ℕ → Bool
+  none_gone n = false
+
+  abbrev HadBefore : List ℕ → Coroutine V → Type 0
+  HadBefore ready c = is_answered c.mode ≡ true → (false ≡ false) × (list_any (λ m. m == c.number) ready ≡ true)
+
+  suits_before : (ready : List ℕ) (c : Coroutine V) (mode : Mode) → Suits p nobody_calm c mode → HadBefore ready (with_mode mode c)
+  suits_before ready c (modes.Pending call) s e = cc
+  suits_before ready c modes.Running s e = absurd s
+  suits_before ready c (modes.Fresh word answer) s e = cc
+  suits_before ready c (modes.Answered word answer) s e = absurd s
+  suits_before ready c (modes.Ending outcome) s e = cc
+
+  -- who has an answer had it before
+  had_before : (k : Kept V) (v : World V) → IsStable p k → Leads p nobody_calm k.world v → AllByRecursion (HadBefore k.ready) v.coroutines
+  had_before k v s e =
+      let w = k.world in
+      let found = each_found w.coroutines 0 w.last_coroutine s.well.numbered in
+      let before = all_to (λ d. find (is_coroutine d.number) w.coroutines ≡ Some d) (HadBefore k.ready) w.coroutines (λ d f a. (refl, queued_early k.ready w.coroutines s.well.queue d f a)) found in
+      evolves_all p nobody_calm (HadBefore k.ready) (λ c mode q. suits_before k.ready c mode q) (λ number view q r a. cc) w.coroutines v.coroutines w.last_coroutine v.last_coroutine e before
+
+  here_low : (k : Kept V) (s : State V) → StandsFor k s → HasStamps s → AllByRecursion {X = Stamp} (λ x. (x.of ≤ k.world.last_bundle) × (x.at < s.next)) s.closings
+  here_low k s stands stamps = subst (λ (w : World V). AllByRecursion {X = Stamp} (λ x. (x.of ≤ w.last_bundle) × (x.at < s.next)) s.closings) (sym stands.world) stamps.low
+
+  here_each : (k : Kept V) (s : State V) → StandsFor k s → HasStamps s → AllByRecursion (λ y. is_some (stamp_of s.closings y.name) ≡ y.closing) k.world.scopes.bundles
+  here_each k s stands stamps = subst (λ (w : World V). AllByRecursion (λ y. is_some (stamp_of s.closings y.name) ≡ y.closing) w.scopes.bundles) (sym stands.world) stamps.each
+
+  here_lowers : (k : Kept V) (s : State V) (b : ℕ) → StandsFor k s → ((c : ℕ) → is_closing s.world.scopes c ≡ true → LowersInside s c) → is_closing k.world.scopes b ≡ true → AllByRecursion (LowersAt p (is_inside k.world.scopes b) (is_early s b)) k.world.coroutines
+  here_lowers k s b stands lowers c = subst (λ (w : World V). AllByRecursion (λ d. is_inside w.scopes b d.number ≡ true → IsLowering (is_early s b) d) w.coroutines) (sym stands.world) (lowers b (subst (λ (w : World V). is_closing w.scopes b ≡ true) stands.world c))
+
+  start_holds : (k : Kept V) (s : State V) → IsStable p k → StandsFor k s → HasStamps s → AllHold (StampOk k.world.scopes s.closings) k.world.last_bundle k.world
+  start_holds k s stable stands stamps = record { given = omega arith; bundles = stamps_self k.world s.closings stable.order (here_each k s stands stamps); things = stable.things; flags = stable.flags }
+
+  lasts_of : (k : Kept V) (s : State V) → IsStable p k → StandsFor k s → HasStamps s → Lasts (StampOk k.world.scopes s.closings) k.world.last_bundle
+  lasts_of k s stable stands stamps = stamp_lasts k.world s.closings s.next stable.flags (here_low k s stands stamps)
+
+  -- ---- a settling
+
+  pub settle_steps : (k : Kept V) (s : State V) → (stable : IsStable p k) → StandsFor k s → HasStamps s → ((b : ℕ) → is_closing s.world.scopes b ≡ true → LowersInside s b) → Stepped p law plainly k s (settle k.world) none_gone s.answers
+  settle_steps k s stable stands stamps lowers =
+      let w = k.world in
+      let good = good_stable p k stable in
+      record {
+        holds = settle_holds p (StampOk w.scopes s.closings) w.last_bundle (lasts_of k s stable stands stamps) w good.sits good.numbered (start_holds k s stable stands stamps);
+        falls = λ b c. settle_falls p law plainly w w b stable.order.fits.forest.forest (is_early s b) (less_early p law plainly s b none_gone) (tree_self p law plainly k b stable c) (here_lowers k s b stands lowers c) (omega arith);
+        begun = λ b c d.
+            let flags = settle_scopes (λ t. AllByRecursion (OldFlag w.scopes) t.bundles) (λ t name h. flags_dropped w.scopes t name h) (λ t who h. h) p w good.sits good.numbered (old_flags w.scopes stable.order.fits.forest) in
+            unlike (is_closing w.scopes b) c (flag_was w.scopes (settle w).scopes b flags d);
+        answered = had_before k (settle w) stable (settles p w good.sits good.numbered);
+        left = λ n g. refl;
+        lost = λ n g. cc;
+      }
+
+  -- ---- the closing of the root
+
+  shut_tree : (k : Kept V) (b : ℕ) → (stable : IsStable p k) → is_closing k.world.scopes b ≡ true → InTree p k.world.scopes b stable.order.fits.forest.forest (root_closed k.world)
+  shut_tree k b stable c =
+      let w = k.world in
+      let self = tree_self p law plainly k b stable c in
+      record {
+        plain = closed_plain w stable.well.plain;
+        order = order_root w stable.order;
+        sits = self.sits;
+        holds = record {
+          given = self.holds.given;
+          bundles = all_picked (IsShutAs b) (IsShutAs b) (is_bundle 0) scopes.as_closing w.scopes.bundles (λ x i f e. refl) (λ x f. f) self.holds.bundles;
+          things = self.holds.things;
+          flags = root_flags w stable.flags;
+        };
+        tracks = tracks_close w.scopes b w.scopes 0 self.tracks;
+      }
+
+  pub shut_steps : (k : Kept V) (s : State V) → (stable : IsStable p k) → StandsFor k s → HasStamps s → ((b : ℕ) → is_closing s.world.scopes b ≡ true → LowersInside s b) → Stepped p law plainly k s (settle (root_closed k.world)) none_gone s.answers
+  shut_steps k s stable stands stamps lowers =
+      let w = k.world in
+      let r = root_closed w in
+      let good = good_stable p k stable in
+      let lasts = lasts_of k s stable stands stamps in
+      let start = start_holds k s stable stands stamps in
+      let closed : AllHold (StampOk w.scopes s.closings) w.last_bundle r = record {
+        given = start.given;
+        bundles = all_picked (StampOk w.scopes s.closings) (StampOk w.scopes s.closings) (is_bundle 0) scopes.as_closing w.scopes.bundles (λ x i f. lasts.closed x f) (λ x f. f) start.bundles;
+        things = start.things;
+        flags = root_flags w stable.flags;
+      } in
+      let any : AllHold AnyBundle 0 r = record { given = omega arith; bundles = all_to (StampOk w.scopes s.closings) AnyBundle r.scopes.bundles (λ x f. tt) closed.bundles; things = closed.things; flags = closed.flags } in
+      record {
+        holds = settle_holds p (StampOk w.scopes s.closings) w.last_bundle lasts r good.sits good.numbered closed;
+        falls = λ b c. settle_falls p law plainly w r b stable.order.fits.forest.forest (is_early s b) (less_early p law plainly s b none_gone) (shut_tree k b stable c) (here_lowers k s b stands lowers c) (omega arith);
+        begun = λ b c d. begun_settles p r b (closed_plain w stable.well.plain) (order_root w stable.order) good.sits any (all_unfresh_of w.coroutines stable.rest) d;
+        answered = had_before k (settle r) stable (settles p r good.sits good.numbered);
+        left = λ n g. refl;
+        lost = λ n g. cc;
+      }
+
+  -- ---- an expiry
+
+  -- who is cancelled waits for no deadline
+  abbrev pub Hushed : World V → Type 0
+  Hushed w = (n : ℕ) (call : Call) → is_cancelled w n ≡ true → call_of w n ≡ Some call → due_of call ≡ None
+
+  first_none : (w : World V) (cs : List (Coroutine V)) → first_some (answer_due w) cs ≡ None → AllByRecursion (λ c. answer_due w c ≡ None) cs
+  first_none w [] e = tt
+  first_none w (c ∷ cs) e = at (answer_due w c) refl e (first_none w cs)
+    where
+      at : (o : Option (ℕ × Call × Answer)) → answer_due w c ≡ o → option_or o (first_some (answer_due w) cs) ≡ None → (first_some (answer_due w) cs ≡ None → AllByRecursion (λ d. answer_due w d ≡ None) cs) → (answer_due w c ≡ None) × AllByRecursion (λ d. answer_due w d ≡ None) cs
+      at None i f rest = (i, rest f)
+      at (Some x) i f rest = cc
+
+  cancels_some : (c : Bool) (x : Answer) (rest : Option Answer) → c ≡ true → option_or (if c then Some x else None) rest ≡ None → ⊥
+  cancels_some true x rest e f = let it : ◌≡◌ {A = Option Answer} (Some x) None = f in cc
+  cancels_some false x rest e f = cc
+
+  hushes : (w : World V) (n : ℕ) (call : Call) → may_wait call ≡ true → is_cancelled w n ≡ true → answer_of w n call ≡ None → due_of call ≡ None
+  hushes w n (calls.Msleep deadline) m c e = absurd (cancels_some (is_cancelled w n) _ _ c e)
+  hushes w n (calls.BundleWait number deadline) m c e = absurd (cancels_some (is_cancelled w n) _ _ c e)
+  hushes w n (calls.Hclose number) m c e = refl
+  hushes w n _ m c e = cc
