@@ -6,10 +6,11 @@ use Rattle.dill_maps.specs.Maps.{if_some}
 use Rattle.dill_rules.specs.declared.coroutine.Coroutine.{Coroutine}
 use Rattle.dill_rules.specs.declared.coroutine.Mode.{Mode}
 use Rattle.dill_rules.specs.declared.coroutine.Mode.TheVariants as modes
-use Rattle.dill_rules.specs.Expiring.{Timer, due_of, in_order, passed}
+use Rattle.dill_rules.specs.Expiring.{Timer, due_of, in_order, passed, expire_one}
 use Rattle.dill_rules.specs.State.{lined_mode, lined}
 use Rattle.dill_rules.specs.World.{World, pending_call}
 use Rattle.dill_kept.specs.Well.{Numbered}
+use Rattle.dill_world.specs.Store.{Store, world_of}
 use Rattle.dill_steps.specs.Timing.{first_of, late_timer, Rises}
 
 -- a list behind its first
@@ -52,9 +53,13 @@ module _ {V : Type 0} where
   all_late_lined moment (c ∷ cs) =
       ap (λ o. cons_option o (filter_map (late_timer moment) (map lined cs))) (late_lined moment c) ∙ ap (cons_option (late_timer moment c)) (all_late_lined moment cs)
 
-  pub passed_lined : (w : World V) → passed (record w { coroutines = map lined w.coroutines }) ≡ passed w
+  passed_lined : (w : World V) → passed (record w { coroutines = map lined w.coroutines }) ≡ passed w
   passed_lined w = ap (λ ts. map (λ (x : Timer). x.who) (in_order ts)) (all_late_lined w.moment w.coroutines)
 
   pub rises_of : (cs : List (Coroutine V)) (low high : ℕ) → Numbered low cs high → Rises low cs
   rises_of [] low high n = tt
   rises_of (c ∷ cs) low high n = (n.0, rises_of cs c.number high n.1)
+
+  -- once the first of the passed deadlines is given up and its answer queued, the rest are the passed ones
+  pub rest_passed : (s stepped new : Store V) (who : ℕ) (rest : List ℕ) → world_of new ≡ record (world_of stepped) { coroutines = map lined stepped.coroutines } → world_of stepped ≡ expire_one (world_of s) who → passed (expire_one (world_of s) who) ≡ rest → passed (world_of new) ≡ rest
+  rest_passed s stepped new who rest l e r = ap (λ (w : World V). passed w) l ∙ passed_lined (world_of stepped) ∙ ap (λ (w : World V). passed w) e ∙ r

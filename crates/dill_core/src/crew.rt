@@ -100,6 +100,7 @@ impl<B: PlainBody> Core<B> {
         self.world.begin();
         self.world.set_moment(moment);
     }
+
     /// What settles, and who is answered by that is queued.
     fn settle(&mut self)
         ensures { kept_of self.new ≡ queued (settling.settle (kept_of self.old).world) self.old.ready self.old.early }

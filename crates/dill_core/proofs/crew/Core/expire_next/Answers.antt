@@ -1,11 +1,10 @@
 use Rattle.std.proofs.Common.{◌≡◌, ◌∙◌, ◌∷◌, vec_capacity, arith, ap, subst}
 use Rattle.dill_rules.specs.Expiring.{expire_one, passed}
-use Rattle.dill_rules.specs.World.{World}
 use Rattle.dill_kept.specs.Kept.{Kept}
 use Rattle.dill_sound.specs.Laws.{is_timed}
 use Rattle.dill_world.specs.Store.{world_of, ArePlain}
 use Rattle.dill_core.specs.Holding.{Holding, kept_of}
-use Rattle.dill_core.proofs.Late.{passed_lined, rises_of}
+use Rattle.dill_core.proofs.Late.{rest_passed, rises_of}
 use Rattle.dill_core.proofs.Places.{has_places, lined_held}
 use Rattle.dill_core.proofs.crew.Core.expire_next.Goals as goal
 
@@ -29,4 +28,4 @@ returns-clause-rest g c = λ rest before.
     let plain : ArePlain s.world.coroutines = subst ArePlain c.coroutines.ensures.rows c.coroutines.ensures.plain in
     let now : passed (world_of s.world) ≡ c.args.who ∷ rest = ap (λ (h : Holding g.row.B.Denot). passed (world_of h.world)) c.self.view_is ∙ before in
     let behind : passed (expire_one (world_of s.world) c.args.who) ≡ rest = c.passes_one_by_one.ensures s.world c.args.who rest plain (rises_of s.world.coroutines 0 s.world.last_coroutine c.self.invariant.stable.well.numbered) now in
-    ap (λ (w : World g.row.B.Denot). passed w) c.line_up.ensures.world ∙ passed_lined (world_of c.expire_one.new.world) ∙ ap (λ (w : World g.row.B.Denot). passed w) c.expire_one.ensures.expired ∙ behind
+    rest_passed s.world c.expire_one.new.world c.line_up.new.self c.args.who rest c.line_up.ensures.world c.expire_one.ensures.expired behind
