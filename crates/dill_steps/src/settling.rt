@@ -1,9 +1,9 @@
-ghost use Rattle.std.specs.Prelude.{◌≡◌, ◌≤◌, length, find, option_copied, option_map, true, IfSome};
+ghost use Rattle.std.specs.Prelude.{◌≡◌, ◌≤◌, length, find, option_copied, option_map, true, false, None, IfSome};
 ghost use Rattle.dill_maps.specs.Maps.{first_some};
 ghost use Rattle.dill_rules.specs.World as worlds;
 ghost use Rattle.dill_rules.specs.Giving as giving;
 ghost use Rattle.dill_rules.specs.Settling as settling;
-ghost use Rattle.dill_steps.specs.Endings.{ending_of};
+ghost use Rattle.dill_steps.specs.Endings.{ending_of, Rests};
 ghost use Rattle.dill_world.specs.Store.{world_of, may_wait, is_plain_mode, is_plain_row, is_short_answer, ArePlain};
 
 use dill_base::Errno;
@@ -132,23 +132,32 @@ pub fn first_answer<B>(world: &World<B>) -> Option<(u64, Call, Answer)>
     first_due(world, world.coroutines())
 }
 
-/// The first answer that is due is given, where there is one.
-fn give_first<B: Drop>(world: &mut World<B>)
+/// The first answer that is due is given. It answers whether there was one.
+fn give_first<B: Drop>(world: &mut World<B>) -> bool
     ensures given { world_of world.new ≡ settling.give_first (world_of world.old) }
+    ensures none { result ≡ false → first_some (settling.answer_due (world_of world.old)) world.old.coroutines ≡ None }
     ensures few { length world.new.coroutines ≤ length world.old.coroutines }
 {
-    if let Some((who, call, answer)) = first_answer(world) {
-        give(world, who, &call, answer);
+    match first_answer(world) {
+        None => false,
+        Some((who, call, answer)) => {
+            give(world, who, &call, answer);
+            true
+        }
     }
 }
 
-/// An ending finishes, or else an answer is given, where one is due.
-pub fn settle_one<B: Drop>(world: &mut World<B>)
+/// An ending finishes, or else an answer is given. It answers whether either was due; where neither was, nothing changes.
+pub fn settle_one<B: Drop>(world: &mut World<B>) -> bool
     ensures settled { world_of world.new ≡ settling.settle_one (world_of world.old) }
+    ensures rests { result ≡ false → Rests (world_of world.old) }
     ensures few { length world.new.coroutines ≤ length world.old.coroutines }
 {
     match next_ending(world) {
-        Some((who, outcome)) => world.finish(who, outcome),
+        Some((who, outcome)) => {
+            world.finish(who, outcome);
+            true
+        }
         None => give_first(world),
     }
 }
@@ -159,7 +168,10 @@ pub fn settle<B: Drop>(world: &mut World<B>)
     ensures few { length world.new.coroutines ≤ length world.old.coroutines }
 {
     for _ in 0..world.coroutines().len() {
-        settle_one(world);
+        if !settle_one(world) {
+            let _ = world.coroutines();
+            return;
+        }
     }
     let _ = world.coroutines();
 }
