@@ -285,24 +285,24 @@ fn a_failed_wait_and_a_spent_budget_close_the_program(rt: HostRuntime) -> Result
     ends(&rt, "x", Case { turns: 2, ..row }, spent)
 }
 
-/// Gives the words to the program, over a shelf that holds a script under `x`.
-fn says(
+/// Gives the words to the program, over a shelf that holds a script under `x`, and compares what it came to.
+fn does(
     rt: &(impl Abort + AllocGlobal),
     words: &[&str],
-    status: Status,
-    said: &str,
+    script: &[u8],
+    end: End<'_>,
 ) -> Result<(), Fail> {
     let alloc = rt.alloc();
     let mut all = Vec::new(alloc);
     for word in words {
         all.push(String::from_str(alloc, word)?)?;
     }
-    let mut shelf = shelf(alloc, TWO_PRINTS, 0)?;
+    let mut shelf = shelf(alloc, script, 0)?;
     let mut out = sink(alloc, 0)?;
     let mut err = sink(alloc, 0)?;
     let mut kernel = IdleKernel::new(None);
     let mut keys = StdRng::seed_from_u64(1);
-    let end = dillrelay(
+    let status = dillrelay(
         alloc,
         all.as_slice(),
         &mut shelf,
@@ -311,20 +311,74 @@ fn says(
         &mut kernel,
         &mut keys,
     );
-    assert_eq!(rt; end, status, "{words:?}");
-    assert_eq!(rt; err.bytes(), said.as_bytes(), "{words:?}");
-    assert_eq!(rt; out.bytes().is_empty(), status != Status::Well);
+    assert_eq!(rt; status, end.status, "{words:?}");
+    assert_eq!(rt; out.bytes(), end.shown.as_bytes(), "{words:?}");
+    assert_eq!(rt; err.bytes(), end.said.as_bytes(), "{words:?}");
+    Ok(())
+}
+
+const SUMMARY: &str =
+    "hello\nbye\nsummary status=0 errno=none turns=3 rounds=1 closing=0 made=0 gone=0 lacks=0\n";
+
+#[test]
+fn words_say_what_is_done(rt: HostRuntime) -> Result<(), Fail> {
+    let runs = End {
+        status: Status::Well,
+        shown: SUMMARY,
+        said: "",
+    };
+    let traces = End {
+        shown: "1 start =0\nhello\n1 print =0\nbye\n1 print =0\n1 end ok\n\
+            summary status=0 errno=none turns=3 rounds=1 closing=0 made=0 gone=0 lacks=0\n",
+        ..runs
+    };
+    let spent = End {
+        status: Status::Spent,
+        shown: "hello\nbye\nsummary status=7 errno=none turns=1 rounds=1 closing=2 made=0 gone=0 lacks=0\n",
+        said: "",
+    };
+    let unread = End {
+        status: Status::Shelf,
+        shown: "",
+        said: "dillrelay: script not read\n",
+    };
+    let refused = End {
+        status: Status::Words,
+        shown: "",
+        said: "usage: dillrelay [--mode run|trace|check|load] [--net real|loop] [--turns N] [--cut N] SCRIPT\n",
+    };
+    let cases: [(&[&str], End<'_>); 11] = [
+        (&["x"], runs),
+        (&["x", "--net", "loop", "--mode=run"], runs),
+        (&["--mode", "trace", "x"], traces),
+        (&["--mode=trace", "--net=loop", "--", "x"], traces),
+        (&["--turns", "2", "x"], spent),
+        (&["y"], unread),
+        (&[], refused),
+        (&["-x"], refused),
+        (&["x", "x"], refused),
+        (&["--turns", "0", "x"], refused),
+        (&["--mode", "load", "5"], refused),
+    ];
+    for (words, end) in cases {
+        does(&rt, words, TWO_PRINTS, end)?;
+    }
     Ok(())
 }
 
 #[test]
-fn one_word_names_the_script(rt: HostRuntime) -> Result<(), Fail> {
-    let usage =
-        "usage: dillrelay [--mode run|trace|check|load] [--net real|loop] [--turns N] [--cut N] SCRIPT\n";
-    says(&rt, &["x"], Status::Well, "")?;
-    says(&rt, &["y"], Status::Shelf, "dillrelay: script not read\n")?;
-    says(&rt, &[], Status::Words, usage)?;
-    says(&rt, &["-x"], Status::Words, usage)?;
-    says(&rt, &["-"], Status::Words, usage)?;
-    says(&rt, &["x", "x"], Status::Words, usage)
+fn a_script_is_checked(rt: HostRuntime) -> Result<(), Fail> {
+    let text = b"dill 1\n\n  program main 0 # go\nprint   \"a\\x41\"\nend";
+    let canonical = End {
+        status: Status::Well,
+        shown: "dill 1\nprogram main 0\nprint \"aA\"\nend\n",
+        said: "",
+    };
+    does(&rt, &["--mode", "check", "x"], text, canonical)?;
+    let refused = End {
+        status: Status::Script,
+        shown: "",
+        said: "dillrelay: script line 2: bad block\n",
+    };
+    does(&rt, &["--mode", "check", "x"], b"dill 1\nend\n", refused)
 }
