@@ -161,7 +161,7 @@ module _ {V : Type 0} where
       at false i f rest = rw i (rest f)
 
   -- a place in the queue makes nothing due
-  settled_queued : (p : Program V) (w : World V) (ready : List ℕ) (early : ℕ) → AllSit p w.coroutines → IsSettled w → IsSettled (queued w ready early).world
+  pub settled_queued : (p : Program V) (w : World V) (ready : List ℕ) (early : ℕ) → AllSit p w.coroutines → IsSettled w → IsSettled (queued w ready early).world
   settled_queued p w ready early a s = record {
     endings = none_lined (can_finish w) (can_finish (queued w ready early).world) w.coroutines (λ x. ap (λ b. b && is_clear w x.number) (lined_ending x.mode)) s.endings;
     answers = due_lined p w (queued w ready early).world w.coroutines a refl refl refl ∙ s.answers;

@@ -22,3 +22,4 @@ pub mod Stamping
 pub mod Stepwise
 pub mod Moving
 pub mod Shifting
+pub mod Debting

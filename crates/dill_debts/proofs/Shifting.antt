@@ -52,11 +52,11 @@ use Rattle.dill_debts.proofs.Tree.{InTree, tree_off}
 use Rattle.dill_debts.proofs.Walking.{Leads, unlike}
 use Rattle.dill_debts.proofs.Within.{order_root}
 
-module _ {V : Type 0} (p : Program V) (law : IsLawful p) (plainly : MakesPlain p) where
-  -- nobody's answer is taken
-  abbrev pub none_gone : ℕ → Bool
-  none_gone n = false
+-- nobody's answer is taken
+abbrev pub none_gone : ℕ → Bool
+none_gone n = false
 
+module _ {V : Type 0} (p : Program V) (law : IsLawful p) (plainly : MakesPlain p) where
   abbrev HadBefore : List ℕ → Coroutine V → Type 0
   HadBefore ready c = is_answered c.mode ≡ true → (false ≡ false) × (list_any (λ m. m == c.number) ready ≡ true)
 

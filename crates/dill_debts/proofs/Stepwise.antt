@@ -309,7 +309,7 @@ module _ {V : Type 0} (p : Program V) (law : IsLawful p) (plainly : MakesPlain p
         subst (λ (w : World V). AllByRecursion (λ x. is_inside w.scopes b x.number ≡ true → IsLowering (is_early next_state b) x) w.coroutines) stands_after.world all
 
     -- the state is even again
-    pub even_after : IsEven p next_state
+    abbrev pub even_after : IsEven p next_state
     even_after = record { kept = queued v ready early; stable = after; stands = stands_after; stamps = stamps_after; lowers = lowers_after }
 
     share_lined : (tree f : ℕ → Bool) (c : Coroutine V) → share_in p tree f (lined c) ≡ share_in p tree f c
