@@ -142,7 +142,7 @@ module _ {V : Type 0} where
       ap (λ t. answer_of (record v { scopes = t }) who (calls.Hclose number)) s ∙ ap (λ t. answer_of (record w { closings = t }) who (calls.Hclose number)) c
   answer_same w v who _ e s h c = cc
 
-  due_at : (w v : World V) (n : ℕ) (o : Option Call) → if_some o true may_wait ≡ true → v.scopes ≡ w.scopes → v.handles ≡ w.handles → v.closings ≡ w.closings → ◌≡◌ {A = Option (ℕ × Call × Answer)} (if_some o None (λ call. if_some (answer_of v n call) None (λ a. Some (n, call, a)))) (if_some o None (λ call. if_some (answer_of w n call) None (λ a. Some (n, call, a))))
+  pub due_at : (w v : World V) (n : ℕ) (o : Option Call) → if_some o true may_wait ≡ true → v.scopes ≡ w.scopes → v.handles ≡ w.handles → v.closings ≡ w.closings → ◌≡◌ {A = Option (ℕ × Call × Answer)} (if_some o None (λ call. if_some (answer_of v n call) None (λ a. Some (n, call, a)))) (if_some o None (λ call. if_some (answer_of w n call) None (λ a. Some (n, call, a))))
   due_at w v n None m s h c = refl
   due_at w v n (Some call) m s h c = ap (λ r. if_some r None (λ a. Some (n, call, a))) (answer_same w v n call m s h c)
 

@@ -208,9 +208,9 @@ module _ {V : Type 0} (p : Program V) (law : IsLawful p) (plainly : MakesPlain p
       at false f rest = others (is_coroutine n c) f rest
 
   -- what is given up at its deadline leaves the bundles, and the calls of others
-  record Leaves (w v : World V) : Type 0 where
-    scopes_same : v.scopes ≡ w.scopes
-    calls_were : (n : ℕ) (call : Call) → call_of v n ≡ Some call → call_of w n ≡ Some call
+  pub record Leaves (w v : World V) : Type 0 where
+    pub scopes_same : v.scopes ≡ w.scopes
+    pub calls_were : (n : ℕ) (call : Call) → call_of v n ≡ Some call → call_of w n ≡ Some call
 
   give_leaves : (w : World V) (x : ℕ) (call : Call) (answer : Answer) → may_wait call ≡ true → is_some (due_of call) ≡ true → Leaves w (give w x call answer)
   give_leaves w x (calls.Msleep deadline) answer m d = record { scopes_same = refl; calls_were = λ n call e. change_calls n x _ call w.coroutines refl e }
@@ -218,7 +218,7 @@ module _ {V : Type 0} (p : Program V) (law : IsLawful p) (plainly : MakesPlain p
   give_leaves w x (calls.Hclose number) answer m d = cc
   give_leaves w x _ answer m d = cc
 
-  expire_leaves : (w : World V) (x : ℕ) → AllSit p w.coroutines → is_timed w x ≡ true → Leaves w (expire_one w x)
+  pub expire_leaves : (w : World V) (x : ℕ) → AllSit p w.coroutines → is_timed w x ≡ true → Leaves w (expire_one w x)
   expire_leaves w x a t = at (call_of w x) refl t
     where
       at : (o : Option Call) → call_of w x ≡ o → if_some o true (λ call. is_some (due_of call)) ≡ true → Leaves w (if_some o w (λ call. give w x call (late_answer call)))
@@ -237,7 +237,7 @@ module _ {V : Type 0} (p : Program V) (law : IsLawful p) (plainly : MakesPlain p
   lined_pending (modes.Answered word answer) = refl
   lined_pending (modes.Ending outcome) = refl
 
-  calls_lined : (cs : List (Coroutine V)) (n : ℕ) → if_some (find (is_coroutine n) (map lined cs)) None (λ c. pending_call c.mode) ≡ if_some (find (is_coroutine n) cs) None (λ c. pending_call c.mode)
+  pub calls_lined : (cs : List (Coroutine V)) (n : ℕ) → if_some (find (is_coroutine n) (map lined cs)) None (λ c. pending_call c.mode) ≡ if_some (find (is_coroutine n) cs) None (λ c. pending_call c.mode)
   calls_lined [] n = refl
   calls_lined (c ∷ cs) n = at (is_coroutine n c) (calls_lined cs n)
     where
