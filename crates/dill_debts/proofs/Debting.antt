@@ -1,14 +1,18 @@
 -- The laws of the debt of a bundle that is closing.
 use Rattle.std.proofs.Common.{◌≡◌, ◌∙◌, ◌⊎◌, inl, inr, ◌+◌, ◌-◌, ◌≤◌, ◌<◌, ◌==◌, ℕ, List, [], ◌∷◌, length, map, filter, fold, find, sum_by, Bool, true, false, not, cond, Option, Some, None, is_some, if◌then◌else◌, refl, sym, ap, subst, arith}
 use Rattle.std.specs.Prelude.{max}
-use Rattle.std.specs.List.{AllByRecursion, list_all}
+use Rattle.std.specs.List.{AllByRecursion, list_all, list_any}
 use Rattle.std.specs.Option.{option_or}
 use Rattle.dill_calls.specs.declared.ran.LackPlace.{LackPlace}
 use Rattle.dill_calls.specs.Program.{Program, IsLawful, Begins}
 use Rattle.rand_core.specs.Stream.{Stream}
 use Rattle.dill_kernel.specs.declared.ready.Ready.{Ready}
 use Rattle.dill_scope.specs.declared.forest.Bundle.{Bundle}
-use Rattle.dill_scope.specs.Scopes.{Scopes, is_inside, is_empty}
+use Rattle.dill_scope.specs.Scopes.{Scopes, home_of, is_inside, is_empty}
+use Rattle.dill_scope.specs.Forest.{Inside}
+use Rattle.dill_scope.specs.Keeping.{IsThere}
+use Rattle.dill_scope.proofs.Carrying.{some_told}
+use Rattle.dill_scope.proofs.Chains.{search_is_inside}
 use Rattle.dill_maps.specs.Maps.{if_some, first_some}
 use Rattle.dill_plain.specs.Plain.{MakesPlain}
 use Rattle.dill_rules.specs.declared.coroutine.Coroutine.{Coroutine}
@@ -16,9 +20,9 @@ use Rattle.dill_rules.specs.Debts.{is_early, share, debt}
 use Rattle.dill_rules.specs.Expiring.{due_of, passed, expire_one}
 use Rattle.dill_rules.specs.Hearing.{heat_ready, woken}
 use Rattle.dill_rules.specs.Settling.{can_finish, answer_due, settle}
-use Rattle.dill_rules.specs.State.{State, Stamp, is_stamp_of, stamp_of, opening_state, line_up, after, next_turn, turn_of, turned, expire_next, expired, shut, woke}
+use Rattle.dill_rules.specs.State.{State, Stamp, is_stamp_of, stamp_of, opening_state, line_up, after, next_turn, turn_of, fresh, turned, expire_next, expired, shut, woke}
 use Rattle.dill_rules.specs.Turning.{answer_given, go_on, turn}
-use Rattle.dill_rules.specs.World.{World, begin, pending_call}
+use Rattle.dill_rules.specs.World.{World, begin, pending_call, is_ending}
 use Rattle.dill_kept.specs.Following.{Follows}
 use Rattle.dill_kept.specs.Kept.{Kept, opening_kept, queued, turn_first, kept_turn, kept_expire_next, kept_late, kept_expired, kept_shut, kept_woke}
 use Rattle.dill_kept.specs.Laws.{MayTurn, KeepsWell}
@@ -36,23 +40,29 @@ use Rattle.dill_kept.proofs.Turns.{root_closed, closed_plain, go_on_plain}
 use Rattle.dill_sound.specs.Laws.{is_closing, is_timed, HasGoing}
 use Rattle.dill_sound.specs.Order.{is_there, IsInOrder}
 use Rattle.dill_sound.proofs.Going.{closing_goes_on}
+use Rattle.dill_sound.proofs.Sound.{rooted_inside}
 use Rattle.dill_sound.proofs.Stepping.{steps_keep_order, passed_timed, expire_timed}
 use Rattle.dill_debts.specs.Closing.{IsStable}
 use Rattle.dill_debts.specs.Debts.{Step, Turn, Expire, Shut, Wake, step, SamePlaces, is_turn_inside, turns_inside, DebtFalls, DebtsFall}
-use Rattle.dill_debts.specs.Laws.{KeepsStable}
+use Rattle.dill_debts.specs.Laws.{KeepsStable, EndsClosing}
+use Rattle.dill_debts.specs.Owed.{share_by, is_early as early_in, owed}
 use Rattle.dill_debts.specs.Says.{IsLowering}
 use Rattle.dill_debts.specs.Steady.{HasStamps, LowersInside, IsEven, IsSteady}
-use Rattle.dill_debts.proofs.Ending.{KeepsWithin, due_at, settled_queued}
+use Rattle.dill_debts.proofs.Ending.{KeepsWithin, due_at, settled_queued, take_all}
 use Rattle.dill_debts.proofs.Falling.{share_in, LowersAt, turn_falls}
 use Rattle.dill_debts.proofs.Keeping.{IsGood, good_stable, good_settle, good_moved, good_turn, turn_is, good_closed, good_expire, good_queued}
-use Rattle.dill_debts.proofs.Lists.{total, equal_number}
+use Rattle.dill_debts.proofs.Lists.{total, is_total, all_to, equal_number}
 use Rattle.dill_debts.proofs.Moving.{turn_steps}
-use Rattle.dill_debts.proofs.Rooting.{steps_keep_stable}
+use Rattle.dill_debts.proofs.Rooting.{steps_keep_stable, root_debt_falls}
 use Rattle.dill_debts.proofs.Shifting.{none_gone, Hushed, hushed_settled, hushed_expire, hushed_queued, expire_leaves, calls_lined, settle_steps, shut_steps, expire_steps}
 use Rattle.dill_debts.proofs.Settling.{AllSit}
-use Rattle.dill_debts.proofs.Stepwise.{Stepped, less_early, debt_total, even_after, debt_after, places_after, stamps_after, lowers_after}
+use Rattle.dill_debts.proofs.Stepwise.{Stepped, less_early, debt_total, total_all, all_there, early_queued, even_after, debt_after, places_after, stamps_after, lowers_after}
 use Rattle.dill_debts.proofs.Walking.{unlike}
 use Rattle.dill_debts.proofs.Within.{keeps_within}
+
+-- who lives somewhere is inside the root
+home_inside : {V : Type 0} (w : World V) (n : ℕ) → IsInOrder w → IsThere w.scopes n → Inside w.scopes 0 n
+home_inside w n o e = let h = some_told (home_of w.scopes n) e in rooted_inside w.scopes n (o.fits.forest.forest.rooted n h.0 h.1)
 
 module _ {V : Type 0} (p : Program V) (law : IsLawful p) (plainly : MakesPlain p) where
   keeps : KeepsWell p
@@ -63,6 +73,9 @@ module _ {V : Type 0} (p : Program V) (law : IsLawful p) (plainly : MakesPlain p
 
   stable_steps : KeepsStable p
   stable_steps = steps_keep_stable p law plainly
+
+  root_ends : EndsClosing p
+  root_ends = root_debt_falls p law plainly
 
   within_steps : KeepsWithin p
   within_steps = keeps_within p plainly keeps
@@ -411,6 +424,29 @@ module _ {V : Type 0} (p : Program V) (law : IsLawful p) (plainly : MakesPlain p
       let there : HasGoing (wordless s.world) b = subst (λ w. HasGoing w b) same g in
       record { who = there.who; inside = there.inside; answered = there.answered }
 
+  -- at its closing everybody is inside the root, and exactly those are early that were queued
+  owed_root : (k : Kept V) (s : State V) → IsStable p k → StandsFor k s → IsSteady p s → is_closing s.world.scopes 0 ≡ false → owed p (kept_shut k) ≡ debt p (shut s) 0
+  owed_root k s stable stands st open_root =
+      let v = settle (root_closed k.world) in
+      let after = kept_shut k in
+      let kept = stable_steps.shut k stable in
+      let steps = shut_steps p law plainly k s stable stands st.even.stamps st.even.lowers in
+      let stands_after = follows.shut k s stable.well stands in
+      let shut_now : is_closing v.scopes 0 ≡ true = (root_ends.shut k stable).closing in
+      let open_here : is_closing k.world.scopes 0 ≡ false = subst (λ (w : World V). is_closing w.scopes 0 ≡ false) (sym stands.world) open_root in
+      let queue = take_all (k.ready) (fresh v) in
+      let there = all_there after.world kept.order in
+      let same = all_to (λ (c : Coroutine V). IsThere after.world.scopes c.number) (λ c. share_by p (early_in after) c ≡ share_in p (is_inside after.world.scopes 0) (is_early (shut s) 0) c) after.world.coroutines
+      (λ c e.
+      let inside = (search_is_inside after.world.scopes 0 c.number kept.order.fits.forest.forest).1 (home_inside after.world c.number kept.order e) in
+      let early = early_queued p law plainly k s stable stands st.even.stamps v none_gone s.answers steps k.ready (length k.ready) kept _ stands_after 0 open_here shut_now c.number refl in
+      ap (λ xs. if is_ending c.mode then 0 else (if list_any (λ m. m == c.number) xs then 1 + p.most c.body else p.left c.body)) queue
+      ∙ ap (λ b. if is_ending c.mode then 0 else (if b then 1 + p.most c.body else p.left c.body)) (sym early)
+      ∙ ap (λ b. if b then share_by p (is_early (shut s) 0) c else 0) (sym inside)) there in
+      is_total (share_by p (early_in after)) after.world.coroutines
+      ∙ total_all (share_by p (early_in after)) (share_in p (is_inside after.world.scopes 0) (is_early (shut s) 0)) after.world.coroutines same
+      ∙ sym (debt_total p after.world (shut s) 0 stands_after.world)
+
   none_inside : (s : State V) (b : ℕ) (xs : List Step) → is_closing s.world.scopes b ≡ false → turns_inside p s b xs ≡ 0
   none_inside s b [] c = refl
   none_inside s b (x ∷ xs) c = ap (λ t. if t then bit (is_turn_inside s b x) + turns_inside p (step p s x) b xs else 0) c
@@ -439,6 +475,7 @@ module _ {V : Type 0} (p : Program V) (law : IsLawful p) (plainly : MakesPlain p
     no_more = λ s x b st c. (comes s x b st c).no_more;
     places = λ s x b st c. (comes s x b st c).places;
     goes_on = goes_on;
+    root = owed_root;
     within = within;
   }
 

@@ -167,6 +167,10 @@ module _ {V : Type 0} where
     answers = due_lined p w (queued w ready early).world w.coroutines a refl refl refl ∙ s.answers;
   }
 
+pub take_all : (xs ys : List ℕ) → take (length xs) (xs ++ ys) ≡ xs
+take_all [] ys = refl
+take_all (x ∷ xs) ys = ap (λ zs. x ∷ zs) (take_all xs ys)
+
 take_front : (k : ℕ) (xs ys : List ℕ) → k ≤ length xs → take k (xs ++ ys) ≡ take k xs
 take_front zero xs ys l = refl
 take_front (suc k) [] ys l = absurd (omega (arith, l))
@@ -319,10 +323,6 @@ module _ {V : Type 0} (p : Program V) (law : IsLawful p) (plainly : MakesPlain p
           falls = omega (arith, before, kept);
         } in
         subst (TurnsOff w k.early who rest) (sym (turn_is p law plainly lack w who may.one may.found)) done
-
-  take_all : (xs ys : List ℕ) → take (length xs) (xs ++ ys) ≡ xs
-  take_all [] ys = refl
-  take_all (x ∷ xs) ys = ap (λ zs. x ∷ zs) (take_all xs ys)
 
   module _ (settling_ends : SettlesAll V) (stable : KeepsStable p) (goes : RootGoesOn p) where
     few : (k : Kept V) → IsClosing p k → owed p k ≤ 2 ^ 48

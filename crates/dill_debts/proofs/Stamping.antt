@@ -82,6 +82,15 @@ queued_stamp n low next (x ∷ xs) r e = at (x.of == n) refl e (queued_stamp n (
         let y = rest f in
         (y.0, ap (λ c. cond c (Some x) (find (is_stamp_of n) xs)) i ∙ y.1, y.2)
 
+-- whose number isn't has none
+pub unqueued : (n : ℕ) (xs : List Stamp) → list_any (λ m. m == n) (map (λ x. x.of) xs) ≡ false → find (is_stamp_of n) xs ≡ None
+unqueued n [] e = refl
+unqueued n (x ∷ xs) e = at (x.of == n) e (unqueued n xs)
+  where
+    at : (b : Bool) → (b || list_any (λ m. m == n) (map (λ y. y.of) xs)) ≡ false → (list_any (λ m. m == n) (map (λ y. y.of) xs) ≡ false → find (is_stamp_of n) xs ≡ None) → cond b (Some x) (find (is_stamp_of n) xs) ≡ None
+    at true f rest = cc
+    at false f rest = rest f
+
 -- ---- closings
 
 -- the bundles whose closing begins, and that have no stamp

@@ -31,7 +31,7 @@ use Rattle.dill_debts.proofs.Falling.{share_in, LowersAt, Falls, ranked_bound}
 use Rattle.dill_debts.proofs.Flagging.{both_all}
 use Rattle.dill_debts.proofs.Lists.{total, is_total, total_same, total_map, all_found, all_append, all_map, all_to, find_append, found_passes, number_of, equal_number, some_same}
 use Rattle.dill_debts.proofs.Shutting.{AllHold, Lasts}
-use Rattle.dill_debts.proofs.Stamping.{stamped_from, find_behind, is_less, came, came_before, queued_stamp, new_closings, closing_stamped, open_unstamped, stamps_low}
+use Rattle.dill_debts.proofs.Stamping.{stamped_from, find_behind, is_less, came, came_before, queued_stamp, unqueued, new_closings, closing_stamped, open_unstamped, stamps_low}
 use Rattle.dill_debts.proofs.Tracking.{all_by_key}
 use Rattle.dill_debts.proofs.Tree.{closing_found}
 use Rattle.dill_debts.proofs.Walking.{unlike}
@@ -117,7 +117,7 @@ total_filter f test (x ∷ xs) = at (test x) (total_filter f test xs)
     at true r = ap (λ n. f x + n) r
     at false r = omega (arith, r)
 
-total_all : {X : Type 0} (f g : X → ℕ) (xs : List X) → AllByRecursion (λ x. f x ≡ g x) xs → total f xs ≡ total g xs
+pub total_all : {X : Type 0} (f g : X → ℕ) (xs : List X) → AllByRecursion (λ x. f x ≡ g x) xs → total f xs ≡ total g xs
 total_all f g [] a = refl
 total_all f g (x ∷ xs) a = let one = a.0 in let r = total_all f g xs a.1 in omega (arith, one, r)
 
@@ -266,9 +266,9 @@ module _ {V : Type 0} (p : Program V) (law : IsLawful p) (plainly : MakesPlain p
           each = subst (λ (t : Scopes). AllByRecursion (λ y. is_some (stamp_of (s.closings ++ new_closings t.bundles s.closings s.next) y.name) ≡ y.closing) t.bundles) same_scopes each;
         }
 
-    -- of a bundle that begins to close all are early that were queued before
-    early_new : (b : ℕ) → is_closing k.world.scopes b ≡ false → is_closing v.scopes b ≡ true → (n : ℕ) → gone n ≡ false → list_any (λ m. m == n) k.ready ≡ true → is_early next_state b n ≡ true
-    early_new b c d n g q =
+    -- the answers that came before a bundle began to close
+    early_when : (b : ℕ) → is_closing k.world.scopes b ≡ false → is_closing v.scopes b ≡ true → (n : ℕ) → gone n ≡ false → is_early next_state b n ≡ came s.answers n s.next
+    early_when b c d n g =
         let y = closing_found v.scopes b d in
         let name = number_of y.0.name b (found_passes (is_bundle b) v.scopes.bundles y.0 y.1) in
         let ok = all_found (StampOk k.world.scopes s.closings) (is_bundle b) y.0 v.scopes.bundles y.1 step.holds.bundles in
@@ -277,11 +277,28 @@ module _ {V : Type 0} (p : Program V) (law : IsLawful p) (plainly : MakesPlain p
         let there : find (is_stamp_of b) (s.closings ++ new_closings u.scopes.bundles s.closings s.next) ≡ Some (record { of = y.0.name; at = s.next }) =
             subst (λ (t : Scopes). find (is_stamp_of b) (s.closings ++ new_closings t.bundles s.closings s.next) ≡ Some (record { of = y.0.name; at = s.next })) same_scopes
             (subst (λ m. find (is_stamp_of m) (s.closings ++ new_closings v.scopes.bundles s.closings s.next) ≡ Some (record { of = y.0.name; at = s.next })) name (new_stamp y.0 here y.2 none)) in
-        let x = queued_stamp n 0 s.next s.answers stands.rise (subst (λ xs. list_any (λ m. m == n) xs ≡ true) stands.order q) in
         ap (λ o. if_some (option_map (λ (z : Stamp). z.at) o) false (λ closed. came (answers ++ stamped (s.next + 1) (fresh u)) n closed)) there
         ∙ came_now n s.next (omega arith) false g
-        ∙ ap (λ o. if_some (option_map (λ (z : Stamp). z.at) o) false (λ a. nat_lt a s.next)) x.1
-        ∙ is_less x.0.at s.next x.2
+
+    -- of a bundle that begins to close all are early that were queued before
+    early_new : (b : ℕ) → is_closing k.world.scopes b ≡ false → is_closing v.scopes b ≡ true → (n : ℕ) → gone n ≡ false → list_any (λ m. m == n) k.ready ≡ true → is_early next_state b n ≡ true
+    early_new b c d n g q =
+        let x = queued_stamp n 0 s.next s.answers stands.rise (subst (λ xs. list_any (λ m. m == n) xs ≡ true) stands.order q) in
+        early_when b c d n g ∙ ap (λ o. if_some (option_map (λ (z : Stamp). z.at) o) false (λ a. nat_lt a s.next)) x.1 ∙ is_less x.0.at s.next x.2
+
+    -- and nobody else
+    early_none : (b : ℕ) → is_closing k.world.scopes b ≡ false → is_closing v.scopes b ≡ true → (n : ℕ) → gone n ≡ false → list_any (λ m. m == n) k.ready ≡ false → is_early next_state b n ≡ false
+    early_none b c d n g q =
+        let x = unqueued n s.answers (subst (λ xs. list_any (λ m. m == n) xs ≡ false) stands.order q) in
+        early_when b c d n g ∙ ap (λ o. if_some (option_map (λ (z : Stamp). z.at) o) false (λ a. nat_lt a s.next)) x
+
+    -- exactly those are early that were queued before
+    pub early_queued : (b : ℕ) → is_closing k.world.scopes b ≡ false → is_closing v.scopes b ≡ true → (n : ℕ) → gone n ≡ false → is_early next_state b n ≡ list_any (λ m. m == n) k.ready
+    early_queued b c d n g = at (list_any (λ m. m == n) k.ready) refl
+      where
+        at : (q : Bool) → list_any (λ m. m == n) k.ready ≡ q → is_early next_state b n ≡ list_any (λ m. m == n) k.ready
+        at true e = early_new b c d n g e ∙ sym e
+        at false e = early_none b c d n g e ∙ sym e
 
     there_after : AllByRecursion (λ c. IsThere v.scopes c.number) v.coroutines
     there_after = all_unmap (λ (c : Coroutine V). IsThere v.scopes c.number) lined v.coroutines (all_there (queued v ready early).world after.order)

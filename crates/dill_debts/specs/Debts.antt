@@ -9,9 +9,13 @@ use Rattle.dill_maps.specs.Maps.{if_some}
 use Rattle.dill_plain.specs.Plain.{MakesPlain}
 use Rattle.dill_rules.specs.Debts.{debt}
 use Rattle.dill_rules.specs.State.{State, opening_state, next_turn, turned, expired, shut, woke}
+use Rattle.dill_kept.specs.Kept.{Kept, kept_shut}
+use Rattle.dill_kept.specs.Stands.{StandsFor}
 use Rattle.dill_kept.specs.Well.{bit}
 use Rattle.dill_sound.specs.Laws.{is_closing, HasGoing}
 use Rattle.dill_sound.specs.Order.{is_there}
+use Rattle.dill_debts.specs.Closing.{IsStable}
+use Rattle.dill_debts.specs.Owed.{owed}
 use Rattle.dill_debts.specs.Steady.{IsSteady}
 
 -- a step of a state without a kernel's reply
@@ -50,6 +54,8 @@ module _ {V : Type 0} where
     pub no_more : (s : State V) (x : Step) (b : ℕ) → IsSteady p s → is_closing s.world.scopes b ≡ true → debt p (step p s x) b ≤ debt p s b
     pub places : (s : State V) (x : Step) (b : ℕ) → IsSteady p s → is_closing s.world.scopes b ≡ true → SamePlaces s (step p s x) b
     pub goes_on : (s : State V) (b : ℕ) → IsSteady p s → is_closing s.world.scopes b ≡ true → is_empty s.world.scopes b ≡ false → HasGoing s.world b
+    -- what is owed at the closing of the root is the debt of the root
+    pub root : (k : Kept V) (s : State V) → IsStable p k → StandsFor k s → IsSteady p s → is_closing s.world.scopes 0 ≡ false → owed p (kept_shut k) ≡ debt p (shut s) 0
     pub within : (s : State V) (b : ℕ) (xs : List Step) → IsSteady p s → is_closing s.world.scopes b ≡ true → turns_inside p s b xs ≤ debt p s b
 
 abbrev pub DebtsFall : {V : Type 0} → Program V → Type 0
