@@ -1,5 +1,5 @@
 -- New coroutines, and coroutines that are gone: what keeps a world fitting together.
-use Rattle.std.proofs.Common.{◌≡◌, ◌∙◌, ℕ, ◌+◌, ◌-◌, ◌<◌, ◌≤◌, ◌==◌, List, [], ◌∷◌, ◌++◌, length, map, find, Bool, true, false, not, ◌&&◌, cond, Option, Some, None, if◌then◌else◌, refl, sym, ap, subst, arith}
+use Rattle.std.proofs.Common.{◌≡◌, ◌∙◌, ℕ, ◌+◌, ◌<◌, ◌==◌, List, [], ◌∷◌, ◌++◌, length, find, Bool, true, false, not, Option, Some, None, if◌then◌else◌, refl, sym, ap, subst, arith}
 use Rattle.std.specs.Prelude.{is_some, is_none}
 use Rattle.std.specs.List.{list_all}
 use Rattle.std.proofs.lemmas.Bool.Decides.{nat_tests}
@@ -58,6 +58,7 @@ module _ {V : Type 0} where
         room = f.room;
         numbers = f.numbers;
         names = f.names;
+        kinds = f.kinds;
         held = all_follow (is_held w) (is_held (bear w view home)) w.handles.entries (λ x g.
             let b = both (is_there w x.owner) (if_some (bundle_of x.thing) true (has_bundle w x.owner)) g in
             join (is_there (bear w view home) x.owner) (if_some (bundle_of x.thing) true (has_bundle w x.owner)) (some_stays (coroutine_of w x.owner) (coroutine_of (bear w view home) x.owner) (λ d e. found_push (is_coroutine x.owner) w.coroutines c d e) b.0) b.1) f.held;
@@ -85,6 +86,7 @@ module _ {V : Type 0} where
       room = f.room;
       numbers = f.numbers;
       names = f.names;
+      kinds = f.kinds;
       held = held_without w (record w { coroutines = others; scopes = scopes.ended w.scopes who; ended = kept }) who w.handles.entries (λ n ne. ap is_some (other_without who n w.coroutines ne)) (λ x. refl) bare f.held;
     }
 

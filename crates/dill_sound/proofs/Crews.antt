@@ -1,15 +1,12 @@
 -- The coroutines of a list by their numbers, after each change.
-use Rattle.std.proofs.Common.{◌≡◌, ◌∙◌, ℕ, ◌+◌, ◌<◌, ◌≤◌, ◌==◌, List, [], ◌∷◌, ◌++◌, length, map, find, Bool, true, false, not, ◌&&◌, cond, Option, Some, None, refl, sym, ap, subst, arith}
-use Rattle.std.specs.Prelude.{is_some}
-use Rattle.std.specs.List.{list_all}
+use Rattle.std.proofs.Common.{◌≡◌, ◌∙◌, ℕ, ◌<◌, ◌≤◌, ◌==◌, List, [], ◌∷◌, length, map, find, Bool, true, false, cond, Some, None, refl, sym, ap, subst, arith}
 use Rattle.std.proofs.lemmas.Bool.Decides.{nat_tests}
 use Rattle.dill_maps.specs.Maps.{if_some, change, without}
 use Rattle.dill_rules.specs.declared.coroutine.Coroutine.{Coroutine}
 use Rattle.dill_rules.specs.declared.coroutine.Mode.{Mode}
-use Rattle.dill_rules.specs.World.{is_coroutine, with_mode}
+use Rattle.dill_rules.specs.World.{is_coroutine}
 use Rattle.dill_kept.specs.Well.{Numbered, is_at}
 use Rattle.dill_kept.proofs.Answered.{none_below}
-use Rattle.dill_sound.proofs.Lists.{both, join}
 
 module _ {V : Type 0} where
   -- a change that leaves the numbers

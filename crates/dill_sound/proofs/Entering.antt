@@ -1,7 +1,7 @@
 -- Each plain call that is entered keeps a world in order.
-use Rattle.std.proofs.Common.{◌≡◌, ◌∙◌, ℕ, suc, ◌+◌, ◌<◌, ◌≤◌, ◌==◌, List, [], ◌∷◌, ◌++◌, length, find, Bool, true, false, not, ◌&&◌, ◌||◌, cond, ◌⊎◌, inl, inr, Option, Some, None, if◌then◌else◌, refl, sym, ap, subst, arith}
-use Rattle.std.specs.Prelude.{is_some, is_none, nat_le, option_to_list}
-use Rattle.std.specs.List.{list_all, list_any}
+use Rattle.std.proofs.Common.{◌≡◌, ◌∙◌, ℕ, ◌+◌, ◌<◌, ◌≤◌, ◌==◌, List, [], ◌∷◌, ◌++◌, length, find, Bool, true, false, not, ◌&&◌, ◌||◌, cond, inl, inr, Option, Some, None, if◌then◌else◌, refl, sym, ap, subst, arith}
+use Rattle.std.specs.Prelude.{is_some, is_none, nat_le, nat_lt}
+use Rattle.std.specs.List.{list_any}
 use Rattle.std.proofs.lemmas.Bool.Decides.{nat_tests}
 use Rattle.std.proofs.lemmas.List.Folds.{list_any-append}
 use Rattle.dill_base.specs.declared.errno.Errno.{Errno}
@@ -34,24 +34,22 @@ use Rattle.dill_rules.specs.declared.thing.Thing.{Thing}
 use Rattle.dill_rules.specs.declared.thing.Thing.TheVariants as things
 use Rattle.dill_rules.specs.Effects.{told, make, add_bundle, close_thing, bear, give_all, start, next_number, passed_answer}
 use Rattle.dill_rules.specs.Entering.{keep_for, perform, is_too_late, late_answer, meet_deadline, done, enter}
-use Rattle.dill_rules.specs.Kinds.{value_of, is_dead, names_dead}
+use Rattle.dill_rules.specs.Kinds.{value_of, is_dead, names_dead, names_other}
 use Rattle.dill_rules.specs.Naming.{gifts_of, draws_of, taken_by, bears, links}
-use Rattle.dill_rules.specs.Owning.{entry_of, move, release, close_bundle}
-use Rattle.dill_rules.specs.Refusals.{holds, holds_of_itself, refuse, order, giving_order, is_refused_by_stack, is_in_use, is_closed_bundle, is_short, has_no_coroutine, has_no_link}
+use Rattle.dill_rules.specs.Owning.{entry_of, move, release}
+use Rattle.dill_rules.specs.Refusals.{holds, holds_of_itself, refuse, order, giving_order, is_refused_by_stack, is_in_use, is_closed_bundle, has_no_coroutine, has_no_link, is_invalid}
 use Rattle.dill_rules.specs.Taking.{bundle_of, bundle_named, cannot_take, is_within, is_held_back, is_awaited, is_cancelled_taker, is_occupied, bears_inside, lives_inside}
-use Rattle.dill_rules.specs.World.{World, is_coroutine, coroutine_of, call_of, with_mode, set_mode, reply, pend, pending_call, is_ending}
+use Rattle.dill_rules.specs.World.{World, is_coroutine, coroutine_of, call_of, reply, pend, pending_call, is_ending}
 use Rattle.dill_kept.specs.Well.{is_at}
 use Rattle.dill_kept.proofs.Crew.{move_crew, release_crew, give_all_crew}
 use Rattle.dill_sound.specs.Order.{closes, is_there, FitsTogether, IsInOrder}
 use Rattle.dill_sound.proofs.Coming.{newborn}
 use Rattle.dill_sound.proofs.Counting.{found_push, pushed_found}
-use Rattle.dill_sound.proofs.Crews.{change_here}
 use Rattle.dill_sound.proofs.Fitting.{next_is_new, has_number, fits_keep}
-use Rattle.dill_sound.proofs.Gifts.{Outside, born_given, order_given}
+use Rattle.dill_sound.proofs.Gifts.{born_given, order_given}
 use Rattle.dill_sound.proofs.Going.{found_there}
 use Rattle.dill_sound.proofs.Handing.{equal, unequal, same_number, live}
 use Rattle.dill_sound.proofs.Leaving.{order_born}
-use Rattle.dill_sound.proofs.Lists.{both}
 use Rattle.dill_sound.proofs.Nearly.{is_free}
 use Rattle.dill_sound.proofs.Ordering.{order_set, order_reply, order_keep, order_make, order_add_bundle, order_move, order_release, free_closes}
 use Rattle.dill_sound.proofs.Owners.{new_is_free, bundle_new, owned_known}
@@ -60,7 +58,7 @@ use Rattle.dill_sound.proofs.Sound.{same_there}
 
 -- ---- what a call isn't refused for
 
-or_nots : (a b : Bool) → (a || b) ≡ false → (a ≡ false) × (b ≡ false)
+pub or_nots : (a b : Bool) → (a || b) ≡ false → (a ≡ false) × (b ≡ false)
 or_nots true b e = cc
 or_nots false b e = (refl, e)
 
@@ -73,6 +71,8 @@ none_first f e es h = at (f e) h
 
 record Unrefused (f : Errno → Bool) : Type 0 where
   dead : f errnos.Ebadf ≡ false
+  other : f errnos.Enotsup ≡ false
+  invalid : f errnos.Einval ≡ false
   busy : f errnos.Ebusy ≡ false
   short : f errnos.Emfile ≡ false
 
@@ -82,7 +82,7 @@ unrefused f true e =
     let two = none_first f errnos.Enotsup (errnos.Einval ∷ errnos.Ebusy ∷ errnos.Emfile ∷ []) one.1 in
     let three = none_first f errnos.Einval (errnos.Ebusy ∷ errnos.Emfile ∷ []) two.1 in
     let four = none_first f errnos.Ebusy (errnos.Emfile ∷ []) three.1 in
-    record { dead = one.0; busy = four.0; short = (none_first f errnos.Emfile [] four.1).0 }
+    record { dead = one.0; other = two.0; invalid = three.0; busy = four.0; short = (none_first f errnos.Emfile [] four.1).0 }
 unrefused f false e =
     let zero = none_first f errnos.Ecanceled (errnos.Ebadf ∷ errnos.Enotsup ∷ errnos.Einval ∷ errnos.Ebusy ∷ errnos.Epipe ∷ errnos.Econnreset ∷ errnos.Emsgsize ∷ errnos.Emfile ∷ []) e in
     let one = none_first f errnos.Ebadf (errnos.Enotsup ∷ errnos.Einval ∷ errnos.Ebusy ∷ errnos.Epipe ∷ errnos.Econnreset ∷ errnos.Emsgsize ∷ errnos.Emfile ∷ []) zero.1 in
@@ -92,15 +92,17 @@ unrefused f false e =
     let five = none_first f errnos.Epipe (errnos.Econnreset ∷ errnos.Emsgsize ∷ errnos.Emfile ∷ []) four.1 in
     let six = none_first f errnos.Econnreset (errnos.Emsgsize ∷ errnos.Emfile ∷ []) five.1 in
     let seven = none_first f errnos.Emsgsize (errnos.Emfile ∷ []) six.1 in
-    record { dead = one.0; busy = four.0; short = (none_first f errnos.Emfile [] seven.1).0 }
+    record { dead = one.0; other = two.0; invalid = three.0; busy = four.0; short = (none_first f errnos.Emfile [] seven.1).0 }
 
 module _ {V : Type 0} (p : Program V) where
   -- what a call that isn't refused may do
-  record May (w : World V) (who : ℕ) (call : Call) : Type 0 where
-    room : length w.handles.entries + w.handles.kept + draws_of call ≤ 65536
-    takes : list_any (cannot_take w who call) (taken_by call) ≡ false
-    alive : names_dead w call ≡ false
-    crew : (bears (word_of call) && has_no_coroutine w) ≡ false
+  pub record May (w : World V) (who : ℕ) (view : V) (call : Call) : Type 0 where
+    pub room : length w.handles.entries + w.handles.kept + draws_of call ≤ 65536
+    pub takes : list_any (cannot_take w who call) (taken_by call) ≡ false
+    pub alive : names_dead w call ≡ false
+    pub other : names_other w call ≡ false
+    pub valid : is_invalid p view call ≡ false
+    pub crew : (bears (word_of call) && has_no_coroutine w) ≡ false
 
   room_is : (h : handles.Handles Thing) (count : ℕ) → not (handles.has_room h count) ≡ false → length h.entries + h.kept + count ≤ 65536
   room_is h count e = at (nat_le (length h.entries + h.kept + count) 65536) refl e
@@ -109,7 +111,7 @@ module _ {V : Type 0} (p : Program V) where
       at true f g = grind (arith, nat_tests)
       at false f g = cc
 
-  may : (w : World V) (who : ℕ) (view : V) (call : Call) → refuse p w who view call ≡ None → May w who call
+  pub may : (w : World V) (who : ℕ) (view : V) (call : Call) → refuse p w who view call ≡ None → May w who view call
   may w who view call e =
       let u = unrefused (holds p w who view call) (gives_up (word_of call)) e in
       let short = (or_nots (holds_of_itself p w who view call errnos.Emfile) (is_refused_by_stack w call errnos.Emfile) u.short).0 in
@@ -117,6 +119,8 @@ module _ {V : Type 0} (p : Program V) where
       let shorts = or_nots (not (handles.has_room w.handles (draws_of call))) ((bears (word_of call) && has_no_coroutine w) || (links (word_of call) && has_no_link w)) short in
       record {
         alive = (or_nots (holds_of_itself p w who view call errnos.Ebadf) (is_refused_by_stack w call errnos.Ebadf) u.dead).0;
+        other = (or_nots (holds_of_itself p w who view call errnos.Enotsup) (is_refused_by_stack w call errnos.Enotsup) u.other).0;
+        valid = (or_nots (holds_of_itself p w who view call errnos.Einval) (is_refused_by_stack w call errnos.Einval) u.invalid).0;
         crew = (or_nots (bears (word_of call) && has_no_coroutine w) (links (word_of call) && has_no_link w) shorts.1).0;
         room = room_is w.handles (draws_of call) shorts.0;
         takes = (or_nots (list_any (cannot_take w who call) (taken_by call)) (is_occupied w call || (is_in_use w call || is_closed_bundle w who call)) busy).0;
@@ -207,8 +211,8 @@ any_false test (m ∷ ns) n e f =
     at false g h i rest = rest h
 
 module _ {V : Type 0} (p : Program V) where
-  kept_order : (w : World V) (who : ℕ) (call : Call) → May p w who call → Caller w who → Caller (keep_for w call) who
-  kept_order w who call m h = answered w who h (keep_for w call) (order_keep w (draws_of call) (fits_keep w (draws_of call) m.room h.order.fits) h.order) refl
+  kept_order : (w : World V) (who : ℕ) (view : V) (call : Call) → May p w who view call → Caller w who → Caller (keep_for w call) who
+  kept_order w who view call m h = answered w who h (keep_for w call) (order_keep w (draws_of call) (fits_keep w (draws_of call) m.room h.order.fits) h.order) refl
 
   release_order : (w : World V) (who number : ℕ) (x : Entry Thing) (t : Thing) → x.thing ≡ t → bundle_of t ≡ None → Caller w who → entry_of w number ≡ Some x → IsInOrder (reply (release w number) who words.Hclose (Number 0))
   release_order w who number x t s none h e = replied (release w number) who words.Hclose (Number 0) (answered w who h (release w number) (order_release w number h.order (λ y f. let it : x ≡ y = cc in ap (λ z. bundle_of z.thing) (sym it) ∙ ap bundle_of s ∙ none)) (release_crew w number).coroutines)
@@ -228,8 +232,8 @@ module _ {V : Type 0} (p : Program V) where
   one_taken false e = refl
 
   -- the child of `go` is inside no bundle that it is given
-  go_outside : (w : World V) (who : ℕ) (program : ℕ) (args : List Arg) → Caller w who → May p w who (calls.Go program args) → (n name : ℕ) (x : Entry Thing) → list_any (λ m. m == n) (gifts_of args) ≡ true → entry_of (add_bundle (keep_for w (calls.Go program args)) who) n ≡ Some x → x.thing ≡ things.Bundle name → LivesInside (scopes.bundle w.scopes (w.last_bundle + 1) who) (w.last_bundle + 1) name → ⊥
-  go_outside w who program args h m n name x l e t lived =
+  go_outside : (w : World V) (who : ℕ) (view : V) (program : ℕ) (args : List Arg) → Caller w who → May p w who view (calls.Go program args) → (n name : ℕ) (x : Entry Thing) → list_any (λ m. m == n) (gifts_of args) ≡ true → entry_of (add_bundle (keep_for w (calls.Go program args)) who) n ≡ Some x → x.thing ≡ things.Bundle name → LivesInside (scopes.bundle w.scopes (w.last_bundle + 1) who) (w.last_bundle + 1) name → ⊥
+  go_outside w who view program args h m n name x l e t lived =
       let call = calls.Go program args in
       let ns = gifts_of args in
       let new = w.last_bundle + 1 in
@@ -246,23 +250,23 @@ module _ {V : Type 0} (p : Program V) where
             out ((bundle_moves_nobody w.scopes new who h.order.fits.forest h.order.fits.bundles name who tt).0 (subst (λ k. Inside (scopes.bundle w.scopes new who) name k) (sym mine) r.2)))
       ]
 
-  go_order : (w : World V) (who : ℕ) (view : V) (program : ℕ) (args : List Arg) → Caller w who → May p w who (calls.Go program args) → IsInOrder (perform p (keep_for w (calls.Go program args)) who view (calls.Go program args))
+  go_order : (w : World V) (who : ℕ) (view : V) (program : ℕ) (args : List Arg) → Caller w who → May p w who view (calls.Go program args) → IsInOrder (perform p (keep_for w (calls.Go program args)) who view (calls.Go program args))
   go_order w who view program args h m =
       let call = calls.Go program args in
       let k = keep_for w call in
-      let kept = kept_order w who call m h in
+      let kept = kept_order w who view call m h in
       let made = add_bundle k who in
       let new = k.last_bundle + 1 in
       let ns = gifts_of args in
       let child = p.child view program (told (next_number made) args) in
       let made_order = order_add_bundle k who (there k who kept) (going k who kept) (omega arith) kept.order in
       let known = owned_known made.scopes new who (bundle_new k.scopes new who kept.order.fits.bundles) in
-      let started_order = order_start made child new ns made_order known (no_room w m.crew) (go_outside w who program args h m) in
+      let started_order = order_start made child new ns made_order known (no_room w m.crew) (go_outside w who view program args h m) in
       replied (start p made view new program args) who words.Go (Number (next_number k)) (started made who child new (made.last_coroutine + 1) ns (answered k who kept made made_order refl) started_order)
 
   -- the child of `bundle_go` is inside no bundle that it is given
-  bundle_outside : (w : World V) (who number home : ℕ) (program : ℕ) (args : List Arg) → Caller w who → May p w who (calls.BundleGo number program args) → bundle_named w number ≡ Some home → (n name : ℕ) (x : Entry Thing) → list_any (λ m. m == n) (gifts_of args) ≡ true → entry_of w n ≡ Some x → x.thing ≡ things.Bundle name → LivesInside w.scopes home name → ⊥
-  bundle_outside w who number home program args h m e n name x l f t lived =
+  bundle_outside : (w : World V) (who : ℕ) (view : V) (number home : ℕ) (program : ℕ) (args : List Arg) → Caller w who → May p w who view (calls.BundleGo number program args) → bundle_named w number ≡ Some home → (n name : ℕ) (x : Entry Thing) → list_any (λ m. m == n) (gifts_of args) ≡ true → entry_of w n ≡ Some x → x.thing ≡ things.Bundle name → LivesInside w.scopes home name → ⊥
+  bundle_outside w who view number home program args h m e n name x l f t lived =
       let call = calls.BundleGo number program args in
       let ns = gifts_of args in
       let inner = (not_within w who call n name x (any_false (cannot_take w who call) ns n m.takes l) f t).1 in
@@ -273,58 +277,61 @@ module _ {V : Type 0} (p : Program V) where
         | inr r ↦ outside w name r.0 h.order (ap (λ o. if_some o false (is_inside w.scopes name)) (sym r.1) ∙ both.1) r.2
       ]
 
-  bundle_go_order : (w : World V) (who : ℕ) (view : V) (number program : ℕ) (args : List Arg) → Caller w who → May p w who (calls.BundleGo number program args) → IsInOrder (perform p (keep_for w (calls.BundleGo number program args)) who view (calls.BundleGo number program args))
+  bundle_go_order : (w : World V) (who : ℕ) (view : V) (number program : ℕ) (args : List Arg) → Caller w who → May p w who view (calls.BundleGo number program args) → IsInOrder (perform p (keep_for w (calls.BundleGo number program args)) who view (calls.BundleGo number program args))
   bundle_go_order w who view number program args h m = at (bundle_named w number) refl
     where
       at : (o : Option ℕ) → bundle_named w number ≡ o → IsInOrder (if_some o (keep_for w (calls.BundleGo number program args)) (λ home. reply (start p (keep_for w (calls.BundleGo number program args)) view home program args) who words.BundleGo (Number 0)))
-      at None e = (kept_order w who (calls.BundleGo number program args) m h).order
+      at None e = (kept_order w who view (calls.BundleGo number program args) m h).order
       at (Some home) e =
           let call = calls.BundleGo number program args in
           let k = keep_for w call in
-          let kept = kept_order w who call m h in
+          let kept = kept_order w who view call m h in
           let ns = gifts_of args in
           let child = p.child view program (told (next_number k) args) in
           let x = bundle_entry w number home e in
           let known = owned_known k.scopes home x.0.owner (live w number home x.0 h.order.fits x.1 x.2).owned in
-          let started_order = order_start k child home ns kept.order known (no_room w m.crew) (bundle_outside w who number home program args h m e) in
+          let started_order = order_start k child home ns kept.order known (no_room w m.crew) (bundle_outside w who view number home program args h m e) in
           replied (start p k view home program args) who words.BundleGo (Number 0) (started k who child home (k.last_coroutine + 1) ns kept started_order)
 
+  proper_kind : (kind : ℕ) → (nat_lt kind 256 || nat_lt 4294967295 kind) ≡ false → nat_le 256 kind ≡ true
+  proper_kind kind e = let b = (or_nots (nat_lt kind 256) (nat_lt 4294967295 kind) e).0 in grind (arith, nat_tests)
+
   -- the effect of a call that isn't refused
-  perform_order : (w : World V) (who : ℕ) (view : V) (call : Call) → is_plain call ≡ true → Caller w who → May p w who call → IsInOrder (perform p (keep_for w call) who view call)
-  perform_order w who view (calls.Print text) e h m = replied _ who words.Print (Number 0) (kept_order w who (calls.Print text) m h)
-  perform_order w who view calls.Now e h m = replied _ who words.Now (Number w.moment) (kept_order w who calls.Now m h)
-  perform_order w who view calls.Yield e h m = replied _ who words.Yield (Number 0) (kept_order w who calls.Yield m h)
-  perform_order w who view (calls.Msleep deadline) e h m = pends _ who (calls.Msleep deadline) (kept_order w who (calls.Msleep deadline) m h) refl
+  perform_order : (w : World V) (who : ℕ) (view : V) (call : Call) → is_plain call ≡ true → Caller w who → May p w who view call → IsInOrder (perform p (keep_for w call) who view call)
+  perform_order w who view (calls.Print text) e h m = replied _ who words.Print (Number 0) (kept_order w who view (calls.Print text) m h)
+  perform_order w who view calls.Now e h m = replied _ who words.Now (Number w.moment) (kept_order w who view calls.Now m h)
+  perform_order w who view calls.Yield e h m = replied _ who words.Yield (Number 0) (kept_order w who view calls.Yield m h)
+  perform_order w who view (calls.Msleep deadline) e h m = pends _ who (calls.Msleep deadline) (kept_order w who view (calls.Msleep deadline) m h) refl
   perform_order w who view (calls.Hmake kind value) e h m =
       let k = keep_for w (calls.Hmake kind value) in
-      let kept = kept_order w who (calls.Hmake kind value) m h in
+      let kept = kept_order w who view (calls.Hmake kind value) m h in
       let made = make k (things.Value kind value) who in
-      replied made who words.Hmake (Number (next_number k)) (answered k who kept made (order_make k (things.Value kind value) who refl (there k who kept) (omega arith) kept.order) refl)
+      replied made who words.Hmake (Number (next_number k)) (answered k who kept made (order_make k (things.Value kind value) who refl (proper_kind kind m.valid) (there k who kept) (omega arith) kept.order) refl)
   perform_order w who view (calls.Hquery number kind) e h m = at (entry_of w number)
     where
       at : (o : Option (Entry Thing)) → IsInOrder (if_some o (keep_for w (calls.Hquery number kind)) (λ x. reply (keep_for w (calls.Hquery number kind)) who words.Hquery (Number (value_of x.thing))))
-      at None = (kept_order w who (calls.Hquery number kind) m h).order
-      at (Some x) = replied _ who words.Hquery (Number (value_of x.thing)) (kept_order w who (calls.Hquery number kind) m h)
+      at None = (kept_order w who view (calls.Hquery number kind) m h).order
+      at (Some x) = replied _ who words.Hquery (Number (value_of x.thing)) (kept_order w who view (calls.Hquery number kind) m h)
   perform_order w who view (calls.Hown number) e h m =
       let call = calls.Hown number in
       let k = keep_for w call in
-      let kept = kept_order w who call m h in
+      let kept = kept_order w who view call m h in
       let out = not_inside w who call number h.order (one_taken (cannot_take w who call number) m.takes) in
       let moved = order_move k number who kept.order (there k who kept) (going k who kept) out in
       replied (move k number who) who words.Hown (Number (next_number k)) (answered k who kept (move k number who) moved (move_crew k number who).coroutines)
   perform_order w who view (calls.Hclose number) e h m = at (entry_of w number) refl
     where
       at : (o : Option (Entry Thing)) → entry_of w number ≡ o → IsInOrder (if_some o (keep_for w (calls.Hclose number)) (λ x. close_thing (keep_for w (calls.Hclose number)) who number x.thing))
-      at None f = (kept_order w who (calls.Hclose number) m h).order
-      at (Some x) f = close_order _ who number x x.thing refl (kept_order w who (calls.Hclose number) m h) f (λ name s. not_inside w who (calls.Hclose number) number h.order (one_taken (cannot_take w who (calls.Hclose number) number) m.takes) x name f s)
+      at None f = (kept_order w who view (calls.Hclose number) m h).order
+      at (Some x) f = close_order _ who number x x.thing refl (kept_order w who view (calls.Hclose number) m h) f (λ name s. not_inside w who (calls.Hclose number) number h.order (one_taken (cannot_take w who (calls.Hclose number) number) m.takes) x name f s)
   perform_order w who view calls.Bundle e h m =
       let k = keep_for w calls.Bundle in
-      let kept = kept_order w who calls.Bundle m h in
+      let kept = kept_order w who view calls.Bundle m h in
       replied (add_bundle k who) who words.Bundle (Number (next_number k)) (answered k who kept (add_bundle k who) (order_add_bundle k who (there k who kept) (going k who kept) (omega arith) kept.order) refl)
   perform_order w who view (calls.Go program args) e h m = go_order w who view program args h m
   perform_order w who view (calls.BundleGo number program args) e h m = bundle_go_order w who view number program args h m
-  perform_order w who view (calls.BundleWait number deadline) e h m = pends _ who (calls.BundleWait number deadline) (kept_order w who (calls.BundleWait number deadline) m h) refl
-  perform_order w who view (calls.Pass word fault) e h m = replied _ who word (passed_answer fault) (kept_order w who (calls.Pass word fault) m h)
+  perform_order w who view (calls.BundleWait number deadline) e h m = pends _ who (calls.BundleWait number deadline) (kept_order w who view (calls.BundleWait number deadline) m h) refl
+  perform_order w who view (calls.Pass word fault) e h m = replied _ who word (passed_answer fault) (kept_order w who view (calls.Pass word fault) m h)
   perform_order w who view _ e h m = cc
 
 call_mode : (mode : Mode) (call : Call) → pending_call mode ≡ Some call → mode ≡ modes.Pending call

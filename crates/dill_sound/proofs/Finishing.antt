@@ -1,53 +1,42 @@
 -- Bundles that have closed, coroutines that come and go: what keeps a world in order.
-use Rattle.std.proofs.Common.{◌≡◌, ◌∙◌, ℕ, zero, suc, ◌+◌, ◌<◌, ◌≤◌, ◌==◌, List, [], ◌∷◌, ◌++◌, length, map, find, fold, Bool, true, false, not, ◌&&◌, ◌||◌, cond, Option, Some, None, if◌then◌else◌, refl, sym, ap, subst, arith}
-use Rattle.std.specs.Prelude.{is_some, is_none, nat_le, filter, reverse, option_and_then}
-use Rattle.std.specs.List.{list_all, list_any}
+use Rattle.std.proofs.Common.{◌≡◌, ◌∙◌, ℕ, zero, suc, ◌≤◌, ◌==◌, List, [], ◌∷◌, ◌++◌, map, find, fold, Bool, true, false, not, ◌&&◌, ◌||◌, cond, Option, Some, None, refl, sym, ap, subst, arith}
+use Rattle.std.specs.Prelude.{is_some, nat_le, filter, option_and_then}
+use Rattle.std.specs.List.{list_all}
 use Rattle.std.proofs.lemmas.Bool.Decides.{nat_tests}
-use Rattle.dill_base.specs.declared.errno.Errno.{Errno}
 use Rattle.dill_calls.specs.declared.answer.Answer.{Answer}
-use Rattle.dill_calls.specs.declared.call.Call.{Call}
 use Rattle.dill_calls.specs.declared.call.Call.TheVariants as calls
 use Rattle.dill_calls.specs.declared.ran.Note.TheVariants.{Freed}
-use Rattle.dill_calls.specs.declared.answer.Answer.TheVariants.{Number}
 use Rattle.dill_calls.specs.declared.word.Word.TheVariants as words
 use Rattle.dill_chan.specs.Channels as channels
-use Rattle.dill_handles.specs.Handles as handles
 use Rattle.dill_handles.specs.declared.entry.Entry.{Entry}
 use Rattle.dill_scope.specs.declared.forest.Bundle.{Bundle}
 use Rattle.dill_scope.specs.Scopes as scopes
 use Rattle.dill_scope.specs.Scopes.{Scopes, is_bundle, owner_of, is_empty, bundles_of}
-use Rattle.dill_scope.specs.Keeping.{IsKnown}
-use Rattle.dill_scope.specs.Forest.{Inside}
 use Rattle.dill_scope.proofs.Numbered.{found_number}
-use Rattle.dill_maps.specs.Maps.{if_some, change, without}
+use Rattle.dill_maps.specs.Maps.{if_some, without}
 use Rattle.dill_rules.specs.declared.coroutine.Closing.{Closing}
 use Rattle.dill_rules.specs.declared.coroutine.Coroutine.{Coroutine}
-use Rattle.dill_rules.specs.declared.coroutine.Mode.{Mode}
 use Rattle.dill_rules.specs.declared.coroutine.Mode.TheVariants as modes
 use Rattle.dill_rules.specs.declared.thing.Thing.{Thing}
-use Rattle.dill_rules.specs.declared.thing.Thing.TheVariants as things
-use Rattle.dill_rules.specs.Effects.{bear}
 use Rattle.dill_rules.specs.Giving.{give_close}
-use Rattle.dill_rules.specs.Owning.{entry_of, is_dead_as, close_bundle, free_bundle, release}
-use Rattle.dill_rules.specs.Settling.{placed, highest_first, outcome_of, is_clear, is_owned_by, free_all, release_all, keep_end, leave, finish}
-use Rattle.dill_rules.specs.State.{lined, lined_mode}
+use Rattle.dill_rules.specs.Owning.{is_dead_as, free_bundle}
+use Rattle.dill_rules.specs.Settling.{highest_first, is_clear, is_owned_by, free_all}
 use Rattle.dill_rules.specs.Taking.{bundle_of}
-use Rattle.dill_rules.specs.World.{World, at_start, from_start, is_coroutine, coroutine_of, with_mode, set_mode, reply, pend, note, is_ending}
-use Rattle.dill_kept.specs.Well.{Numbered, bit, is_at}
-use Rattle.dill_kept.proofs.Lists.{all_found, all_without, all_map}
+use Rattle.dill_rules.specs.World.{World, is_coroutine, coroutine_of, with_mode, set_mode, reply, is_ending}
+use Rattle.dill_kept.specs.Well.{bit, is_at}
+use Rattle.dill_kept.proofs.Lists.{all_found, all_without}
 use Rattle.dill_sound.specs.Order.{closes, waits_for, is_there, has_bundle, is_held, is_kept_open, has_waiter, has_closing, FitsTogether, IsInOrder}
-use Rattle.dill_sound.proofs.Coming.{newborn, fits_born, fits_left}
-use Rattle.dill_sound.proofs.Counting.{weigh, weightless, weightless_none, weighs_found, heavy_found, weigh_found, found_push, found_without, none_left, only_found, small_bit, all_push}
-use Rattle.dill_sound.proofs.Crews.{change_here, gone_without, other_without, map_numbers, map_numbered, map_length, map_at}
-use Rattle.dill_sound.proofs.Fitting.{names_it, closes_it, has_number, died_as, used, used_is, named, named_is, fits_anyway, fits_crew}
-use Rattle.dill_sound.proofs.Going.{its_number, found_there}
-use Rattle.dill_sound.proofs.Handing.{equal, unequal, same_number, tell}
+use Rattle.dill_sound.proofs.Counting.{weigh, weightless, weighs_found, heavy_found, weigh_found, none_left, only_found, small_bit}
+use Rattle.dill_sound.proofs.Crews.{change_here}
+use Rattle.dill_sound.proofs.Fitting.{names_it, closes_it, died_as, used_is, named, named_is}
+use Rattle.dill_sound.proofs.Going.{its_number}
+use Rattle.dill_sound.proofs.Handing.{equal, unequal, same_number}
 use Rattle.dill_sound.proofs.Lists.{both, join, all_follow, all_both, all_from}
-use Rattle.dill_sound.proofs.Nearly.{is_free, or_second, all_by_number, Nearly, nearly, near_set, settle_in}
-use Rattle.dill_sound.proofs.Ordering.{apart, all_true, order_anyway, going_open, order_release}
+use Rattle.dill_sound.proofs.Nearly.{Nearly, nearly, near_set, settle_in}
+use Rattle.dill_sound.proofs.Ordering.{apart, all_true, order_anyway, going_open}
 use Rattle.dill_sound.proofs.Owners.{owns, owns_is, owns_as, drop_other, drop_here}
-use Rattle.dill_sound.proofs.Shutting.{near_freed, is_mine, is_bundle_entry, bundle_is, once}
-use Rattle.dill_sound.proofs.Sorting.{sorted_weight, sorted_all, reverse_all, reverse_any, picked_less, picked_same, picked_all, keys_all, keys_any}
+use Rattle.dill_sound.proofs.Shutting.{near_freed}
+use Rattle.dill_sound.proofs.Sorting.{sorted_weight, sorted_all, picked_less, picked_same, picked_all}
 use Rattle.dill_sound.proofs.Sound.{owner_is}
 
 module _ {V : Type 0} where
@@ -112,10 +101,10 @@ module _ {V : Type 0} where
       let near = near_set freed who mode (near_freed w who x (nearly w who o) h.owned none (empty x h.found)) in
       let here = change_here (with_mode mode) (λ d. refl) who w.coroutines c e in
       let in_order = settle_in v who (with_mode mode c) near here
-        (all_from (λ y. not (closes_it x.bundle y)) (λ y. has_waiter w y && not (died_as number y)) (λ y. not (owns freed.scopes who y.bundle) || waits_for y.number mode) ks
-        (λ y f g. let b = both (has_waiter w y) (not (died_as number y)) g in ap (λ t. t || waits_for y.number mode) (ap not (owns_as w.scopes freed.scopes who y.bundle (drop_other w.scopes x.bundle y.bundle (apart y.bundle x.bundle f))) ∙ not_waiting w who number c y e m b.0 b.1))
-        (weightless (closes_it x.bundle) ks gone) (all_both (has_waiter w) (λ y. not (died_as number y)) ks (all_without (has_waiter w) (closes_it x.bundle) w.closings o.closings) (weightless (died_as number) ks other)))
-        refl (going_open v who (with_mode mode c) here refl) in
+      (all_from (λ y. not (closes_it x.bundle y)) (λ y. has_waiter w y && not (died_as number y)) (λ y. not (owns freed.scopes who y.bundle) || waits_for y.number mode) ks
+      (λ y f g. let b = both (has_waiter w y) (not (died_as number y)) g in ap (λ t. t || waits_for y.number mode) (ap not (owns_as w.scopes freed.scopes who y.bundle (drop_other w.scopes x.bundle y.bundle (apart y.bundle x.bundle f))) ∙ not_waiting w who number c y e m b.0 b.1))
+      (weightless (closes_it x.bundle) ks gone) (all_both (has_waiter w) (λ y. not (died_as number y)) ks (all_without (has_waiter w) (closes_it x.bundle) w.closings o.closings) (weightless (died_as number) ks other)))
+      refl (going_open v who (with_mode mode c) here refl) in
       subst (λ p. IsInOrder (reply (if_some p w (free_bundle w)) who words.Hclose answer)) (sym h.found) (order_anyway v (channels.leave w.channels who) w.links w.place w.wrote w.words w.moment (w.notes ++ Freed x.number ∷ []) in_order)
 
 -- a bundle that is found is one of its owner's
@@ -196,13 +185,13 @@ module _ {V : Type 0} where
       let once = h.each x.bundle in
       let gone : weigh (λ y. bit (closes_it x.bundle y)) xs ≡ 0 = omega (arith, one, once) in
       let next = free_each xs v who (record {
-            near = near_freed w who x h.near mine none c.0;
-            fit = b.1;
-            owned = all_from (λ y. not (closes_it x.bundle y)) (λ y. owns w.scopes who y.bundle) (λ y. owns v.scopes who y.bundle) xs
+        near = near_freed w who x h.near mine none c.0;
+        fit = b.1;
+        owned = all_from (λ y. not (closes_it x.bundle y)) (λ y. owns w.scopes who y.bundle) (λ y. owns v.scopes who y.bundle) xs
             (λ y f g. owns_as w.scopes v.scopes who y.bundle (drop_other w.scopes x.bundle y.bundle (apart y.bundle x.bundle f)) ∙ g) (weightless (closes_it x.bundle) xs gone) o.1;
-            each = λ name. let l = h.each name in omega (arith, l);
-            every = λ name e. later name e (x.bundle == name) refl mine;
-          }) in
+        each = λ name. let l = h.each name in omega (arith, l);
+        every = λ name e. later name e (x.bundle == name) refl mine;
+      }) in
       record { near = next.near; crew = next.crew; entries = next.entries; none = next.none }
     where
       no_more : (k : ℕ) → nat_le k 0 ≡ true → k ≡ 0

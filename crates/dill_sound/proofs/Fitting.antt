@@ -1,36 +1,32 @@
 -- What keeps coroutines, handles and bundles fitting together.
-use Rattle.std.proofs.Common.{◌≡◌, ◌∙◌, ℕ, ◌+◌, ◌-◌, ◌<◌, ◌≤◌, ◌==◌, List, [], ◌∷◌, ◌++◌, length, map, find, filter_map, Bool, true, false, not, ◌&&◌, cond, Option, Some, None, refl, sym, ap, subst, arith}
-use Rattle.std.specs.Prelude.{is_some, is_none, nat_le, All, IsSome}
-use Rattle.std.specs.List.{list_all, list_any}
+use Rattle.std.proofs.Common.{◌≡◌, ◌∙◌, ℕ, ◌+◌, ◌<◌, ◌≤◌, ◌==◌, List, [], ◌∷◌, length, map, find, filter_map, Bool, true, false, not, ◌&&◌, Option, Some, None, refl, sym, ap, subst, arith}
+use Rattle.std.specs.Prelude.{is_some, All}
+use Rattle.std.specs.List.{list_all}
 use Rattle.std.proofs.lemmas.Bool.Decides.{nat_tests}
-use Rattle.std.proofs.lemmas.List.{map-append}
 use Rattle.std.proofs.lemmas.List.Elements.{All-cons, All-nil, All-head, All-tail}
 use Rattle.rand_core.specs.Stream.{Stream}
 use Rattle.dill_calls.specs.declared.ran.Note.{Note}
 use Rattle.dill_chan.specs.Channels.{Channels}
 use Rattle.dill_handles.specs.Handles as handles
 use Rattle.dill_handles.specs.declared.entry.Entry.{Entry}
-use Rattle.dill_scope.specs.declared.forest.Bundle.{Bundle}
 use Rattle.dill_scope.specs.declared.forest.Home.{Home}
 use Rattle.dill_scope.specs.Scopes as scopes
 use Rattle.dill_scope.specs.Scopes.{Scopes, owner_of}
 use Rattle.dill_scope.specs.Keeping.{IsThere, IsNewCoroutine}
 use Rattle.dill_scope.proofs.Carrying.{some_is}
-use Rattle.dill_maps.specs.Maps.{if_some, change, without}
+use Rattle.dill_maps.specs.Maps.{if_some, change}
 use Rattle.dill_rules.specs.declared.coroutine.Closing.{Closing}
 use Rattle.dill_rules.specs.declared.coroutine.Coroutine.{Coroutine}
 use Rattle.dill_rules.specs.declared.coroutine.Mode.{Mode}
 use Rattle.dill_rules.specs.declared.thing.Thing.{Thing}
-use Rattle.dill_rules.specs.declared.thing.Thing.TheVariants as things
 use Rattle.dill_rules.specs.Links.{Links}
 use Rattle.dill_rules.specs.Taking.{bundle_of}
-use Rattle.dill_rules.specs.World.{World, Place, is_coroutine, coroutine_of, with_mode, set_mode}
+use Rattle.dill_rules.specs.World.{World, Place, is_coroutine, with_mode, set_mode}
 use Rattle.dill_kept.specs.Well.{Numbered, bit, occurs}
-use Rattle.dill_sound.specs.Order.{is_there, has_bundle, times_named, times_used, is_held, FitsTogether}
-use Rattle.dill_sound.proofs.Counting.{weigh, holds, weigh_map, weigh_filter, weigh_push, weigh_found, weigh_without, none_without, length_without, length_push, weightless_none, weighs_found, heavy_found, used_more}
+use Rattle.dill_sound.specs.Order.{is_there, has_bundle, is_held, FitsTogether}
+use Rattle.dill_sound.proofs.Counting.{weigh, holds, weigh_map, weigh_filter}
 use Rattle.dill_sound.proofs.Crews.{change_numbers, change_numbered, change_length}
 use Rattle.dill_sound.proofs.Lists.{both, join, all_follow, all_from}
-use Rattle.dill_sound.proofs.Owners.{owns}
 use Rattle.dill_sound.proofs.Sound.{same_there, there_home}
 
 -- a live number names the bundle
@@ -89,6 +85,7 @@ module _ {V : Type 0} where
     room = f.room;
     numbers = f.numbers;
     names = f.names;
+    kinds = f.kinds;
     held = f.held;
   }
 
@@ -108,6 +105,7 @@ module _ {V : Type 0} where
     room = f.room;
     numbers = f.numbers;
     names = f.names;
+    kinds = f.kinds;
     held = all_follow (is_held w) (is_held (record w { coroutines = ds })) w.handles.entries (λ x g. ap (λ b. b && if_some (bundle_of x.thing) true (has_bundle w x.owner)) (there_same w.coroutines ds x.owner e) ∙ g) f.held;
   }
 
@@ -129,6 +127,7 @@ module _ {V : Type 0} where
     room = omega (arith, l);
     numbers = f.numbers;
     names = f.names;
+    kinds = f.kinds;
     held = f.held;
   }
 

@@ -1,7 +1,7 @@
 -- Gifts: handles that go to a new coroutine, which is inside none of the bundles among them.
-use Rattle.std.proofs.Common.{◌≡◌, ◌∙◌, ℕ, ◌+◌, ◌<◌, ◌≤◌, ◌==◌, List, [], ◌∷◌, ◌++◌, length, find, fold, Bool, true, false, not, ◌&&◌, ◌||◌, cond, ◌⊎◌, inl, inr, Option, Some, None, refl, sym, ap, subst, arith}
+use Rattle.std.proofs.Common.{◌≡◌, ◌∙◌, ℕ, ◌==◌, List, [], ◌∷◌, ◌++◌, find, Bool, true, false, ◌||◌, cond, ◌⊎◌, inl, inr, Option, Some, None, refl, sym, ap, subst, arith}
 use Rattle.std.specs.Prelude.{is_some}
-use Rattle.std.specs.List.{list_all, list_any}
+use Rattle.std.specs.List.{list_any}
 use Rattle.std.specs.Option.{option_or}
 use Rattle.std.proofs.lemmas.Bool.Decides.{nat_tests}
 use Rattle.std.proofs.lemmas.List.Folds.{find-append}
@@ -12,19 +12,17 @@ use Rattle.dill_scope.specs.Scopes as scopes
 use Rattle.dill_scope.specs.Scopes.{Scopes, home_of, owner_of}
 use Rattle.dill_scope.specs.Forest.{Inside, lives, under}
 use Rattle.dill_scope.proofs.Carrying.{parent_told, parent_is}
-use Rattle.dill_scope.proofs.Climbing.{same_or_not}
 use Rattle.dill_scope.proofs.Numbered.{find_without_other}
 use Rattle.dill_maps.specs.Maps.{if_some, without}
-use Rattle.dill_rules.specs.declared.coroutine.Coroutine.{Coroutine}
 use Rattle.dill_rules.specs.declared.thing.Thing.{Thing}
 use Rattle.dill_rules.specs.declared.thing.Thing.TheVariants as things
 use Rattle.dill_rules.specs.Effects.{bear, give_all}
 use Rattle.dill_rules.specs.Owning.{entry_of, take_thing, move}
-use Rattle.dill_rules.specs.World.{World, coroutine_of, note, is_coroutine, is_ending}
-use Rattle.dill_kept.specs.Well.{bit, is_at}
+use Rattle.dill_rules.specs.World.{World, note, is_coroutine, is_ending}
+use Rattle.dill_kept.specs.Well.{is_at}
 use Rattle.dill_kept.proofs.Crew.{move_crew}
 use Rattle.dill_sound.specs.Order.{is_there, FitsTogether, IsInOrder}
-use Rattle.dill_sound.proofs.Counting.{weigh, none_left, weightless_none}
+use Rattle.dill_sound.proofs.Counting.{none_left, weightless_none}
 use Rattle.dill_sound.proofs.Fitting.{has_number}
 use Rattle.dill_sound.proofs.Handing.{equal, unequal}
 use Rattle.dill_sound.proofs.Moving.{renumbered}

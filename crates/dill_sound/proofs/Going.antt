@@ -32,7 +32,7 @@ use Rattle.dill_kept.specs.Kept.{has_answer}
 use Rattle.dill_kept.specs.Well.{Numbered, bit, occurs}
 use Rattle.dill_kept.proofs.Lists.{all_found}
 use Rattle.dill_kept.proofs.Stepping.{passes}
-use Rattle.dill_sound.specs.Laws.{is_closing, is_resting, IsAtRest, HasGoing, GoesOn, RootGoesOn}
+use Rattle.dill_sound.specs.Laws.{is_closing, is_resting, IsAtRest, HasGoing, GoesOn, RootGoesOn, BundleGoesOn}
 use Rattle.dill_sound.specs.Order.{is_there, has_bundle, has_closing, closes, FitsTogether, IsInOrder}
 use Rattle.dill_sound.proofs.Lists.{both}
 use Rattle.dill_sound.proofs.Sound.{owner_is, same_there, inside_cancelled, there_inside}
@@ -111,7 +111,7 @@ none_when : (b : Bool) (answer : Answer) → when b answer ≡ None → b ≡ fa
 none_when true answer e = cc
 none_when false answer e = refl
 
-or_none : {A : Type 0} (o p : Option A) → option_or o p ≡ None → (o ≡ None) × (p ≡ None)
+pub or_none : {A : Type 0} (o p : Option A) → option_or o p ≡ None → (o ≡ None) × (p ≡ None)
 or_none None p e = (refl, e)
 or_none (Some a) p e = cc
 
@@ -280,3 +280,8 @@ root_goes_on p k well order settled rest e lives_on =
     let there = main_there k.world order.fits lives_on in
     let one = deeper k.world 0 (record { order = order; plain = well.plain; settled = settled; rest = rest }) e (length k.world.scopes.homes) 0 1 (omega arith) refl (there_inside k.world 1 order.fits there) there in
     queued_one k.ready one.who (well.queue.once one.who ∙ ap bit one.answered)
+
+pub bundle_goes_on : {V : Type 0} (p : Program V) → BundleGoesOn p
+bundle_goes_on {V} p k name well order settled rest e lived =
+    let one = closing_goes_on V k.world name order well.plain settled rest e lived in
+    record { who = one.who; inside = one.inside; queued = well.queue.once one.who ∙ ap bit one.answered }

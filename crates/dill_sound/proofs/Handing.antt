@@ -1,6 +1,6 @@
 -- New handles, handles that get another number and owner, and handles that are released: what keeps a world fitting together.
-use Rattle.std.proofs.Common.{◌≡◌, ◌∙◌, ℕ, ◌+◌, ◌-◌, ◌<◌, ◌≤◌, ◌==◌, List, [], ◌∷◌, ◌++◌, length, map, find, filter_map, Bool, true, false, not, ◌&&◌, cond, Option, Some, None, refl, sym, ap, subst, arith}
-use Rattle.std.specs.Prelude.{is_some, is_none, nat_le, All}
+use Rattle.std.proofs.Common.{◌≡◌, ◌∙◌, ℕ, ◌+◌, ◌<◌, ◌≤◌, ◌==◌, List, [], ◌∷◌, ◌++◌, find, Bool, true, false, not, Some, None, refl, sym, ap, subst, arith}
+use Rattle.std.specs.Prelude.{is_some, nat_le}
 use Rattle.std.specs.List.{list_all}
 use Rattle.std.proofs.lemmas.Bool.Decides.{nat_tests}
 use Rattle.std.proofs.lemmas.List.Elements.{All-push, All-weaker}
@@ -9,11 +9,8 @@ use Rattle.dill_handles.specs.declared.entry.Entry.{Entry}
 use Rattle.dill_scope.specs.declared.forest.Bundle.{Bundle}
 use Rattle.dill_scope.specs.Scopes as scopes
 use Rattle.dill_scope.specs.Scopes.{Scopes, owner_of}
-use Rattle.dill_scope.specs.Forest.{Inside}
 use Rattle.dill_scope.proofs.Growing.{bundle_keeps}
-use Rattle.dill_scope.proofs.Numbered.{found_number, change_numbers}
-use Rattle.dill_scope.proofs.Taking.{take_keeps}
-use Rattle.dill_maps.specs.Maps.{if_some, change, without}
+use Rattle.dill_maps.specs.Maps.{if_some, without}
 use Rattle.dill_rules.specs.declared.coroutine.Closing.{Closing}
 use Rattle.dill_rules.specs.declared.thing.Thing.{Thing}
 use Rattle.dill_rules.specs.declared.thing.Thing.TheVariants as things
@@ -21,13 +18,13 @@ use Rattle.dill_rules.specs.Owning.{entry_of}
 use Rattle.dill_rules.specs.Taking.{bundle_of}
 use Rattle.dill_rules.specs.World.{World}
 use Rattle.dill_rules.specs.Effects.{make, add_bundle}
-use Rattle.dill_kept.specs.Well.{bit, occurs}
-use Rattle.dill_kept.proofs.Lists.{all_found, all_without}
-use Rattle.dill_sound.specs.Order.{is_there, has_bundle, times_named, times_used, is_held, FitsTogether}
-use Rattle.dill_sound.proofs.Counting.{weigh, holds, weigh_push, weigh_found, weigh_without, length_without, length_push, weightless, weightless_none, weighs_found, heavy_found, used_more, all_push}
-use Rattle.dill_sound.proofs.Fitting.{names_it, closes_it, has_number, died_as, used, named, used_is, named_is, held_by, held_follow, there_is}
+use Rattle.dill_kept.specs.Well.{bit}
+use Rattle.dill_kept.proofs.Lists.{all_found}
+use Rattle.dill_sound.specs.Order.{is_there, has_bundle, is_held, is_proper_thing, is_proper, FitsTogether}
+use Rattle.dill_sound.proofs.Counting.{weigh, holds, weigh_push, weigh_found, weigh_without, length_push, weightless, used_more, all_push}
+use Rattle.dill_sound.proofs.Fitting.{names_it, closes_it, has_number, used, named, used_is, named_is, held_follow, there_is}
 use Rattle.dill_sound.proofs.Lists.{both, join}
-use Rattle.dill_sound.proofs.Owners.{owns_is, new_is_free, bundle_other, bundle_new, take_other, take_here, owned_same}
+use Rattle.dill_sound.proofs.Owners.{owns_is, new_is_free, bundle_other, bundle_new}
 use Rattle.dill_sound.proofs.Sound.{owner_is}
 
 pub same_number : (n : ℕ) → (n == n) ≡ true
@@ -118,8 +115,8 @@ module _ {V : Type 0} where
   -- ---- new handles
 
   -- one that is no bundle
-  pub fits_make : (w : World V) (thing : Thing) (who : ℕ) → bundle_of thing ≡ None → is_there w who ≡ true → 1 ≤ w.handles.kept → FitsTogether w → FitsTogether (make w thing who)
-  fits_make w thing who none there kept f =
+  pub fits_make : (w : World V) (thing : Thing) (who : ℕ) → bundle_of thing ≡ None → is_proper_thing thing ≡ true → is_there w who ≡ true → 1 ≤ w.handles.kept → FitsTogether w → FitsTogether (make w thing who)
+  fits_make w thing who none proper there kept f =
       let es = w.handles.entries in
       let y : Entry Thing = record { number = handles.next_number w.handles; thing = thing; owner = who } in
       record {
@@ -136,6 +133,7 @@ module _ {V : Type 0} where
             let p = push_named es w.closings y name in
             let b : bit (names_it name y) ≡ 0 = ap (λ o. bit (holds o name)) none in
             named_is (es ++ y ∷ []) w.closings name ∙ (let q : named (es ++ y ∷ []) w.closings name ≡ named es w.closings name = omega (arith, p, b) in q) ∙ sym (named_is es w.closings name) ∙ f.names name;
+        kinds = all_push is_proper es y f.kinds proper;
         held = all_push (is_held w) es y f.held (join (is_there w who) (if_some (bundle_of thing) true (has_bundle w who)) there (ap (λ o. if_some o true (has_bundle w who)) none));
       }
 
@@ -157,6 +155,7 @@ module _ {V : Type 0} where
         room = let l = length_push es y in let r = f.room in omega (arith, l, r, kept);
         numbers = λ n. subst (λ k. k ≤ bit (nat_le n (w.handles.last + 1))) (sym (used_is (es ++ y ∷ []) w.closings n)) (push_used es w.closings y w.handles.last n refl (subst (λ k. k ≤ bit (nat_le n w.handles.last)) (used_is es w.closings n) (f.numbers n)));
         names = λ name. named_is (es ++ y ∷ []) w.closings name ∙ push_named es w.closings y name ∙ new_named w who f name (new == name) refl;
+        kinds = all_push is_proper es y f.kinds refl;
         held =
             let none : weigh (λ x. bit (names_it new x)) es ≡ 0 = unnamed w f new (new_is_free w.scopes new f.bundles) in
             let kept = held_follow (is_there w) (is_there w) (owner_of w.scopes) (owner_of (scopes.bundle w.scopes new who)) new es (λ n h. h) (λ at ne. bundle_other w.scopes new who at ne) (weightless (names_it new) es none) f.held in

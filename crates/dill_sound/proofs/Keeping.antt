@@ -1,19 +1,15 @@
 -- Settling, turns, expiries and the other steps keep a world in order.
-use Rattle.std.proofs.Common.{◌≡◌, ◌∙◌, ℕ, zero, suc, ◌+◌, ◌-◌, ◌≤◌, ◌==◌, List, [], ◌∷◌, ◌++◌, length, map, find, fold, Bool, true, false, not, ◌&&◌, cond, Option, Some, None, if◌then◌else◌, refl, sym, ap, subst, arith}
-use Rattle.std.specs.Prelude.{is_some, is_none, max}
-use Rattle.std.specs.List.{list_all}
+use Rattle.std.proofs.Common.{◌≡◌, ◌∙◌, ℕ, zero, suc, List, [], ◌∷◌, length, find, Bool, true, false, ◌&&◌, Option, Some, None, if◌then◌else◌, refl, sym, ap, subst}
 use Rattle.std.specs.Option.{option_or}
-use Rattle.dill_base.specs.declared.errno.Errno.{Errno}
 use Rattle.dill_calls.specs.declared.answer.Answer.{Answer}
-use Rattle.dill_calls.specs.declared.answer.Answer.TheVariants.{Number, Fault}
+use Rattle.dill_calls.specs.declared.answer.Answer.TheVariants.{Fault}
 use Rattle.dill_calls.specs.declared.call.Call.{Call}
 use Rattle.dill_calls.specs.declared.call.Call.TheVariants as calls
 use Rattle.dill_calls.specs.declared.ran.LackPlace.{LackPlace}
 use Rattle.dill_calls.specs.declared.word.Word.TheVariants as words
 use Rattle.dill_calls.specs.CallTable.{word_of, is_built}
 use Rattle.dill_calls.specs.Program.{Program, Move, Calls, Ends}
-use Rattle.dill_plain.specs.Plain.{is_plain, MovesPlain}
-use Rattle.dill_scope.specs.Scopes as scopes
+use Rattle.dill_plain.specs.Plain.{MovesPlain}
 use Rattle.dill_scope.specs.Scopes.{is_empty}
 use Rattle.dill_maps.specs.Maps.{if_some, first_some}
 use Rattle.dill_rules.specs.declared.coroutine.Closing.{Closing}
@@ -21,23 +17,21 @@ use Rattle.dill_rules.specs.declared.coroutine.Coroutine.{Coroutine}
 use Rattle.dill_rules.specs.declared.coroutine.Mode.{Mode}
 use Rattle.dill_rules.specs.declared.coroutine.Mode.TheVariants as modes
 use Rattle.dill_rules.specs.Answers.{answer_of, when, when_empty, bundle_dead_as}
-use Rattle.dill_rules.specs.Entering.{entered, enter, lack_fault, late_answer}
-use Rattle.dill_rules.specs.Expiring.{expire_one}
-use Rattle.dill_rules.specs.Giving.{give, give_close}
+use Rattle.dill_rules.specs.Entering.{entered, lack_fault}
+use Rattle.dill_rules.specs.Giving.{give}
 use Rattle.dill_rules.specs.Owning.{is_dead_as}
-use Rattle.dill_rules.specs.Settling.{can_finish, is_clear, finish, answer_due, give_first, settle_one, settle_within, pass_all, settle, end}
+use Rattle.dill_rules.specs.Settling.{can_finish, is_clear, finish, answer_due, give_first, settle_one, settle_within, settle, end}
 use Rattle.dill_rules.specs.Turning.{is_build, is_entry, as_running, may_lack_build, resume, answer_given, move_of, make_move, lack_move, go_on, turn}
-use Rattle.dill_rules.specs.World.{World, is_coroutine, coroutine_of, call_of, reply, begin, pending_call, is_ending, is_answered, at_start}
+use Rattle.dill_rules.specs.World.{World, is_coroutine, coroutine_of, call_of, reply, begin, pending_call, is_ending, is_answered}
 use Rattle.dill_kept.specs.Plain.{may_wait, IsPlain}
-use Rattle.dill_kept.proofs.Stepping.{by_number, passes, DueAt, due_first}
-use Rattle.dill_kept.proofs.Steps.{settle_one_plain, within_plain, pass_plain, first_waits, call_waits}
+use Rattle.dill_kept.proofs.Stepping.{by_number, passes, due_first}
+use Rattle.dill_kept.proofs.Steps.{settle_one_plain, within_plain, pass_plain, first_waits}
 use Rattle.dill_kept.proofs.Turns.{entered_plain, go_on_plain}
 use Rattle.dill_kept.proofs.Plainly.{begin_plain}
-use Rattle.dill_sound.specs.Order.{is_there, FitsTogether, IsInOrder}
+use Rattle.dill_sound.specs.Order.{IsInOrder}
 use Rattle.dill_sound.proofs.Crews.{change_here}
 use Rattle.dill_sound.proofs.Entering.{order_enter, found_call}
 use Rattle.dill_sound.proofs.Finishing.{order_give_close}
-use Rattle.dill_sound.proofs.Going.{its_number}
 use Rattle.dill_sound.proofs.Leaving.{order_finish}
 use Rattle.dill_sound.proofs.Lists.{both}
 use Rattle.dill_sound.proofs.Nearly.{is_free}
@@ -150,10 +144,13 @@ module _ {V : Type 0} (p : Program V) where
       at true = ended
       at false = ended
 
+  -- the coroutine of a turn goes on from its answer
+  pub order_go_on : (lack : Option LackPlace) (w : World V) (who : ℕ) (c : Coroutine V) → IsInOrder w → coroutine_of w who ≡ Some c → is_answered c.mode ≡ true → MovesPlain (move_of p w who c.body) → IsInOrder (go_on p lack (begin w) who c.body)
+  order_go_on lack w who c o e a m = from_move lack (begin w) who c (p.short c.body (answer_given (begin w) who).1) (move_of p (begin w) who c.body) (order_begin w o) e a m
+
+  -- a turn goes on, and then the world settles
+  pub turn_is : (lack : Option LackPlace) (w : World V) (who : ℕ) (c : Coroutine V) → coroutine_of w who ≡ Some c → settle (go_on p lack (begin w) who c.body) ≡ turn p lack w who
+  turn_is lack w who c e = sym (ap (λ q. if_some q w (λ d. settle (go_on p lack (begin w) who d.body))) e)
+
   pub order_turn : (lack : Option LackPlace) (w : World V) (who : ℕ) (c : Coroutine V) → IsPlain w → IsInOrder w → coroutine_of w who ≡ Some c → is_answered c.mode ≡ true → MovesPlain (move_of p w who c.body) → IsInOrder (turn p lack w who)
-  order_turn lack w who c plain o e a m =
-      let b = begin w in
-      let moved = go_on p lack b who c.body in
-      let after : IsInOrder moved = from_move lack b who c (p.short c.body (answer_given b who).1) (move_of p b who c.body) (order_begin w o) e a m in
-      let is : settle moved ≡ turn p lack w who = sym (ap (λ q. if_some q w (λ d. settle (go_on p lack (begin w) who d.body))) e) in
-      subst IsInOrder is (order_settle moved (go_on_plain p lack b who c.body m (begin_plain w plain)) after)
+  order_turn lack w who c plain o e a m = subst IsInOrder (turn_is lack w who c e) (order_settle (go_on p lack (begin w) who c.body) (go_on_plain p lack (begin w) who c.body m (begin_plain w plain)) (order_go_on lack w who c o e a m))

@@ -1,19 +1,15 @@
 -- Coroutines that come and go, and answers that get their places: what keeps a world in order.
-use Rattle.std.proofs.Common.{◌≡◌, ◌∙◌, ℕ, zero, suc, ◌+◌, ◌<◌, ◌≤◌, ◌==◌, List, [], ◌∷◌, ◌++◌, length, map, find, fold, Bool, true, false, not, ◌&&◌, ◌||◌, cond, Option, Some, None, if◌then◌else◌, refl, sym, ap, subst, arith}
-use Rattle.std.specs.Prelude.{is_some, is_none, nat_le, filter, reverse}
+use Rattle.std.proofs.Common.{◌≡◌, ◌∙◌, ℕ, ◌<◌, ◌==◌, List, [], ◌∷◌, ◌++◌, length, map, find, fold, Bool, true, false, not, ◌||◌, cond, Option, Some, None, if◌then◌else◌, refl, sym, ap, subst}
+use Rattle.std.specs.Prelude.{filter, reverse}
 use Rattle.std.specs.List.{list_all, list_any}
-use Rattle.std.proofs.lemmas.Bool.Decides.{nat_tests}
-use Rattle.dill_base.specs.declared.errno.Errno.{Errno}
-use Rattle.dill_calls.specs.declared.call.Call.{Call}
-use Rattle.dill_calls.specs.declared.call.Call.TheVariants as calls
 use Rattle.dill_calls.specs.declared.ran.Note.TheVariants.{Freed}
 use Rattle.dill_handles.specs.Handles as handles
 use Rattle.dill_handles.specs.declared.entry.Entry.{Entry}
 use Rattle.dill_scope.specs.Scopes as scopes
 use Rattle.dill_scope.specs.Scopes.{Scopes, owner_of}
 use Rattle.dill_scope.specs.Keeping.{IsKnown}
-use Rattle.dill_scope.proofs.Numbered.{found_number, find_without_other}
-use Rattle.dill_maps.specs.Maps.{if_some, change, without}
+use Rattle.dill_scope.proofs.Numbered.{find_without_other}
+use Rattle.dill_maps.specs.Maps.{if_some, without}
 use Rattle.dill_rules.specs.declared.coroutine.Closing.{Closing}
 use Rattle.dill_rules.specs.declared.coroutine.Coroutine.{Coroutine}
 use Rattle.dill_rules.specs.declared.coroutine.Mode.{Mode}
@@ -22,27 +18,25 @@ use Rattle.dill_rules.specs.declared.thing.Thing.{Thing}
 use Rattle.dill_rules.specs.declared.thing.Thing.TheVariants as things
 use Rattle.dill_rules.specs.Effects.{bear}
 use Rattle.dill_rules.specs.Owning.{entry_of, is_dead_as, drop, release}
-use Rattle.dill_rules.specs.Settling.{outcome_of, is_clear, free_all, release_all, keep_end, leave, finish}
+use Rattle.dill_rules.specs.Settling.{outcome_of, is_clear, free_all, release_all, leave, finish}
 use Rattle.dill_rules.specs.State.{lined, lined_mode}
 use Rattle.dill_rules.specs.Taking.{bundle_of}
-use Rattle.dill_rules.specs.World.{World, at_start, from_start, is_coroutine, coroutine_of, note, is_ending}
-use Rattle.dill_kept.specs.Well.{Numbered, bit, is_at}
+use Rattle.dill_rules.specs.World.{World, from_start, is_coroutine, coroutine_of, note, is_ending}
+use Rattle.dill_kept.specs.Well.{bit, is_at}
 use Rattle.dill_kept.proofs.Lists.{all_found, all_without}
-use Rattle.dill_sound.specs.Order.{closes, waits_for, is_there, has_bundle, is_held, is_kept_open, has_waiter, has_closing, FitsTogether, IsInOrder}
+use Rattle.dill_sound.specs.Order.{closes, waits_for, has_bundle, is_kept_open, has_waiter, has_closing, FitsTogether, IsInOrder}
 use Rattle.dill_sound.proofs.Coming.{newborn, fits_born, fits_left}
-use Rattle.dill_sound.proofs.Counting.{weigh, weightless, weightless_none, none_left, none_without, small_bit, all_push, found_push, all_unique}
-use Rattle.dill_sound.proofs.Crews.{gone_without, other_without, map_numbers, map_numbered, map_length, map_at}
-use Rattle.dill_sound.proofs.Finishing.{Bare, free_bare}
-use Rattle.dill_sound.proofs.Fitting.{has_number, fits_anyway, fits_crew}
-use Rattle.dill_sound.proofs.Going.{its_number, found_there}
+use Rattle.dill_sound.proofs.Counting.{weigh, weightless, weightless_none, none_left, none_without, all_push, all_unique}
+use Rattle.dill_sound.proofs.Crews.{other_without, map_numbers, map_numbered, map_length, map_at}
+use Rattle.dill_sound.proofs.Finishing.{free_bare}
+use Rattle.dill_sound.proofs.Fitting.{has_number, fits_crew}
 use Rattle.dill_sound.proofs.Handing.{equal, unequal, same_number, tell}
-use Rattle.dill_sound.proofs.Lists.{both, join, all_follow, all_both, all_from}
-use Rattle.dill_sound.proofs.Nearly.{or_second, all_by_number, Nearly, nearly, settle_in}
-use Rattle.dill_sound.proofs.Ordering.{apart, all_true, order_anyway, order_release}
+use Rattle.dill_sound.proofs.Lists.{both, join, all_follow, all_from}
+use Rattle.dill_sound.proofs.Nearly.{or_second, settle_in}
+use Rattle.dill_sound.proofs.Ordering.{apart, all_true, order_release}
 use Rattle.dill_sound.proofs.Owners.{owns}
 use Rattle.dill_sound.proofs.Shutting.{is_mine, once}
 use Rattle.dill_sound.proofs.Sorting.{reverse_all, reverse_any, keys_all, keys_any}
-use Rattle.dill_sound.proofs.Sound.{owner_is}
 
 -- the owner of what a number names, if it is live
 abbrev held_as : ℕ → List (Entry Thing) → ℕ → Bool
@@ -180,10 +174,10 @@ module _ {V : Type 0} where
       let b = free_bare w who c o e ending clear in
       let there : coroutine_of freed who ≡ Some c = ap (find (is_coroutine who)) b.crew ∙ e in
       let free_order : IsInOrder freed = settle_in freed who c b.near there
-        (all_follow (λ x. true) (λ x. not (owns freed.scopes who x.bundle) || waits_for x.number c.mode) freed.closings (λ x f. ap (λ t. not t || waits_for x.number c.mode) (not_owned freed who (owner_of freed.scopes x.bundle) (b.none x.bundle))) (all_true freed.closings))
-        (no_call freed c.mode ending)
-        (ap (λ h. list_all (λ x. not (x.owner == who) || is_kept_open freed x) h.entries) b.entries
-        ∙ all_follow (is_kept_open w) (λ x. not (x.owner == who) || is_kept_open freed x) w.handles.entries (λ x f. or_second (not (x.owner == who)) (is_kept_open freed x) (ap (λ cs. if_some (bundle_of x.thing) true (λ name. not (is_at is_ending cs x.owner))) b.crew ∙ f)) o.endings) in
+      (all_follow (λ x. true) (λ x. not (owns freed.scopes who x.bundle) || waits_for x.number c.mode) freed.closings (λ x f. ap (λ t. not t || waits_for x.number c.mode) (not_owned freed who (owner_of freed.scopes x.bundle) (b.none x.bundle))) (all_true freed.closings))
+      (no_call freed c.mode ending)
+      (ap (λ h. list_all (λ x. not (x.owner == who) || is_kept_open freed x) h.entries) b.entries
+      ∙ all_follow (is_kept_open w) (λ x. not (x.owner == who) || is_kept_open freed x) w.handles.entries (λ x f. or_second (not (x.owner == who)) (is_kept_open freed x) (ap (λ cs. if_some (bundle_of x.thing) true (λ name. not (is_at is_ending cs x.owner))) b.crew ∙ f)) o.endings) in
       let r = release_bare freed who c free_order there ending in
       let bare = release_all freed who in
       order_left bare c r.order (ap (find (is_coroutine who)) r.coroutines ∙ there) (λ name f. b.none name (ap (λ s. owner_of s name) (sym r.scopes) ∙ f)) r.none
@@ -238,7 +232,7 @@ lined_waits number modes.Running = refl
 lined_waits number (modes.Answered word answer) = refl
 lined_waits number (modes.Ending outcome) = refl
 
-lined_ends : (mode : Mode) → is_ending (lined_mode mode) ≡ is_ending mode
+pub lined_ends : (mode : Mode) → is_ending (lined_mode mode) ≡ is_ending mode
 lined_ends (modes.Fresh word answer) = refl
 lined_ends (modes.Pending call) = refl
 lined_ends modes.Running = refl

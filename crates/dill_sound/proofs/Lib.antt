@@ -18,3 +18,5 @@ pub mod Gifts
 pub mod Entering
 pub mod Keeping
 pub mod Stepping
+pub mod Resting
+pub mod Calming

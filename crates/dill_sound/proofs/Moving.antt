@@ -1,18 +1,13 @@
 -- Handles that get another number and owner, or that are released, bundles that begin to close or are gone: what keeps a world fitting together.
-use Rattle.std.proofs.Common.{◌≡◌, ◌∙◌, ℕ, ◌+◌, ◌-◌, ◌<◌, ◌≤◌, ◌==◌, List, [], ◌∷◌, ◌++◌, length, map, find, filter_map, Bool, true, false, not, ◌&&◌, cond, Option, Some, None, refl, sym, ap, subst, arith}
-use Rattle.std.specs.Prelude.{is_some, is_none, nat_le, All}
+use Rattle.std.proofs.Common.{◌≡◌, ◌∙◌, ℕ, ◌+◌, ◌-◌, ◌<◌, ◌≤◌, ◌==◌, List, [], ◌∷◌, ◌++◌, length, map, find, filter_map, Bool, true, false, ◌&&◌, cond, Option, Some, None, refl, sym, ap, subst, arith}
+use Rattle.std.specs.Prelude.{is_some, nat_le, All}
 use Rattle.std.specs.List.{list_all}
-use Rattle.std.proofs.lemmas.Bool.Decides.{nat_tests}
-use Rattle.std.proofs.lemmas.List.{map-append}
 use Rattle.std.proofs.lemmas.List.Elements.{All-cons, All-head, All-tail}
-use Rattle.dill_calls.specs.declared.ran.Note.{Note}
-use Rattle.dill_calls.specs.declared.ran.Note.TheVariants.{Moved, Freed}
 use Rattle.dill_handles.specs.Handles as handles
 use Rattle.dill_handles.specs.declared.entry.Entry.{Entry}
 use Rattle.dill_scope.specs.declared.forest.Bundle.{Bundle}
 use Rattle.dill_scope.specs.Scopes as scopes
 use Rattle.dill_scope.specs.Scopes.{Scopes, is_bundle, owner_of, is_empty}
-use Rattle.dill_scope.specs.Keeping.{IsNewBundle}
 use Rattle.dill_scope.specs.Forest.{Inside}
 use Rattle.dill_scope.proofs.Leaving.{drop_keeps}
 use Rattle.dill_scope.proofs.Numbered.{found_number}
@@ -22,18 +17,17 @@ use Rattle.dill_maps.specs.Maps.{if_some, change, without}
 use Rattle.dill_rules.specs.declared.coroutine.Closing.{Closing}
 use Rattle.dill_rules.specs.declared.thing.Thing.{Thing}
 use Rattle.dill_rules.specs.declared.thing.Thing.TheVariants as things
-use Rattle.dill_rules.specs.Owning.{entry_of, take_thing, move, drop, release, close_bundle, free_bundle}
+use Rattle.dill_rules.specs.Owning.{entry_of, close_bundle}
 use Rattle.dill_rules.specs.Taking.{bundle_of}
-use Rattle.dill_rules.specs.World.{World, note}
+use Rattle.dill_rules.specs.World.{World}
 use Rattle.dill_kept.specs.Well.{bit, occurs}
 use Rattle.dill_kept.proofs.Lists.{all_found, all_without}
-use Rattle.dill_sound.specs.Order.{is_there, has_bundle, times_named, times_used, is_held, FitsTogether}
-use Rattle.dill_sound.proofs.Counting.{weigh, holds, weigh_push, weigh_found, weigh_without, length_without, length_push, none_without, none_left, others_left, small_bit, weightless, weightless_none, weighs_found, heavy_found, all_push}
-use Rattle.dill_sound.proofs.Fitting.{names_it, closes_it, has_number, died_as, used, named, used_is, named_is, held_by, held_follow, there_is, fits_anyway}
-use Rattle.dill_sound.proofs.Handing.{same_number, unequal, equal, tell, renumber_used, renumber_named, thing_names, Live, live}
-use Rattle.dill_sound.proofs.Lists.{both, join, all_follow}
-use Rattle.dill_sound.proofs.Owners.{owns_is, take_other, take_here, close_same, drop_other, drop_here, shut_other, shut_here, owned_no_root, owned_same}
-use Rattle.dill_sound.proofs.Sound.{owner_is}
+use Rattle.dill_sound.specs.Order.{is_there, has_bundle, is_held, is_proper, FitsTogether}
+use Rattle.dill_sound.proofs.Counting.{weigh, holds, weigh_push, weigh_found, weigh_without, length_without, length_push, none_left, others_left, small_bit, weightless, all_push}
+use Rattle.dill_sound.proofs.Fitting.{names_it, closes_it, has_number, died_as, named, used_is, named_is, held_by, held_follow, there_is}
+use Rattle.dill_sound.proofs.Handing.{unequal, equal, tell, renumber_used, renumber_named, live}
+use Rattle.dill_sound.proofs.Lists.{join, all_follow}
+use Rattle.dill_sound.proofs.Owners.{owns_is, take_other, take_here, close_same, drop_other, drop_here, shut_other, shut_here, owned_same}
 
 -- names stay below a bound as bundles change and go
 module _ (high : ℕ) where
@@ -97,6 +91,9 @@ module _ {V : Type 0} where
     moved_named : (name : ℕ) → occurs name (filter_map (λ y. bundle_of y.thing) moved) + occurs name (map (λ y. y.bundle) w.closings) ≡ bit (is_some (owner_of w.scopes name))
     moved_named name = named_is moved w.closings name ∙ renumber_named es w.closings x new number name e refl ∙ sym (named_is es w.closings name) ∙ f.names name
 
+    moved_kinds : list_all is_proper moved ≡ true
+    moved_kinds = all_push is_proper (without (has_number number) es) new (all_without is_proper (has_number number) es f.kinds) (all_found is_proper (has_number number) es x f.kinds e)
+
     -- what is no bundle
     pub fits_renumbered : bundle_of x.thing ≡ None → FitsTogether (renumbered w number x.thing owner)
     fits_renumbered none = record {
@@ -110,6 +107,7 @@ module _ {V : Type 0} where
       room = less_room es x new number w.handles.kept e f.room;
       numbers = moved_used;
       names = moved_named;
+      kinds = moved_kinds;
       held = all_push (is_held w) (without (has_number number) es) new (all_without (is_held w) (has_number number) es f.held) (join (is_there w owner) (if_some (bundle_of x.thing) true (has_bundle w owner)) there (ap (λ o. if_some o true (has_bundle w owner)) none));
     }
 
@@ -130,6 +128,7 @@ module _ {V : Type 0} where
           room = less_room es x new number w.handles.kept e f.room;
           numbers = moved_used;
           names = λ at. moved_named at ∙ sym (ap bit (owned_same w.scopes s name at (λ ne. take_other w.scopes name owner at ne) (ap is_some l.owned ∙ sym (ap is_some (take_here w.scopes name owner x.owner l.owned)))));
+          kinds = moved_kinds;
           held =
               let kept = held_follow (is_there w) (is_there w) (owner_of w.scopes) (owner_of s) name (without (has_number number) es) (λ n h. h) (λ at ne. take_other w.scopes name owner at ne) l.others (all_without (is_held w) (has_number number) es f.held) in
               all_push (is_held v) (without (has_number number) es) new kept
@@ -159,6 +158,7 @@ module _ {V : Type 0} where
           let v = named_is es w.closings name in
           let n = f.names name in
           omega (arith, g, b, u, v, n);
+      kinds = all_without is_proper (has_number number) es f.kinds;
       held = all_without (is_held w) (has_number number) es f.held;
     }
 
@@ -193,6 +193,7 @@ module _ {V : Type 0} where
               let b : bit (names_it at x) ≡ bit (closes_it at dead) = ap (λ h. bit (holds (bundle_of h) at)) t in
               let o : bit (is_some (owner_of s at)) ≡ bit (is_some (owner_of w.scopes at)) = ap bit (owned_same w.scopes s name at (λ ne. shut_other w.scopes name owner at ne) (ap is_some l.owned ∙ sym (ap is_some (shut_here w.scopes name owner x.owner l.owned)))) in
               omega (arith, g, u, v, p, n, b, o);
+          kinds = all_without is_proper (has_number number) es f.kinds;
           held = held_follow (is_there w) (is_there w) (owner_of w.scopes) (owner_of s) name (without (has_number number) es) (λ n h. h) (λ at ne. shut_other w.scopes name owner at ne) l.others (all_without (is_held w) (has_number number) es f.held);
         }
 
@@ -213,6 +214,7 @@ module _ {V : Type 0} where
         room = f.room;
         numbers = f.numbers;
         names = λ at. f.names at ∙ ap (λ o. bit (is_some o)) (sym (close_same w.scopes name at));
+        kinds = f.kinds;
         held = held_as (is_there w) (owner_of w.scopes) (owner_of s) w.handles.entries (λ at. close_same w.scopes name at) f.held;
       }
     where
@@ -243,5 +245,6 @@ module _ {V : Type 0} where
             let u = used_is w.handles.entries ks n in
             omega (arith, g, h, u);
         names = λ name. named_is w.handles.entries ks name ∙ freed_named w.handles.entries w.closings x.bundle name (is_some (owner_of w.scopes name)) (is_some (owner_of s name)) none (sym (named_is w.handles.entries w.closings name) ∙ f.names name) (λ e. subst (λ n. is_some (owner_of s n) ≡ false) e (ap is_some (drop_here w.scopes x.bundle f.forest))) (λ ne. ap is_some (drop_other w.scopes x.bundle name ne));
+        kinds = f.kinds;
         held = held_follow (is_there w) (is_there w) (owner_of w.scopes) (owner_of s) x.bundle w.handles.entries (λ n h. h) (λ at ne. drop_other w.scopes x.bundle at ne) (weightless (names_it x.bundle) w.handles.entries none) f.held;
       }

@@ -1,13 +1,12 @@
 -- A world that is in order but for what one coroutine waits for, and how it gets in order again.
-use Rattle.std.proofs.Common.{◌≡◌, ◌∙◌, ℕ, ◌+◌, ◌<◌, ◌≤◌, ◌==◌, List, [], ◌∷◌, ◌++◌, length, map, find, Bool, true, false, not, ◌&&◌, ◌||◌, cond, Option, Some, None, refl, sym, ap, subst, arith}
-use Rattle.std.specs.Prelude.{is_some, is_none}
+use Rattle.std.proofs.Common.{◌≡◌, ◌∙◌, ℕ, ◌≤◌, ◌==◌, List, [], ◌∷◌, find, Bool, true, false, not, ◌&&◌, ◌||◌, cond, Option, Some, None, refl, sym, ap, subst, arith}
+use Rattle.std.specs.Prelude.{is_none}
 use Rattle.std.specs.List.{list_all}
 use Rattle.std.proofs.lemmas.Bool.Decides.{nat_tests}
 use Rattle.dill_calls.specs.declared.call.Call.TheVariants as calls
 use Rattle.dill_handles.specs.declared.entry.Entry.{Entry}
 use Rattle.dill_scope.specs.Scopes.{owner_of}
-use Rattle.dill_maps.specs.Maps.{if_some, change, without}
-use Rattle.dill_rules.specs.declared.coroutine.Closing.{Closing}
+use Rattle.dill_maps.specs.Maps.{if_some, change}
 use Rattle.dill_rules.specs.declared.coroutine.Coroutine.{Coroutine}
 use Rattle.dill_rules.specs.declared.coroutine.Mode.{Mode}
 use Rattle.dill_rules.specs.declared.coroutine.Mode.TheVariants as modes
@@ -17,8 +16,8 @@ use Rattle.dill_rules.specs.World.{World, is_coroutine, coroutine_of, with_mode,
 use Rattle.dill_kept.specs.Well.{Numbered, is_at}
 use Rattle.dill_kept.proofs.Answered.{none_below}
 use Rattle.dill_kept.proofs.Lists.{all_found}
-use Rattle.dill_sound.specs.Order.{closes, waits_for, is_there, has_bundle, is_held, is_kept_open, has_waiter, has_closing, FitsTogether, IsInOrder}
-use Rattle.dill_sound.proofs.Crews.{change_numbers, change_numbered, change_length, change_other, change_here}
+use Rattle.dill_sound.specs.Order.{closes, waits_for, is_kept_open, has_waiter, has_closing, FitsTogether, IsInOrder}
+use Rattle.dill_sound.proofs.Crews.{change_numbers, change_numbered, change_length, change_other}
 use Rattle.dill_sound.proofs.Fitting.{fits_crew}
 use Rattle.dill_sound.proofs.Handing.{equal, unequal, same_number}
 use Rattle.dill_sound.proofs.Lists.{both, join, all_follow, all_from}
@@ -106,7 +105,7 @@ module _ {V : Type 0} where
       record {
         fits = fits_crew w ds (change_numbers f same who w.coroutines) (change_numbered f same who w.coroutines 0 w.last_coroutine near.fits.numbered) (change_length f same who w.coroutines) near.fits;
         closings = all_follow (λ x. mine_or who (owner_of w.scopes x.bundle) (is_at (waits_for x.number) w.coroutines)) (λ x. mine_or who (owner_of w.scopes x.bundle) (is_at (waits_for x.number) ds)) w.closings
-        (λ x e. mine_as who (owner_of w.scopes x.bundle) (is_at (waits_for x.number) w.coroutines) (is_at (waits_for x.number) ds) (other (waits_for x.number)) e) near.closings;
+            (λ x e. mine_as who (owner_of w.scopes x.bundle) (is_at (waits_for x.number) w.coroutines) (is_at (waits_for x.number) ds) (other (waits_for x.number)) e) near.closings;
         waiters = all_change_at (λ c. c.number == who || has_closing w c) (is_coroutine who) f w.coroutines (λ c e. ap (λ n. n == who || has_closing w (f c)) (same c) ∙ ap (λ b. b || has_closing w (f c)) e) near.waiters;
         endings = all_follow (λ x. x.owner == who || is_kept_open w x) (λ x. x.owner == who || is_kept_open v x) w.handles.entries (λ x e. open_as x (x.owner == who) refl other e) near.endings;
       }
@@ -123,7 +122,7 @@ module _ {V : Type 0} where
   settle_in w who c near e waits closing kept = record {
     fits = near.fits;
     closings = all_from (λ x. mine_or who (owner_of w.scopes x.bundle) (is_at (waits_for x.number) w.coroutines)) (λ x. not (owns w.scopes who x.bundle) || waits_for x.number c.mode) (has_waiter w) w.closings
-    (λ x f g. mine_back who (owner_of w.scopes x.bundle) (is_at (waits_for x.number) w.coroutines) (waits_for x.number c.mode) (ap (at_as (waits_for x.number)) e) f g) near.closings waits;
+        (λ x f g. mine_back who (owner_of w.scopes x.bundle) (is_at (waits_for x.number) w.coroutines) (waits_for x.number c.mode) (ap (at_as (waits_for x.number)) e) f g) near.closings waits;
     waiters = all_by_number (has_closing w) w.coroutines 0 w.last_coroutine near.fits.numbered (λ d f. of_one d f (d.number == who) refl (all_found (λ y. y.number == who || has_closing w y) (is_coroutine d.number) w.coroutines d near.waiters f));
     endings = all_from (λ x. x.owner == who || is_kept_open w x) (λ x. not (x.owner == who) || is_kept_open w x) (is_kept_open w) w.handles.entries (λ x f g. either (x.owner == who) (is_kept_open w x) f g) near.endings kept;
   }

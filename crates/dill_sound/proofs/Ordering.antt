@@ -1,12 +1,10 @@
 -- What keeps a world in order: answers and waits that close nothing, and handles that are made, moved and released.
-use Rattle.std.proofs.Common.{◌≡◌, ◌∙◌, ℕ, ◌+◌, ◌<◌, ◌≤◌, ◌==◌, List, [], ◌∷◌, ◌++◌, length, map, find, fold, Bool, true, false, not, ◌&&◌, ◌||◌, cond, Option, Some, None, refl, sym, ap, subst, arith}
+use Rattle.std.proofs.Common.{◌≡◌, ◌∙◌, ℕ, ◌+◌, ◌≤◌, ◌==◌, List, [], ◌∷◌, ◌++◌, find, Bool, true, false, not, ◌||◌, Option, Some, None, refl, sym, ap, subst, arith}
 use Rattle.std.specs.Prelude.{is_some, is_none}
 use Rattle.std.specs.List.{list_all}
 use Rattle.std.proofs.lemmas.Bool.Decides.{nat_tests}
 use Rattle.rand_core.specs.Stream.{Stream}
 use Rattle.dill_calls.specs.declared.answer.Answer.{Answer}
-use Rattle.dill_calls.specs.declared.call.Call.{Call}
-use Rattle.dill_calls.specs.declared.call.Call.TheVariants as calls
 use Rattle.dill_calls.specs.declared.ran.Note.{Note}
 use Rattle.dill_calls.specs.declared.ran.Note.TheVariants.{Moved, Freed}
 use Rattle.dill_calls.specs.declared.word.Word.{Word}
@@ -27,18 +25,18 @@ use Rattle.dill_rules.specs.declared.thing.Thing.TheVariants as things
 use Rattle.dill_rules.specs.Links.{Links}
 use Rattle.dill_rules.specs.Owning.{entry_of, is_dead_as, take_thing, move, drop, release}
 use Rattle.dill_rules.specs.Taking.{bundle_of}
-use Rattle.dill_rules.specs.World.{World, Place, is_coroutine, coroutine_of, with_mode, set_mode, reply, pend, note, is_ending}
+use Rattle.dill_rules.specs.World.{World, Place, is_coroutine, coroutine_of, with_mode, set_mode, reply, note, is_ending}
 use Rattle.dill_rules.specs.Effects.{make, add_bundle}
 use Rattle.dill_kept.specs.Well.{bit, is_at}
 use Rattle.dill_kept.proofs.Lists.{all_found, all_without}
-use Rattle.dill_sound.specs.Order.{closes, waits_for, is_there, has_bundle, is_held, is_kept_open, has_waiter, has_closing, FitsTogether, IsInOrder}
-use Rattle.dill_sound.proofs.Counting.{weigh, holds, weightless, all_push}
+use Rattle.dill_sound.specs.Order.{closes, waits_for, is_there, has_bundle, is_kept_open, has_waiter, has_closing, FitsTogether, IsInOrder, is_proper_thing}
+use Rattle.dill_sound.proofs.Counting.{weigh, weightless, all_push}
 use Rattle.dill_sound.proofs.Crews.{change_here}
 use Rattle.dill_sound.proofs.Fitting.{closes_it, has_number, named, named_is, fits_anyway}
-use Rattle.dill_sound.proofs.Handing.{equal, unequal, same_number, tell, Live, live, live_there, fits_make, fits_add_bundle}
-use Rattle.dill_sound.proofs.Lists.{both, join, all_follow, all_from}
+use Rattle.dill_sound.proofs.Handing.{equal, live, live_there, fits_make, fits_add_bundle}
+use Rattle.dill_sound.proofs.Lists.{both, all_follow, all_from}
 use Rattle.dill_sound.proofs.Moving.{renumbered, fits_renumbered, fits_taken, fits_retired, fits_closed}
-use Rattle.dill_sound.proofs.Nearly.{is_free, free_waits, Nearly, nearly, near_change, settle_in}
+use Rattle.dill_sound.proofs.Nearly.{is_free, free_waits, nearly, near_change, settle_in}
 use Rattle.dill_sound.proofs.Owners.{owns, new_is_free, bundle_other, take_other, close_same}
 
 pub free_closes : (mode : Mode) → is_free mode ≡ true → (closes mode ≡ None) × (is_ending mode ≡ false)
@@ -146,10 +144,10 @@ module _ {V : Type 0} where
   pub order_keep : (w : World V) (count : ℕ) → FitsTogether (record w { handles = handles.keep w.handles count }) → IsInOrder w → IsInOrder (record w { handles = handles.keep w.handles count })
   order_keep w count fits o = record { fits = fits; closings = o.closings; waiters = o.waiters; endings = o.endings }
 
-  pub order_make : (w : World V) (thing : Thing) (who : ℕ) → bundle_of thing ≡ None → is_there w who ≡ true → 1 ≤ w.handles.kept → IsInOrder w → IsInOrder (make w thing who)
-  order_make w thing who none there kept o =
+  pub order_make : (w : World V) (thing : Thing) (who : ℕ) → bundle_of thing ≡ None → is_proper_thing thing ≡ true → is_there w who ≡ true → 1 ≤ w.handles.kept → IsInOrder w → IsInOrder (make w thing who)
+  order_make w thing who none proper there kept o =
       let y : Entry Thing = record { number = handles.next_number w.handles; thing = thing; owner = who } in
-      order_with w (handles.make w.handles thing who) w.scopes w.last_bundle (λ x. true) o (fits_make w thing who none there kept o.fits) (all_true w.closings) (λ x e. refl)
+      order_with w (handles.make w.handles thing who) w.scopes w.last_bundle (λ x. true) o (fits_make w thing who none proper there kept o.fits) (all_true w.closings) (λ x e. refl)
       (all_push (is_kept_open w) w.handles.entries y o.endings (ap (λ p. if_some p true (λ name. not (is_at is_ending w.coroutines who))) none))
 
   pub order_add_bundle : (w : World V) (who : ℕ) → is_there w who ≡ true → is_at is_ending w.coroutines who ≡ false → 1 ≤ w.handles.kept → IsInOrder w → IsInOrder (add_bundle w who)

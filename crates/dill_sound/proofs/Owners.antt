@@ -1,14 +1,13 @@
 -- Who owns which bundle after each change of the scopes.
-use Rattle.std.proofs.Common.{◌≡◌, ◌∙◌, ℕ, ◌+◌, ◌<◌, ◌≤◌, ◌==◌, List, [], ◌∷◌, ◌++◌, map, find, Bool, true, false, not, ◌&&◌, cond, ◌⊎◌, inl, inr, Option, Some, None, refl, sym, ap, subst, arith}
-use Rattle.std.specs.Prelude.{is_some, option_map, option_and_then, All, IsSome}
-use Rattle.std.specs.List.Sorted.{IsStrictlyIncreasing}
+use Rattle.std.proofs.Common.{◌≡◌, ◌∙◌, ℕ, ◌==◌, find, Bool, true, false, Option, Some, None, refl, sym, ap, subst, arith}
+use Rattle.std.specs.Prelude.{is_some, option_map, option_and_then}
 use Rattle.std.proofs.lemmas.Bool.Decides.{nat_tests}
 use Rattle.dill_scope.specs.declared.forest.Bundle.{Bundle}
 use Rattle.dill_scope.specs.Scopes.{Scopes, is_bundle, owner_of, with_owner, bundle, take, close, drop_bundle}
 use Rattle.dill_scope.specs.Keeping.{IsKnown, IsNewBundle, IsOrderedForest}
 use Rattle.dill_scope.proofs.Numbered.{find_push_other, find_push_new, find_change_other, find_change_here, find_without_other, find_without_same, none_below}
 use Rattle.dill_scope.proofs.Shutting.{close_moves_nobody}
-use Rattle.dill_maps.specs.Maps.{if_some, change, without}
+use Rattle.dill_maps.specs.Maps.{if_some}
 
 -- a coroutine owns a bundle
 abbrev pub owns : Scopes → ℕ → ℕ → Bool

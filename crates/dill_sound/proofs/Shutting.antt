@@ -1,47 +1,37 @@
 -- Bundles that begin to close or are gone, and coroutines that come and go: what keeps a world in order.
-use Rattle.std.proofs.Common.{◌≡◌, ◌∙◌, ℕ, ◌+◌, ◌<◌, ◌≤◌, ◌==◌, List, [], ◌∷◌, ◌++◌, length, map, find, fold, Bool, true, false, not, ◌&&◌, ◌||◌, cond, Option, Some, None, refl, sym, ap, subst, arith}
-use Rattle.std.specs.Prelude.{is_some, is_none, nat_le, filter}
+use Rattle.std.proofs.Common.{◌≡◌, ◌∙◌, ℕ, ◌≤◌, ◌==◌, List, [], ◌∷◌, ◌++◌, find, fold, Bool, true, false, not, ◌&&◌, ◌||◌, Option, Some, None, refl, sym, ap, subst, arith}
+use Rattle.std.specs.Prelude.{is_some, nat_le, filter}
 use Rattle.std.specs.List.{list_all}
-use Rattle.std.proofs.lemmas.Bool.Decides.{nat_tests}
 use Rattle.dill_base.specs.declared.errno.Errno.{Errno}
-use Rattle.dill_calls.specs.declared.call.Call.{Call}
 use Rattle.dill_calls.specs.declared.call.Call.TheVariants as calls
 use Rattle.dill_calls.specs.declared.ran.Note.TheVariants.{Freed}
-use Rattle.dill_calls.specs.declared.answer.Answer.TheVariants.{Number}
-use Rattle.dill_calls.specs.declared.word.Word.TheVariants.{Start}
-use Rattle.dill_handles.specs.Handles as handles
 use Rattle.dill_handles.specs.declared.entry.Entry.{Entry}
 use Rattle.dill_scope.specs.Scopes as scopes
 use Rattle.dill_scope.specs.Scopes.{Scopes, owner_of, is_empty}
-use Rattle.dill_scope.specs.Keeping.{IsKnown}
 use Rattle.dill_scope.specs.Forest.{Inside}
 use Rattle.dill_scope.proofs.Numbered.{found_number}
-use Rattle.dill_maps.specs.Maps.{if_some, change, without}
+use Rattle.dill_maps.specs.Maps.{if_some, without}
 use Rattle.dill_rules.specs.declared.coroutine.Closing.{Closing}
 use Rattle.dill_rules.specs.declared.coroutine.Coroutine.{Coroutine}
-use Rattle.dill_rules.specs.declared.coroutine.Mode.{Mode}
 use Rattle.dill_rules.specs.declared.coroutine.Mode.TheVariants as modes
 use Rattle.dill_rules.specs.declared.thing.Thing.{Thing}
 use Rattle.dill_rules.specs.declared.thing.Thing.TheVariants as things
-use Rattle.dill_rules.specs.Effects.{bear}
 use Rattle.dill_rules.specs.Owning.{entry_of, is_dead_as, close_bundle, free_bundle}
-use Rattle.dill_rules.specs.Settling.{outcome_of, keep_end, leave, close_owned, close_all, end}
-use Rattle.dill_rules.specs.State.{lined, lined_mode}
+use Rattle.dill_rules.specs.Settling.{close_owned, close_all, end}
 use Rattle.dill_rules.specs.Taking.{bundle_of}
-use Rattle.dill_rules.specs.World.{World, at_start, from_start, is_coroutine, coroutine_of, with_mode, set_mode, pend, note, is_ending}
-use Rattle.dill_kept.specs.Well.{Numbered, bit, is_at}
-use Rattle.dill_kept.proofs.Lists.{all_found, all_without, all_map}
-use Rattle.dill_sound.specs.Order.{closes, waits_for, is_there, has_bundle, is_held, is_kept_open, has_waiter, has_closing, FitsTogether, IsInOrder}
-use Rattle.dill_sound.proofs.Coming.{newborn, fits_born, fits_left}
-use Rattle.dill_sound.proofs.Counting.{weigh, weightless, weightless_none, weighs_found, weigh_found, found_push, pushed_found, found_without, none_left, only_found, small_bit, all_push, filter_first, filter_none, filter_both}
-use Rattle.dill_sound.proofs.Crews.{change_here, gone_without, other_without, map_numbers, map_numbered, map_length, map_at}
-use Rattle.dill_sound.proofs.Fitting.{names_it, closes_it, has_number, died_as, used, used_is, named, named_is, fits_anyway, fits_crew}
+use Rattle.dill_rules.specs.World.{World, coroutine_of, with_mode, set_mode, pend, note, is_ending}
+use Rattle.dill_kept.specs.Well.{bit, is_at}
+use Rattle.dill_kept.proofs.Lists.{all_found, all_without}
+use Rattle.dill_sound.specs.Order.{closes, waits_for, is_there, has_bundle, is_kept_open, has_closing, FitsTogether, IsInOrder}
+use Rattle.dill_sound.proofs.Counting.{weigh, weightless, weightless_none, weighs_found, found_push, pushed_found, found_without, none_left, small_bit, all_push, filter_first, filter_none, filter_both}
+use Rattle.dill_sound.proofs.Crews.{change_here}
+use Rattle.dill_sound.proofs.Fitting.{names_it, closes_it, has_number, died_as, used_is, named, named_is, fits_anyway}
 use Rattle.dill_sound.proofs.Going.{its_number, found_there}
-use Rattle.dill_sound.proofs.Handing.{equal, unequal, same_number, tell, Live, live}
-use Rattle.dill_sound.proofs.Lists.{both, join, all_follow, all_from}
+use Rattle.dill_sound.proofs.Handing.{equal, unequal, same_number, tell, live}
+use Rattle.dill_sound.proofs.Lists.{both, all_follow, all_from}
 use Rattle.dill_sound.proofs.Moving.{fits_shut, fits_freed}
-use Rattle.dill_sound.proofs.Nearly.{is_free, mine_or, or_second, all_by_number, Nearly, nearly, near_set, settle_in}
-use Rattle.dill_sound.proofs.Ordering.{apart, all_true, order_anyway, free_owns, going_open}
+use Rattle.dill_sound.proofs.Nearly.{is_free, mine_or, or_second, Nearly, nearly, near_set, settle_in}
+use Rattle.dill_sound.proofs.Ordering.{apart, all_true, free_owns, going_open}
 use Rattle.dill_sound.proofs.Owners.{owns, owns_is, owned_no_root, shut_other, shut_here, drop_other}
 use Rattle.dill_sound.proofs.Sound.{owner_is}
 
@@ -88,13 +78,13 @@ module _ {V : Type 0} where
       record {
         fits = fits_shut w number who x near.fits e there name t out;
         closings = all_push (λ y. mine_or who (owner_of s y.bundle) (is_at (waits_for y.number) w.coroutines)) w.closings dead
-        (all_from (λ y. not (closes_it name y)) (λ y. mine_or who (owner_of w.scopes y.bundle) (is_at (waits_for y.number) w.coroutines)) (λ y. mine_or who (owner_of s y.bundle) (is_at (waits_for y.number) w.coroutines)) w.closings
-        (λ y f g. ap (λ o. mine_or who o (is_at (waits_for y.number) w.coroutines)) (shut_other w.scopes name who y.bundle (apart y.bundle name f)) ∙ g) l.closings near.closings)
-        (ap (λ b. b || if_some (owner_of s name) false (is_at (waits_for number) w.coroutines)) (owns_is s who name (shut_here w.scopes name who x.owner l.owned)));
+            (all_from (λ y. not (closes_it name y)) (λ y. mine_or who (owner_of w.scopes y.bundle) (is_at (waits_for y.number) w.coroutines)) (λ y. mine_or who (owner_of s y.bundle) (is_at (waits_for y.number) w.coroutines)) w.closings
+            (λ y f g. ap (λ o. mine_or who o (is_at (waits_for y.number) w.coroutines)) (shut_other w.scopes name who y.bundle (apart y.bundle name f)) ∙ g) l.closings near.closings)
+            (ap (λ b. b || if_some (owner_of s name) false (is_at (waits_for number) w.coroutines)) (owns_is s who name (shut_here w.scopes name who x.owner l.owned)));
         waiters = all_follow (λ c. c.number == who || has_closing w c) (λ c. c.number == who || has_closing v c) w.coroutines
-        (λ c f. either_kept (c.number == who) (has_closing w c) (has_closing v c)
-        (λ other g. closing_kept w v c
-        (λ n y h i. (found_push (is_dead_as n) w.closings dead y h, ap (λ o. if_some o false (λ owner. owner == c.number)) (shut_other w.scopes name who y.bundle (apart y.bundle name (all_found (λ z. not (closes_it name z)) (is_dead_as n) w.closings y l.closings h))) ∙ i)) g) f) near.waiters;
+            (λ c f. either_kept (c.number == who) (has_closing w c) (has_closing v c)
+            (λ other g. closing_kept w v c
+            (λ n y h i. (found_push (is_dead_as n) w.closings dead y h, ap (λ o. if_some o false (λ owner. owner == c.number)) (shut_other w.scopes name who y.bundle (apart y.bundle name (all_found (λ z. not (closes_it name z)) (is_dead_as n) w.closings y l.closings h))) ∙ i)) g) f) near.waiters;
         endings = all_without (λ y. y.owner == who || is_kept_open w y) (has_number number) w.handles.entries near.endings;
       }
 
@@ -110,12 +100,12 @@ module _ {V : Type 0} where
       near_anyway v who x.number (record {
         fits = fits_freed w x near.fits none (owned_no_root w.scopes x.bundle who near.fits.forest owned) empty;
         closings = all_from (λ y. not (closes_it x.bundle y)) (λ y. mine_or who (owner_of w.scopes y.bundle) (is_at (waits_for y.number) w.coroutines)) (λ y. mine_or who (owner_of s y.bundle) (is_at (waits_for y.number) w.coroutines)) ks
-        (λ y f g. ap (λ o. mine_or who o (is_at (waits_for y.number) w.coroutines)) (drop_other w.scopes x.bundle y.bundle (apart y.bundle x.bundle f)) ∙ g) (weightless (closes_it x.bundle) ks left)
-        (all_without (λ y. mine_or who (owner_of w.scopes y.bundle) (is_at (waits_for y.number) w.coroutines)) (closes_it x.bundle) w.closings near.closings);
+            (λ y f g. ap (λ o. mine_or who o (is_at (waits_for y.number) w.coroutines)) (drop_other w.scopes x.bundle y.bundle (apart y.bundle x.bundle f)) ∙ g) (weightless (closes_it x.bundle) ks left)
+            (all_without (λ y. mine_or who (owner_of w.scopes y.bundle) (is_at (waits_for y.number) w.coroutines)) (closes_it x.bundle) w.closings near.closings);
         waiters = all_follow (λ c. c.number == who || has_closing w c) (λ c. c.number == who || has_closing v c) w.coroutines
-        (λ c f. either_kept (c.number == who) (has_closing w c) (has_closing v c)
-        (λ other g. closing_kept w v c
-        (λ m y h i.
+            (λ c f. either_kept (c.number == who) (has_closing w c) (has_closing v c)
+            (λ other g. closing_kept w v c
+            (λ m y h i.
             let ne : y.bundle ≡ x.bundle → ⊥ = λ same. let o : owner_of w.scopes x.bundle ≡ Some c.number = subst (λ b. owner_of w.scopes b ≡ Some c.number) same (owner_is (owner_of w.scopes y.bundle) c.number i) in let it : who ≡ c.number = cc in unequal c.number who other (sym it) in
             (found_without (is_dead_as m) (closes_it x.bundle) w.closings y h (tell y.bundle x.bundle ne), ap (λ o. if_some o false (λ owner. owner == c.number)) (drop_other w.scopes x.bundle y.bundle ne) ∙ i)) g) f) near.waiters;
         endings = near.endings;

@@ -1,8 +1,7 @@
 -- Each step keeps what a core keeps in order.
-use Rattle.std.proofs.Common.{◌≡◌, ◌∙◌, ℕ, zero, suc, ◌+◌, ◌-◌, ◌<◌, ◌≤◌, ◌==◌, List, [], ◌∷◌, ◌++◌, length, map, find, fold, filter_map, Bool, true, false, not, ◌&&◌, ◌||◌, cond, Option, Some, None, if◌then◌else◌, refl, sym, ap, subst, arith, lit≤}
-use Rattle.std.specs.Prelude.{is_some, is_none, max, nat_le, nat_lt, option_and_then}
+use Rattle.std.proofs.Common.{◌≡◌, ◌∙◌, ℕ, ◌+◌, ◌-◌, ◌<◌, ◌==◌, List, [], ◌∷◌, length, map, find, fold, filter_map, Bool, true, false, ◌&&◌, cond, Option, Some, None, if◌then◌else◌, refl, sym, ap, subst, arith, lit≤}
+use Rattle.std.specs.Prelude.{is_some, max, nat_le, option_and_then}
 use Rattle.std.specs.List.{list_all}
-use Rattle.std.proofs.lemmas.Bool.Decides.{nat_tests}
 use Rattle.std.proofs.lemmas.List.Elements.{All-cons, All-nil}
 use Rattle.std.proofs.lemmas.List.Folds.{list_all-map}
 use Rattle.dill_calls.specs.declared.answer.Answer.{Answer}
@@ -23,20 +22,20 @@ use Rattle.dill_rules.specs.declared.coroutine.Mode.TheVariants as modes
 use Rattle.dill_rules.specs.Expiring.{Timer, due_of, is_earlier, placed, in_order, timer_of, passed, expire_one}
 use Rattle.dill_rules.specs.Entering.{late_answer}
 use Rattle.dill_rules.specs.Giving.{give}
-use Rattle.dill_rules.specs.Hearing.{heat_ready, woken}
+use Rattle.dill_rules.specs.Hearing.{heat_ready}
 use Rattle.dill_rules.specs.Settling.{settle}
 use Rattle.dill_rules.specs.State.{lined, lined_mode}
 use Rattle.dill_rules.specs.Turning.{turn, move_of, answer_given}
-use Rattle.dill_rules.specs.World.{World, at_start, is_coroutine, coroutine_of, call_of, with_mode, set_mode, begin, from_start, pending_call, is_answered}
+use Rattle.dill_rules.specs.World.{World, at_start, is_coroutine, coroutine_of, call_of, with_mode, begin, pending_call}
 use Rattle.dill_kept.specs.Kept.{Kept, opening_kept, queued, turn_first, kept_turn, kept_expire_next, kept_late, kept_expired, kept_shut, kept_woke}
-use Rattle.dill_kept.specs.Laws.{MayTurn, KeepsWell}
-use Rattle.dill_kept.specs.Plain.{no_words, may_wait, IsPlain}
+use Rattle.dill_kept.specs.Laws.{KeepsWell}
+use Rattle.dill_kept.specs.Plain.{may_wait, IsPlain}
 use Rattle.dill_kept.specs.Well.{bit, IsWell}
 use Rattle.dill_kept.proofs.Keeping.{steps_keep_well}
 use Rattle.dill_kept.proofs.Steps.{call_waits}
 use Rattle.dill_kept.proofs.Turns.{root_closed, closed_plain}
-use Rattle.dill_sound.specs.Laws.{is_timed, KeepsOrder, StepsKeepOrder}
-use Rattle.dill_sound.specs.Order.{is_there, IsInOrder}
+use Rattle.dill_sound.specs.Laws.{is_timed, StepsKeepOrder}
+use Rattle.dill_sound.specs.Order.{IsInOrder}
 use Rattle.dill_sound.proofs.Crews.{change_here, change_other}
 use Rattle.dill_sound.proofs.Entering.{found_call}
 use Rattle.dill_sound.proofs.Handing.{equal, unequal}
@@ -50,7 +49,7 @@ use Rattle.dill_sound.proofs.Ordering.{order_anyway, order_closed}
 timed_open : (call : Call) (number : ℕ) → is_some (due_of call) ≡ true → call ≡ calls.Hclose number → ⊥
 timed_open call number e f = let bad : is_some (due_of (calls.Hclose number)) ≡ true = ap (λ c. is_some (due_of c)) (sym f) ∙ e in cc
 
-lined_pending : (mode : Mode) → pending_call (lined_mode mode) ≡ pending_call mode
+pub lined_pending : (mode : Mode) → pending_call (lined_mode mode) ≡ pending_call mode
 lined_pending (modes.Fresh word answer) = refl
 lined_pending (modes.Pending call) = refl
 lined_pending modes.Running = refl
@@ -156,7 +155,7 @@ module _ {V : Type 0} where
   order_queued : (w : World V) (ready : List ℕ) (early : ℕ) → IsInOrder w → IsInOrder (queued w ready early).world
   order_queued w ready early o = order_lined w o
 
-  order_root_closed : (w : World V) → IsInOrder w → IsInOrder (root_closed w)
+  pub order_root_closed : (w : World V) → IsInOrder w → IsInOrder (root_closed w)
   order_root_closed w o =
       let closed = order_closed w 0 o in
       order_anyway (record w { scopes = scopes.close w.scopes 0 }) w.channels w.links at_start [] w.words w.moment [] closed
@@ -184,6 +183,7 @@ module _ {V : Type 0} where
       numbers = λ number. omega arith;
       names = λ name. opening_free (0 == name) (record { name = 0; owner = None; closing = false }) refl;
       held = refl;
+      kinds = refl;
     };
     closings = refl;
     waiters = refl;

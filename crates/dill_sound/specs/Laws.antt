@@ -18,7 +18,7 @@ use Rattle.dill_rules.specs.World.{World, begin, call_of, is_answered}
 use Rattle.dill_kept.specs.Kept.{Kept, has_answer, opening_kept, queued, kept_turn, kept_expire_next, kept_expired, kept_shut, kept_woke}
 use Rattle.dill_kept.specs.Plain.{IsPlain}
 use Rattle.dill_kept.specs.Settled.{IsSettled}
-use Rattle.dill_kept.specs.Well.{is_at, IsWell}
+use Rattle.dill_kept.specs.Well.{occurs, is_at, IsWell}
 use Rattle.dill_sound.specs.Order.{is_there, IsInOrder}
 
 -- the closing of a bundle has begun
@@ -34,6 +34,11 @@ is_resting _ = false
 
 abbrev pub IsAtRest : {V : Type 0} → World V → Type 0
 IsAtRest w = list_all (λ c. is_resting c.mode) w.coroutines ≡ true
+
+-- between two steps all are at rest, and nothing is due
+pub record Rests {V : Type 0} (w : World V) : Type 0 where
+  pub rest : IsAtRest w
+  pub settled : IsSettled w
 
 -- what it is pending in has a deadline, if it is pending
 abbrev pub is_timed : {V : Type 0} → World V → ℕ → Bool
@@ -52,6 +57,20 @@ pub record KeepsOrder {V : Type 0} (p : Program V) : Type 0 where
 
 abbrev pub StepsKeepOrder : {V : Type 0} → Program V → Type 0
 StepsKeepOrder p = IsLawful p → MakesPlain p → KeepsOrder p
+
+-- so each step leads from rest to rest; after an expiry something may be due until the world settles
+pub record KeepsRest {V : Type 0} (p : Program V) : Type 0 where
+  pub opening : (view : V) → Rests (opening_kept view).world
+  pub turned : (k : Kept V) (lack : Option LackPlace) → IsWell p k → IsInOrder k.world → Rests k.world → Rests (kept_turn p lack k).world
+  pub started : (k : Kept V) → IsWell p k → Rests k.world → Rests (begin k.world)
+  pub expires : (k : Kept V) (who : ℕ) → IsWell p k → IsAtRest k.world → IsAtRest (kept_expire_next k who).world
+  pub settled : (k : Kept V) → IsWell p k → IsAtRest k.world → Rests (queued (settle k.world) k.ready k.early).world
+  pub expired : (k : Kept V) → IsWell p k → IsAtRest k.world → Rests (kept_expired k).world
+  pub shut : (k : Kept V) → IsWell p k → IsAtRest k.world → Rests (kept_shut k).world
+  pub woke : (k : Kept V) (told : ℕ) (ready : List Ready) → IsWell p k → Rests k.world → Rests (kept_woke k told ready).world
+
+abbrev pub StepsKeepRest : {V : Type 0} → Program V → Type 0
+StepsKeepRest p = IsLawful p → MakesPlain p → KeepsRest p
 
 -- a world in order is sound
 abbrev pub OrderIsSound : (V : Type 0) → Type 0
@@ -74,3 +93,13 @@ GoesOn V = (w : World V) (name : ℕ) → IsInOrder w → IsPlain w → IsSettle
 -- where the root is closing and `main` hasn't ended, somebody is queued
 abbrev pub RootGoesOn : {V : Type 0} → Program V → Type 0
 RootGoesOn {V} p = (k : Kept V) → IsWell p k → IsInOrder k.world → IsSettled k.world → IsAtRest k.world → is_closing k.world.scopes 0 ≡ true → k.world.ended ≡ None → has_answer k.ready ≡ true
+
+-- somebody inside a bundle is queued with an answer
+pub record HasQueued {V : Type 0} (k : Kept V) (name : ℕ) : Type 0 where
+  pub who : ℕ
+  pub inside : Inside k.world.scopes name who
+  pub queued : occurs who k.ready ≡ 1
+
+-- where a bundle is closing in which somebody lives, somebody inside it is queued
+abbrev pub BundleGoesOn : {V : Type 0} → Program V → Type 0
+BundleGoesOn {V} p = (k : Kept V) (name : ℕ) → IsWell p k → IsInOrder k.world → IsSettled k.world → IsAtRest k.world → is_closing k.world.scopes name ≡ true → is_empty k.world.scopes name ≡ false → HasQueued k name

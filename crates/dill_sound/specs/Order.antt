@@ -11,6 +11,7 @@ use Rattle.dill_rules.specs.declared.coroutine.Coroutine.{Coroutine}
 use Rattle.dill_rules.specs.declared.coroutine.Mode.{Mode}
 use Rattle.dill_rules.specs.declared.coroutine.Mode.TheVariants as modes
 use Rattle.dill_rules.specs.declared.thing.Thing.{Thing}
+use Rattle.dill_rules.specs.declared.thing.Thing.TheVariants as things
 use Rattle.dill_rules.specs.World.{World, coroutine_of, is_ending}
 use Rattle.dill_rules.specs.Owning.{is_dead_as}
 use Rattle.dill_rules.specs.Taking.{bundle_of}
@@ -26,6 +27,14 @@ abbrev pub waits_for : ℕ → Mode → Bool
 waits_for number (modes.Ending outcome) = true
 waits_for number (modes.Pending (calls.Hclose closed)) = closed == number
 waits_for number _ = false
+
+-- an application's value has an application's kind
+abbrev pub is_proper_thing : Thing → Bool
+is_proper_thing (things.Value kind value) = nat_le 256 kind
+is_proper_thing _ = true
+
+abbrev pub is_proper : Entry Thing → Bool
+is_proper x = is_proper_thing x.thing
 
 module _ {V : Type 0} where
   abbrev pub is_there : World V → ℕ → Bool
@@ -62,7 +71,7 @@ module _ {V : Type 0} where
   -- How coroutines, handles and bundles fit together, whatever anybody waits for: bundles and coroutines are a forest of
   -- those that are there, with numbers up to the last ones; there are no more coroutines and handles than may be; `main`
   -- is there until its end is kept; no number is used twice, and none above the last one; each bundle that has an owner,
-  -- which is each but the root, is named by exactly one live number or one closing; and live numbers are held.
+  -- which is each but the root, is named by exactly one live number or one closing; and live numbers are held, and name things of proper kinds.
   pub record FitsTogether (w : World V) : Type 0 where
     pub forest : IsOrderedForest w.scopes
     pub bundles : IsNewBundle w.scopes (w.last_bundle + 1)
@@ -75,6 +84,7 @@ module _ {V : Type 0} where
     pub numbers : (number : ℕ) → times_used w number ≤ bit (nat_le number w.handles.last)
     pub names : (name : ℕ) → times_named w name ≡ bit (is_some (owner_of w.scopes name))
     pub held : list_all (is_held w) w.handles.entries ≡ true
+    pub kinds : list_all is_proper w.handles.entries ≡ true
 
   -- and for each bundle that is closing its owner waits, and who waits in `hclose` or by ending has begun to close
   pub record IsInOrder (w : World V) : Type 0 where

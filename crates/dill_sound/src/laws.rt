@@ -1,4 +1,4 @@
-ghost use Rattle.dill_sound.specs.Laws.{KeepsOrder, OrderIsSound, CancelsAll, GoesOn, RootGoesOn};
+ghost use Rattle.dill_sound.specs.Laws.{KeepsOrder, KeepsRest, OrderIsSound, CancelsAll, GoesOn, RootGoesOn, BundleGoesOn};
 
 use dill_calls::Body;
 use dill_plain::PlainBody;
@@ -23,7 +23,18 @@ pub fn root_goes_on<B: PlainBody>()
     ensures { RootGoesOn B.means }
 {}
 
+/// Where a bundle is closing in which somebody lives, somebody inside it is queued with an answer, once nothing is due.
+pub fn bundle_goes_on<B: PlainBody>()
+    ensures { BundleGoesOn B.means }
+{}
+
 /// Each step of programs that make plain calls keeps what a core keeps in order.
 pub fn steps_keep_order<B: PlainBody>()
     ensures { KeepsOrder B.means }
+{}
+
+/// Each step of programs that make plain calls leads from rest to rest: nobody is making a call, whoever was answered is
+/// queued, and nothing is due. After an expiry something may be due until the world settles.
+pub fn steps_keep_rest<B: PlainBody>()
+    ensures { KeepsRest B.means }
 {}

@@ -3,4 +3,7 @@
 
 mod laws;
 
-pub use laws::{all_cancelled, closing_goes_on, order_is_sound, root_goes_on, steps_keep_order};
+pub use laws::{
+    all_cancelled, bundle_goes_on, closing_goes_on, order_is_sound, root_goes_on, steps_keep_order,
+    steps_keep_rest,
+};
