@@ -85,9 +85,6 @@ module _ {V : Type 0} (p : Program V) (law : IsLawful p) (plainly : MakesPlain p
     places : SamePlaces s t b
     no_more : debt p t b ≤ debt p s b
 
-  comes_then : (s t r : State V) (b : ℕ) → ((n : ℕ) → is_there r.world n ≡ true → is_there t.world n ≡ true) → Comes s t b → Comes t r b → Comes s r b
-  comes_then s t r b there a c = record { places = λ n e. c.places n e ∙ a.places n (there n e); no_more = let x = a.no_more in let y = c.no_more in omega (arith, x, y) }
-
   -- ---- the turn
 
   turn_after : (s : State V) (lack : Option LackPlace) (even : IsEven p s) (who : ℕ) (rest : List ℕ) → even.kept.ready ≡ who ∷ rest → StandsFor (queued (turn p lack even.kept.world who) rest (even.kept.early - 1)) (turn_of p lack s who)

@@ -180,9 +180,6 @@ length_more : (xs ys : List ℕ) → length xs ≤ length (xs ++ ys)
 length_more [] ys = omega arith
 length_more (x ∷ xs) ys = let r = length_more xs ys in omega (arith, r)
 
-less_length : (k n : ℕ) (x : ℕ) (xs : List ℕ) → k ≤ length (x ∷ xs) → k - 1 ≤ length xs
-less_length k n x xs l = omega (arith, l)
-
 -- who is first in a queue stands nowhere else in it
 absent_rest : (who : ℕ) (rest : List ℕ) (b : Bool) → occurs who (who ∷ rest) ≡ bit b → occurs who rest ≡ 0
 absent_rest who rest true e = let one : bit (who == who) ≡ 1 = ap bit (equal_number who who refl) in omega (arith, e, one)

@@ -161,10 +161,6 @@ module _ {V : Type 0} (p : Program V) (law : IsLawful p) (plainly : MakesPlain p
       no_more : now ≤ was
       falls : t ≡ true → now < was
 
-    by_call : (t : Bool) (tg tf g f x y : ℕ) → tg + f ≡ tf + g → g ≡ (if t then x else 0) → f ≡ (if t then y else 0) → x < y → Owes tg tf t
-    by_call true tg tf g f x y e i j l = record { no_more = omega (arith, e, i, j, l); falls = λ u. omega (arith, e, i, j, l) }
-    by_call false tg tf g f x y e i j l = record { no_more = omega (arith, e, i, j); falls = λ u. cc }
-
     by_end : (t : Bool) (tg tr tf g h f y : ℕ) → tr + f ≡ tf + g → tg + g ≡ tr + h → h ≡ 0 → f ≡ (if t then y else 0) → 1 ≤ y → Owes tg tf t
     by_end true tg tr tf g h f y e d z j l = record { no_more = omega (arith, e, d, z, j, l); falls = λ u. omega (arith, e, d, z, j, l) }
     by_end false tg tr tf g h f y e d z j l = record { no_more = omega (arith, e, d, z, j); falls = λ u. cc }

@@ -56,12 +56,6 @@ module _ {V : Type 0} (p : Program V) (law : IsLawful p) (calm : ℕ → Bool) w
   from_move : (lack : Option LackPlace) (w : World V) (who : ℕ) (c : Coroutine V) (answer : Answer) (next : V × Move) → MayGo w who c → Moves p c.body answer next → MovesPlain next → Went w who c answer (if is_build lack && may_lack_build next.1 then lack_move (resume w who (p.short c.body answer)) who next.1 else make_move p (is_entry lack) (resume w who next.0) who next.0 next.1)
   from_move lack w who c answer (new, Calls call) g m plain = at (is_build lack && is_built (word_of call))
     where
-      short : V
-      short = p.short c.body answer
-
-      call_now : Call
-      call_now = entered w.moment call
-
       enters : Enters p law calm (resume w who new) who new (entered w.moment call)
       enters = record {
         runs = runs_resumed w who new (word_of (entered w.moment call)) c g.found (m.1.said ∙ sym (word_entered w.moment call plain));
