@@ -1,6 +1,5 @@
 -- The laws of the debt of a bundle that is closing.
-use Rattle.std.proofs.Common.{◌≡◌, ◌∙◌, ◌⊎◌, inl, inr, ◌+◌, ◌-◌, ◌≤◌, ◌<◌, ◌==◌, ℕ, List, [], ◌∷◌, length, map, filter, fold, find, sum_by, Bool, true, false, not, cond, Option, Some, None, is_some, if◌then◌else◌, refl, sym, ap, subst, arith}
-use Rattle.std.specs.Prelude.{max}
+use Rattle.std.proofs.Common.{◌≡◌, ◌∙◌, ◌+◌, ◌-◌, ◌≤◌, ◌<◌, ◌==◌, ℕ, List, [], ◌∷◌, length, filter, fold, find, sum_by, Bool, true, false, not, cond, Option, Some, None, is_some, if◌then◌else◌, refl, sym, ap, subst, arith}
 use Rattle.std.specs.List.{AllByRecursion, list_all, list_any}
 use Rattle.std.specs.Option.{option_or}
 use Rattle.dill_calls.specs.declared.ran.LackPlace.{LackPlace}
@@ -18,16 +17,16 @@ use Rattle.dill_plain.specs.Plain.{MakesPlain}
 use Rattle.dill_rules.specs.declared.coroutine.Coroutine.{Coroutine}
 use Rattle.dill_rules.specs.Debts.{is_early, share, debt}
 use Rattle.dill_rules.specs.Expiring.{due_of, passed, expire_one}
-use Rattle.dill_rules.specs.Hearing.{heat_ready, woken}
+use Rattle.dill_rules.specs.Hearing.{heat_ready}
 use Rattle.dill_rules.specs.Settling.{can_finish, answer_due, settle}
-use Rattle.dill_rules.specs.State.{State, Stamp, is_stamp_of, stamp_of, opening_state, line_up, after, next_turn, turn_of, fresh, turned, expire_next, expired, shut, woke}
+use Rattle.dill_rules.specs.State.{State, Stamp, is_stamp_of, stamp_of, opening_state, line_up, next_turn, turn_of, fresh, turned, expire_next, expired, shut, woke}
 use Rattle.dill_rules.specs.Turning.{answer_given, go_on, turn}
 use Rattle.dill_rules.specs.World.{World, begin, pending_call, is_ending}
 use Rattle.dill_kept.specs.Following.{Follows}
-use Rattle.dill_kept.specs.Kept.{Kept, opening_kept, queued, turn_first, kept_turn, kept_expire_next, kept_late, kept_expired, kept_shut, kept_woke}
+use Rattle.dill_kept.specs.Kept.{Kept, opening_kept, queued, turn_first, kept_shut, kept_woke}
 use Rattle.dill_kept.specs.Laws.{MayTurn, KeepsWell}
 use Rattle.dill_kept.specs.Plain.{wordless}
-use Rattle.dill_kept.specs.Settled.{IsSettled, SettlesAll}
+use Rattle.dill_kept.specs.Settled.{IsSettled}
 use Rattle.dill_kept.specs.Stands.{StandsFor}
 use Rattle.dill_kept.specs.Well.{bit}
 use Rattle.dill_kept.proofs.Following.{follows_states, next_is, nobody_next, expired_next, settled_after}
@@ -38,7 +37,7 @@ use Rattle.dill_kept.proofs.Settling.{settles_all}
 use Rattle.dill_kept.proofs.Plainly.{begin_plain}
 use Rattle.dill_kept.proofs.Turns.{root_closed, closed_plain, go_on_plain}
 use Rattle.dill_sound.specs.Laws.{is_closing, is_timed, HasGoing}
-use Rattle.dill_sound.specs.Order.{is_there, IsInOrder}
+use Rattle.dill_sound.specs.Order.{IsInOrder}
 use Rattle.dill_sound.proofs.Going.{closing_goes_on}
 use Rattle.dill_sound.proofs.Sound.{rooted_inside}
 use Rattle.dill_sound.proofs.Stepping.{steps_keep_order, passed_timed, expire_timed}
@@ -47,16 +46,16 @@ use Rattle.dill_debts.specs.Debts.{Step, Turn, Expire, Shut, Wake, step, SamePla
 use Rattle.dill_debts.specs.Laws.{KeepsStable, EndsClosing}
 use Rattle.dill_debts.specs.Owed.{share_by, is_early as early_in, owed}
 use Rattle.dill_debts.specs.Says.{IsLowering}
-use Rattle.dill_debts.specs.Steady.{HasStamps, LowersInside, IsEven, IsSteady}
+use Rattle.dill_debts.specs.Steady.{LowersInside, IsEven, IsSteady}
 use Rattle.dill_debts.proofs.Ending.{KeepsWithin, due_at, settled_queued, take_all}
 use Rattle.dill_debts.proofs.Falling.{share_in, LowersAt, turn_falls}
-use Rattle.dill_debts.proofs.Keeping.{IsGood, good_stable, good_settle, good_moved, good_turn, turn_is, good_closed, good_expire, good_queued}
-use Rattle.dill_debts.proofs.Lists.{total, is_total, all_to, equal_number}
+use Rattle.dill_debts.proofs.Keeping.{good_stable, good_settle, good_moved, good_turn, turn_is, good_closed}
+use Rattle.dill_debts.proofs.Lists.{is_total, all_to, equal_number}
 use Rattle.dill_debts.proofs.Moving.{turn_steps}
 use Rattle.dill_debts.proofs.Rooting.{steps_keep_stable, root_debt_falls}
 use Rattle.dill_debts.proofs.Shifting.{none_gone, Hushed, hushed_settled, hushed_expire, hushed_queued, expire_leaves, calls_lined, settle_steps, shut_steps, expire_steps}
 use Rattle.dill_debts.proofs.Settling.{AllSit}
-use Rattle.dill_debts.proofs.Stepwise.{Stepped, less_early, debt_total, total_all, all_there, early_queued, even_after, debt_after, places_after, stamps_after, lowers_after}
+use Rattle.dill_debts.proofs.Stepwise.{Stepped, less_early, debt_total, total_all, all_there, early_queued, even_after, debt_after, places_after}
 use Rattle.dill_debts.proofs.Walking.{unlike}
 use Rattle.dill_debts.proofs.Within.{keeps_within}
 
@@ -135,7 +134,7 @@ module _ {V : Type 0} (p : Program V) (law : IsLawful p) (plainly : MakesPlain p
       let now = debt_after p law plainly k s even.stable even.stands even.stamps (turn p lack k.world who) gone left steps rest (k.early - 1) (turn_stable lack k who rest even.stable e) (turn p lack s.world who) (turn_after s lack even who rest e) b here in
       let was = debt_total p k.world s b even.stands.world in
       let lowers : AllByRecursion (LowersAt p (is_inside k.world.scopes b) (is_early s b)) k.world.coroutines =
-          subst (λ (w : World V). AllByRecursion (λ d. is_inside w.scopes b d.number ≡ true → IsLowering (is_early s b) d) w.coroutines) (sym even.stands.world) (even.lowers b c) in
+      subst (λ (w : World V). AllByRecursion (λ d. is_inside w.scopes b d.number ≡ true → IsLowering (is_early s b) d) w.coroutines) (sym even.stands.world) (even.lowers b c) in
       let falls = turn_falls p law plainly keeps within_steps k lack who rest b (is_early s b) (less_early p law plainly s b gone) even.stable e here (ap (λ g. if g then false else is_early s b who) (equal_number who who refl)) (λ n i. ap (λ g. if g then false else is_early s b n) i) lowers in
       let owes = falls.falling.owes in (
         record {

@@ -1,13 +1,11 @@
 -- The closing of the root, an expiry and a settling, as steps of a state.
-use Rattle.std.proofs.Common.{◌≡◌, ◌∙◌, ◌⊎◌, inl, inr, ◌+◌, ◌≤◌, ◌<◌, ◌==◌, ℕ, List, [], ◌∷◌, length, map, find, Bool, true, false, ◌&&◌, cond, Option, Some, None, is_some, if◌then◌else◌, refl, sym, ap, subst, arith}
-use Rattle.std.specs.List.{AllByRecursion, list_any, list_all}
+use Rattle.std.proofs.Common.{◌≡◌, ◌∙◌, ◌≤◌, ◌<◌, ◌==◌, ℕ, List, [], ◌∷◌, map, find, Bool, true, false, cond, Option, Some, None, is_some, if◌then◌else◌, refl, sym, ap, subst, arith}
+use Rattle.std.specs.List.{AllByRecursion, list_any}
 use Rattle.std.specs.Option.{option_or}
 use Rattle.dill_calls.specs.declared.answer.Answer.{Answer}
 use Rattle.dill_calls.specs.declared.call.Call.{Call}
 use Rattle.dill_calls.specs.declared.call.Call.TheVariants as calls
-use Rattle.dill_calls.specs.CallTable.{word_of}
 use Rattle.dill_calls.specs.Program.{Program, IsLawful}
-use Rattle.dill_scope.specs.declared.forest.Bundle.{Bundle}
 use Rattle.dill_scope.specs.Scopes as scopes
 use Rattle.dill_scope.specs.Scopes.{Scopes, is_bundle, is_inside}
 use Rattle.dill_maps.specs.Maps.{if_some, first_some, change}
@@ -16,8 +14,8 @@ use Rattle.dill_rules.specs.declared.coroutine.Coroutine.{Coroutine}
 use Rattle.dill_rules.specs.declared.coroutine.Mode.{Mode}
 use Rattle.dill_rules.specs.declared.coroutine.Mode.TheVariants as modes
 use Rattle.dill_rules.specs.Debts.{is_early}
-use Rattle.dill_rules.specs.State.{State, Stamp, stamp_of, lined_mode, lined}
-use Rattle.dill_rules.specs.World.{World, is_coroutine, coroutine_of, call_of, begin, with_mode, pending_call, is_answered}
+use Rattle.dill_rules.specs.State.{State, Stamp, stamp_of, lined}
+use Rattle.dill_rules.specs.World.{World, is_coroutine, call_of, with_mode, pending_call, is_answered}
 use Rattle.dill_rules.specs.Answers.{answer_of}
 use Rattle.dill_rules.specs.Entering.{late_answer}
 use Rattle.dill_rules.specs.Expiring.{due_of, expire_one}
@@ -25,10 +23,9 @@ use Rattle.dill_rules.specs.Giving.{give}
 use Rattle.dill_rules.specs.Settling.{answer_due, settle}
 use Rattle.dill_rules.specs.Taking.{is_cancelled}
 use Rattle.dill_kept.specs.Kept.{Kept, queued}
-use Rattle.dill_kept.specs.Plain.{may_wait, IsPlain}
+use Rattle.dill_kept.specs.Plain.{may_wait}
 use Rattle.dill_kept.specs.Settled.{IsSettled}
 use Rattle.dill_kept.specs.Stands.{StandsFor}
-use Rattle.dill_kept.specs.Well.{Numbered, IsQueue}
 use Rattle.dill_kept.proofs.Turns.{root_closed, closed_plain}
 use Rattle.dill_sound.specs.Laws.{is_closing, is_timed}
 use Rattle.dill_debts.specs.Closing.{IsStable}
@@ -37,17 +34,17 @@ use Rattle.dill_debts.specs.Steady.{HasStamps, LowersInside}
 use Rattle.dill_debts.proofs.Beginning.{OldFlag, old_flags}
 use Rattle.dill_debts.proofs.Bounded.{each_found, queued_early}
 use Rattle.dill_debts.proofs.Ending.{IsShutAs}
-use Rattle.dill_debts.proofs.Entering.{answer_lowers}
 use Rattle.dill_debts.proofs.Evolving.{Suits, evolves_all}
-use Rattle.dill_debts.proofs.Falling.{share_in, LowersAt, Falls, owed_tree, lowers_tree, tree_self, settle_falls}
+use Rattle.dill_debts.proofs.Falling.{LowersAt, owed_tree, lowers_tree, tree_self, settle_falls}
 use Rattle.dill_debts.proofs.Flagging.{all_picked}
 use Rattle.dill_debts.proofs.Holding.{tracks_close}
-use Rattle.dill_debts.proofs.Keeping.{nobody_calm, AnyBundle, any_lasts, IsGood, good_stable, good_closed, root_flags, settles, settle_holds}
-use Rattle.dill_debts.proofs.Lists.{total, all_found, all_to, found_changed, found_passes, number_of, some_same}
+use Rattle.dill_debts.proofs.Keeping.{nobody_calm, AnyBundle, good_stable, root_flags, settles, settle_holds}
+use Rattle.dill_debts.proofs.Lining.{lined_pending}
+use Rattle.dill_debts.proofs.Lists.{all_found, all_to, found_passes, number_of}
 use Rattle.dill_debts.proofs.Moving.{unfresh_all as all_unfresh_of, begun_settles, flag_was, flags_dropped, settle_scopes}
-use Rattle.dill_debts.proofs.Settling.{AllSit, PendsIn, call_pends, pending_runs, expire_leads}
+use Rattle.dill_debts.proofs.Settling.{AllSit, call_pends, pending_runs, expire_leads}
 use Rattle.dill_debts.proofs.Shutting.{AllHold, Lasts, expire_one_shut}
-use Rattle.dill_debts.proofs.Stepwise.{LowersFresh, StampOk, stamp_lasts, stamps_self, Stepped, less_early}
+use Rattle.dill_debts.proofs.Stepwise.{StampOk, stamp_lasts, stamps_self, Stepped, less_early}
 use Rattle.dill_debts.proofs.Tree.{InTree, tree_off}
 use Rattle.dill_debts.proofs.Walking.{Leads, unlike}
 use Rattle.dill_debts.proofs.Within.{order_root}
@@ -229,13 +226,6 @@ module _ {V : Type 0} (p : Program V) (law : IsLawful p) (plainly : MakesPlain p
   hushed_expire w x a t h n call c e =
       let l = expire_leaves w x a t in
       h n call (subst (λ (s : Scopes). scopes.is_cancelled s n ≡ true) l.scopes_same c) (l.calls_were n call e)
-
-  lined_pending : (mode : Mode) → pending_call (lined_mode mode) ≡ pending_call mode
-  lined_pending (modes.Fresh word answer) = refl
-  lined_pending (modes.Pending call) = refl
-  lined_pending modes.Running = refl
-  lined_pending (modes.Answered word answer) = refl
-  lined_pending (modes.Ending outcome) = refl
 
   pub calls_lined : (cs : List (Coroutine V)) (n : ℕ) → if_some (find (is_coroutine n) (map lined cs)) None (λ c. pending_call c.mode) ≡ if_some (find (is_coroutine n) cs) None (λ c. pending_call c.mode)
   calls_lined [] n = refl

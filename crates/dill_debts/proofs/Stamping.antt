@@ -1,12 +1,12 @@
 -- Stamps: which answers came before a closing, as answers are given, taken and queued.
-use Rattle.std.proofs.Common.{◌≡◌, ◌∙◌, ◌⊎◌, inl, inr, ◌+◌, ◌≤◌, ◌<◌, ◌==◌, ℕ, List, [], ◌∷◌, ◌++◌, map, filter, find, Bool, true, false, not, ◌&&◌, ◌||◌, cond, Option, Some, None, option_map, is_some, if◌then◌else◌, nat_lt, refl, sym, ap, subst, arith}
+use Rattle.std.proofs.Common.{◌≡◌, ◌∙◌, ◌+◌, ◌≤◌, ◌<◌, ◌==◌, ℕ, List, [], ◌∷◌, ◌++◌, map, filter, find, Bool, true, false, not, ◌&&◌, ◌||◌, cond, Option, Some, None, option_map, nat_lt, refl, sym, ap, arith}
 use Rattle.std.specs.List.{AllByRecursion, list_any}
 use Rattle.std.proofs.lemmas.Bool.Decides.{nat_tests}
 use Rattle.dill_scope.specs.declared.forest.Bundle.{Bundle}
 use Rattle.dill_maps.specs.Maps.{if_some}
 use Rattle.dill_rules.specs.State.{Stamp, is_stamp_of, stamp_of, stamped}
 use Rattle.dill_kept.specs.Stands.{Rise}
-use Rattle.dill_debts.proofs.Lists.{all_found, all_append, all_to, find_append, equal_number, number_of, some_same}
+use Rattle.dill_debts.proofs.Lists.{all_found, find_append, some_same}
 
 -- ---- answers
 

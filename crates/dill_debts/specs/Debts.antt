@@ -1,5 +1,5 @@
 -- Laws of the debt of a bundle that is closing: a turn of who is inside it lowers it, no step raises it, nobody comes in, and nobody leaves but by being gone.
-use Rattle.std.specs.Prelude.{◌≡◌, ℕ, ◌+◌, ◌<◌, ◌≤◌, List, [], ◌∷◌, Bool, true, false, Option, Some, if◌then◌else◌}
+use Rattle.std.specs.Prelude.{◌≡◌, ℕ, ◌+◌, ◌<◌, ◌≤◌, List, [], ◌∷◌, Bool, true, false, Option, if◌then◌else◌}
 use Rattle.dill_calls.specs.declared.ran.LackPlace.{LackPlace}
 use Rattle.dill_calls.specs.Program.{Program, IsLawful, Begins}
 use Rattle.rand_core.specs.Stream.{Stream}
