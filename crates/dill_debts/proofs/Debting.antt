@@ -18,6 +18,7 @@ use Rattle.dill_rules.specs.declared.coroutine.Coroutine.{Coroutine}
 use Rattle.dill_rules.specs.Debts.{is_early, share, debt}
 use Rattle.dill_rules.specs.Expiring.{due_of, passed, expire_one}
 use Rattle.dill_rules.specs.Hearing.{heat_ready}
+use Rattle.dill_rules.specs.Seen.{lend}
 use Rattle.dill_rules.specs.Settling.{can_finish, answer_due, settle}
 use Rattle.dill_rules.specs.State.{State, Stamp, is_stamp_of, stamp_of, opening_state, line_up, next_turn, turn_of, fresh, turned, expire_next, expired, shut, woke}
 use Rattle.dill_rules.specs.Turning.{answer_given, go_on, turn}
@@ -392,6 +393,18 @@ module _ {V : Type 0} (p : Program V) (law : IsLawful p) (plainly : MakesPlain p
     settled = record { endings = refl; answers = refl };
   }
 
+  lent : (s : State V) (words : Stream) → IsSteady p s → IsSteady p (lend s words)
+  lent s words st = record {
+    even = record {
+      kept = st.even.kept;
+      stable = st.even.stable;
+      stands = record { world = st.even.stands.world; order = st.even.stands.order; rise = st.even.stands.rise };
+      stamps = record { low = st.even.stamps.low; each = st.even.stamps.each };
+      lowers = st.even.lowers;
+    };
+    settled = st.settled;
+  }
+
   steady : (s : State V) (x : Step) → IsSteady p s → IsSteady p (step p s x)
   steady s (Turn lack) st = turned_steady s lack st
   steady s Expire st = expired_steady s st
@@ -466,6 +479,7 @@ module _ {V : Type 0} (p : Program V) (law : IsLawful p) (plainly : MakesPlain p
   pub debt_falls : DebtFalls p
   debt_falls = record {
     opening = opening;
+    lent = lent;
     steady = steady;
     falls = falls;
     no_more = λ s x b st c. (comes s x b st c).no_more;

@@ -8,6 +8,7 @@ use Rattle.dill_scope.specs.Scopes.{is_inside, is_empty}
 use Rattle.dill_maps.specs.Maps.{if_some}
 use Rattle.dill_plain.specs.Plain.{MakesPlain}
 use Rattle.dill_rules.specs.Debts.{debt}
+use Rattle.dill_rules.specs.Seen.{lend}
 use Rattle.dill_rules.specs.State.{State, opening_state, next_turn, turned, expired, shut, woke}
 use Rattle.dill_kept.specs.Kept.{Kept, kept_shut}
 use Rattle.dill_kept.specs.Stands.{StandsFor}
@@ -49,6 +50,8 @@ module _ {V : Type 0} where
   -- so it is of programs that make plain calls
   pub record DebtFalls (p : Program V) : Type 0 where
     pub opening : (view : V) (words : Stream) → Begins p view → IsSteady p (opening_state view words)
+    -- other random words change nothing of it
+    pub lent : (s : State V) (words : Stream) → IsSteady p s → IsSteady p (lend s words)
     pub steady : (s : State V) (x : Step) → IsSteady p s → IsSteady p (step p s x)
     pub falls : (s : State V) (x : Step) (b : ℕ) → IsSteady p s → is_closing s.world.scopes b ≡ true → is_turn_inside s b x ≡ true → debt p (step p s x) b < debt p s b
     pub no_more : (s : State V) (x : Step) (b : ℕ) → IsSteady p s → is_closing s.world.scopes b ≡ true → debt p (step p s x) b ≤ debt p s b
