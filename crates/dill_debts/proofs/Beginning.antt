@@ -1,6 +1,6 @@
 -- A turn in which the closing of a bundle begins answers nobody before it settles.
-use Rattle.std.proofs.Common.{◌≡◌, ◌∙◌, ◌+◌, ◌==◌, ℕ, List, [], ◌∷◌, ◌++◌, map, fold, filter, find, Bool, true, false, ◌&&◌, cond, Option, Some, None, is_some, if◌then◌else◌, refl, sym, ap, subst}
-use Rattle.std.specs.List.{AllByRecursion, list_all}
+use Rattle.std.proofs.Common.{◌≡◌, ◌∙◌, ◌+◌, ℕ, List, [], ◌∷◌, find, Bool, true, false, ◌&&◌, Option, Some, None, if◌then◌else◌, refl, sym, ap, subst}
+use Rattle.std.specs.List.{AllByRecursion}
 use Rattle.dill_base.specs.declared.errno.Errno.{Errno}
 use Rattle.dill_base.specs.declared.errno.Errno.TheVariants as errnos
 use Rattle.dill_calls.specs.declared.answer.Answer.TheVariants.{Fault}
@@ -29,14 +29,14 @@ use Rattle.dill_rules.specs.Naming.{gifts_of}
 use Rattle.dill_rules.specs.Owning.{entry_of, take_thing, move, drop, release, close_bundle}
 use Rattle.dill_rules.specs.Taking.{bundle_named}
 use Rattle.dill_rules.specs.Refusals.{refuse}
-use Rattle.dill_rules.specs.Effects.{make, add_bundle, close_thing, start, give_all, bear}
+use Rattle.dill_rules.specs.Effects.{add_bundle, close_thing, start, give_all}
 use Rattle.dill_rules.specs.Entering.{entered, keep_for, perform, is_too_late, late_answer, meet_deadline, done, enter, lack_fault}
 use Rattle.dill_rules.specs.Settling.{close_all, end}
 use Rattle.dill_rules.specs.State.{is_fresh}
 use Rattle.dill_rules.specs.Turning.{is_build, is_entry, as_running, may_lack_build, resume, answer_given, move_of, make_move, lack_move, go_on}
 use Rattle.dill_kept.proofs.Crew.{close_all_crew}
 use Rattle.dill_sound.specs.Laws.{is_closing}
-use Rattle.dill_debts.proofs.Entering.{entered_plain}
+use Rattle.dill_kept.proofs.Turns.{entered_plain}
 use Rattle.dill_debts.proofs.Flagging.{all_picked}
 use Rattle.dill_debts.proofs.Lists.{all_append, all_to, found_changed}
 use Rattle.dill_debts.proofs.Tracking.{all_by_key}

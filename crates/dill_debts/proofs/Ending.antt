@@ -6,24 +6,20 @@ use Rattle.std.specs.Option.{option_or}
 use Rattle.std.proofs.lemmas.Bool.Decides.{nat_tests}
 use Rattle.dill_base.specs.declared.errno.Errno.{Errno}
 use Rattle.dill_calls.specs.declared.answer.Answer.{Answer}
-use Rattle.dill_calls.specs.declared.answer.Answer.TheVariants.{Number}
 use Rattle.dill_calls.specs.declared.call.Call.{Call}
 use Rattle.dill_calls.specs.declared.call.Call.TheVariants as calls
 use Rattle.dill_calls.specs.declared.ran.LackPlace.{LackPlace}
-use Rattle.dill_calls.specs.declared.word.Word.TheVariants.{Start}
 use Rattle.dill_calls.specs.Program.{Program, IsLawful}
 use Rattle.dill_scope.specs.declared.forest.Bundle.{Bundle}
 use Rattle.dill_scope.specs.Scopes as scopes
 use Rattle.dill_maps.specs.Maps.{if_some, first_some, change}
 use Rattle.dill_plain.specs.Plain.{MakesPlain}
 use Rattle.dill_rules.specs.declared.coroutine.Coroutine.{Coroutine}
-use Rattle.dill_rules.specs.declared.coroutine.Mode.{Mode}
-use Rattle.dill_rules.specs.declared.coroutine.Mode.TheVariants as modes
-use Rattle.dill_rules.specs.World.{World, is_coroutine, coroutine_of, begin, pending_call, is_ending, is_answered}
+use Rattle.dill_rules.specs.World.{World, is_coroutine, coroutine_of, begin, pending_call, is_answered}
 use Rattle.dill_rules.specs.Taking.{is_cancelled}
 use Rattle.dill_rules.specs.Answers.{answer_of}
 use Rattle.dill_rules.specs.Settling.{is_clear, can_finish, answer_due, settle_one, settle}
-use Rattle.dill_rules.specs.State.{lined_mode, lined, fresh}
+use Rattle.dill_rules.specs.State.{lined, fresh}
 use Rattle.dill_rules.specs.Turning.{as_running, resume, given_of, answer_given, go_on, turn}
 use Rattle.dill_kept.specs.Kept.{Kept, has_answer, queued, turn_first, kept_turn, kept_shut}
 use Rattle.dill_kept.specs.Laws.{MayTurn, KeepsWell}
@@ -41,11 +37,12 @@ use Rattle.dill_kept.proofs.Steps.{settle_one_plain}
 use Rattle.dill_kept.proofs.Turns.{root_closed, closed_plain, go_on_plain}
 use Rattle.dill_debts.proofs.Bounded.{owes_few, all_early}
 use Rattle.dill_debts.proofs.Keeping.{root_flags, good_stable, settle_holds, sits_resumed, turn_is}
+use Rattle.dill_debts.proofs.Lining.{lined_ending, lined_pending}
 use Rattle.dill_debts.proofs.Lists.{total, is_total, all_found, all_to, found_passes, equal_number, found_changed}
 use Rattle.dill_debts.proofs.Lowering.{all_calm, owed_evolves, lowers_evolves, owed_lined, all_lower_lined, others_lower, share_falls, answered_owes, called_falls, ended_falls, first_gone, others_same}
 use Rattle.dill_debts.proofs.Settling.{AllSit, leads_sits, settle_one_leads, settle_leads}
 use Rattle.dill_debts.proofs.Shutting.{AllHold, Lasts, settle_one_shut, go_on_shut}
-use Rattle.dill_debts.proofs.Turning.{Went, called, ended, go_on_went, went_leads, found_number, all_resumed}
+use Rattle.dill_debts.proofs.Turning.{given_is, Went, called, ended, go_on_went, went_leads, found_number, all_resumed}
 use Rattle.dill_debts.proofs.Walking.{Leads, unlike}
 
 -- steps within a step keep a world in order
@@ -119,20 +116,6 @@ module _ {V : Type 0} where
 
 -- ---- nothing is due behind a step
 
-lined_ending : (mode : Mode) → is_ending (lined_mode mode) ≡ is_ending mode
-lined_ending (modes.Pending call) = refl
-lined_ending modes.Running = refl
-lined_ending (modes.Fresh word answer) = refl
-lined_ending (modes.Answered word answer) = refl
-lined_ending (modes.Ending outcome) = refl
-
-lined_pending : (mode : Mode) → pending_call (lined_mode mode) ≡ pending_call mode
-lined_pending (modes.Pending call) = refl
-lined_pending modes.Running = refl
-lined_pending (modes.Fresh word answer) = refl
-lined_pending (modes.Answered word answer) = refl
-lined_pending (modes.Ending outcome) = refl
-
 module _ {V : Type 0} where
   answer_same : (w v : World V) (who : ℕ) (call : Call) → may_wait call ≡ true → v.scopes ≡ w.scopes → v.handles ≡ w.handles → v.closings ≡ w.closings → answer_of v who call ≡ answer_of w who call
   answer_same w v who (calls.Msleep deadline) e s h c = ap (λ t. answer_of (record w { scopes = t }) who (calls.Msleep deadline)) s
@@ -142,7 +125,7 @@ module _ {V : Type 0} where
       ap (λ t. answer_of (record v { scopes = t }) who (calls.Hclose number)) s ∙ ap (λ t. answer_of (record w { closings = t }) who (calls.Hclose number)) c
   answer_same w v who _ e s h c = cc
 
-  due_at : (w v : World V) (n : ℕ) (o : Option Call) → if_some o true may_wait ≡ true → v.scopes ≡ w.scopes → v.handles ≡ w.handles → v.closings ≡ w.closings → ◌≡◌ {A = Option (ℕ × Call × Answer)} (if_some o None (λ call. if_some (answer_of v n call) None (λ a. Some (n, call, a)))) (if_some o None (λ call. if_some (answer_of w n call) None (λ a. Some (n, call, a))))
+  pub due_at : (w v : World V) (n : ℕ) (o : Option Call) → if_some o true may_wait ≡ true → v.scopes ≡ w.scopes → v.handles ≡ w.handles → v.closings ≡ w.closings → ◌≡◌ {A = Option (ℕ × Call × Answer)} (if_some o None (λ call. if_some (answer_of v n call) None (λ a. Some (n, call, a)))) (if_some o None (λ call. if_some (answer_of w n call) None (λ a. Some (n, call, a))))
   due_at w v n None m s h c = refl
   due_at w v n (Some call) m s h c = ap (λ r. if_some r None (λ a. Some (n, call, a))) (answer_same w v n call m s h c)
 
@@ -161,11 +144,15 @@ module _ {V : Type 0} where
       at false i f rest = rw i (rest f)
 
   -- a place in the queue makes nothing due
-  settled_queued : (p : Program V) (w : World V) (ready : List ℕ) (early : ℕ) → AllSit p w.coroutines → IsSettled w → IsSettled (queued w ready early).world
+  pub settled_queued : (p : Program V) (w : World V) (ready : List ℕ) (early : ℕ) → AllSit p w.coroutines → IsSettled w → IsSettled (queued w ready early).world
   settled_queued p w ready early a s = record {
     endings = none_lined (can_finish w) (can_finish (queued w ready early).world) w.coroutines (λ x. ap (λ b. b && is_clear w x.number) (lined_ending x.mode)) s.endings;
     answers = due_lined p w (queued w ready early).world w.coroutines a refl refl refl ∙ s.answers;
   }
+
+pub take_all : (xs ys : List ℕ) → take (length xs) (xs ++ ys) ≡ xs
+take_all [] ys = refl
+take_all (x ∷ xs) ys = ap (λ zs. x ∷ zs) (take_all xs ys)
 
 take_front : (k : ℕ) (xs ys : List ℕ) → k ≤ length xs → take k (xs ++ ys) ≡ take k xs
 take_front zero xs ys l = refl
@@ -175,9 +162,6 @@ take_front (suc k) (x ∷ xs) ys l = ap (λ zs. x ∷ zs) (take_front k xs ys (o
 length_more : (xs ys : List ℕ) → length xs ≤ length (xs ++ ys)
 length_more [] ys = omega arith
 length_more (x ∷ xs) ys = let r = length_more xs ys in omega (arith, r)
-
-less_length : (k n : ℕ) (x : ℕ) (xs : List ℕ) → k ≤ length (x ∷ xs) → k - 1 ≤ length xs
-less_length k n x xs l = omega (arith, l)
 
 -- who is first in a queue stands nowhere else in it
 absent_rest : (who : ℕ) (rest : List ℕ) (b : Bool) → occurs who (who ∷ rest) ≡ bit b → occurs who rest ≡ 0
@@ -266,9 +250,6 @@ module _ {V : Type 0} (p : Program V) (law : IsLawful p) (plainly : MakesPlain p
         let falls = ended_falls p now less who gone (others_same who rest early) c view outcome w.coroutines w.last_coroutine numbered found here owes in
         subst (λ cs. total (share_by p less) cs < total (share_by p now) w.coroutines) (sym same) falls
 
-    given_is : (w : World V) (who : ℕ) (c : Coroutine V) → coroutine_of w who ≡ Some c → answer_given (begin w) who ≡ given_of c.mode
-    given_is w who c e = ap (λ o. if_some o (Start, Number 0) (λ d. given_of d.mode)) e
-
     moves_off : (k : Kept V) (lack : Option LackPlace) (who : ℕ) (rest : List ℕ) → IsClosing p k → k.ready ≡ who ∷ rest → (may : MayTurn p k.world who) → MovesOff k.world k.early who rest (go_on p lack (begin k.world) who may.one.body)
     moves_off k lack who rest s e may =
         let w = k.world in
@@ -319,10 +300,6 @@ module _ {V : Type 0} (p : Program V) (law : IsLawful p) (plainly : MakesPlain p
           falls = omega (arith, before, kept);
         } in
         subst (TurnsOff w k.early who rest) (sym (turn_is p law plainly lack w who may.one may.found)) done
-
-  take_all : (xs ys : List ℕ) → take (length xs) (xs ++ ys) ≡ xs
-  take_all [] ys = refl
-  take_all (x ∷ xs) ys = ap (λ zs. x ∷ zs) (take_all xs ys)
 
   module _ (settling_ends : SettlesAll V) (stable : KeepsStable p) (goes : RootGoesOn p) where
     few : (k : Kept V) → IsClosing p k → owed p k ≤ 2 ^ 48

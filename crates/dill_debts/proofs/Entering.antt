@@ -57,22 +57,6 @@ word_entered moment (calls.BundleWait number deadline) e = refl
 word_entered moment (calls.Pass word fault) e = refl
 word_entered moment _ e = cc
 
-pub entered_plain : (moment : ℕ) (call : Call) → is_plain call ≡ true → is_plain (entered moment call) ≡ true
-entered_plain moment (calls.Print text) e = refl
-entered_plain moment calls.Now e = refl
-entered_plain moment calls.Yield e = refl
-entered_plain moment (calls.Msleep deadline) e = refl
-entered_plain moment (calls.Hmake kind value) e = refl
-entered_plain moment (calls.Hquery number kind) e = refl
-entered_plain moment (calls.Hown number) e = refl
-entered_plain moment (calls.Hclose number) e = refl
-entered_plain moment calls.Bundle e = refl
-entered_plain moment (calls.Go program args) e = refl
-entered_plain moment (calls.BundleGo number program args) e = refl
-entered_plain moment (calls.BundleWait number deadline) e = refl
-entered_plain moment (calls.Pass word fault) e = refl
-entered_plain moment _ e = cc
-
 pub entered_passes : (moment : ℕ) (call : Call) → is_plain call ≡ true → PassesWell call → PassesWell (entered moment call)
 entered_passes moment (calls.Print text) e f = tt
 entered_passes moment calls.Now e f = tt
@@ -178,11 +162,11 @@ module _ {V : Type 0} (w : World V) (who : ℕ) where
   answer_lowers (calls.Hclose number) answer f c r = by_quiet words.Hclose answer refl
   answer_lowers _ answer f c r = cc
 
-picks_none : {A : Type 0} (b : Bool) (x : A) (rest : Option A) → cond b (Some x) rest ≡ None → (b ≡ false) × (rest ≡ None)
+pub picks_none : {A : Type 0} (b : Bool) (x : A) (rest : Option A) → cond b (Some x) rest ≡ None → (b ≡ false) × (rest ≡ None)
 picks_none true x rest e = cc
 picks_none false x rest e = (refl, e)
 
-or_false : (a b : Bool) → (a || b) ≡ false → a ≡ false
+pub or_false : (a b : Bool) → (a || b) ≡ false → a ≡ false
 or_false true b e = cc
 or_false false b e = refl
 

@@ -1,18 +1,14 @@
 -- A turn while a bundle is closing: what its coroutines owe falls where one of them has the turn, and else isn't raised.
-use Rattle.std.proofs.Common.{◌≡◌, ◌∙◌, ◌+◌, ◌-◌, ◌≤◌, ◌<◌, ◌==◌, ℕ, suc, List, [], ◌∷◌, length, find, Bool, true, false, cond, Option, Some, None, is_some, if◌then◌else◌, refl, sym, ap, subst, arith}
-use Rattle.std.specs.List.{AllByRecursion, list_any}
-use Rattle.dill_base.specs.declared.errno.Errno.{Errno}
+use Rattle.std.proofs.Common.{◌≡◌, ◌∙◌, ◌+◌, ◌≤◌, ◌<◌, ◌==◌, ℕ, List, [], ◌∷◌, find, Bool, true, false, cond, Option, Some, if◌then◌else◌, refl, sym, ap, subst, arith}
+use Rattle.std.specs.List.{AllByRecursion}
 use Rattle.dill_calls.specs.declared.ran.LackPlace.{LackPlace}
-use Rattle.dill_calls.specs.declared.answer.Answer.TheVariants.{Number}
-use Rattle.dill_calls.specs.declared.word.Word.{Word}
-use Rattle.dill_calls.specs.declared.word.Word.TheVariants.{Start}
-use Rattle.dill_calls.specs.Program.{Program, IsLawful, Begins}
+use Rattle.dill_calls.specs.Program.{Program, IsLawful}
 use Rattle.dill_scope.specs.declared.forest.Bundle.{Bundle}
-use Rattle.dill_scope.specs.Scopes.{Scopes, is_bundle, is_inside}
+use Rattle.dill_scope.specs.Scopes.{is_bundle, is_inside}
 use Rattle.dill_scope.specs.Forest.{IsForest}
 use Rattle.dill_scope.specs.Keeping.{IsThere}
 use Rattle.dill_scope.proofs.Chains.{search_is_inside}
-use Rattle.dill_maps.specs.Maps.{if_some, change}
+use Rattle.dill_maps.specs.Maps.{change}
 use Rattle.dill_plain.specs.Plain.{MakesPlain}
 use Rattle.dill_rules.specs.declared.coroutine.Coroutine.{Coroutine}
 use Rattle.dill_rules.specs.declared.coroutine.Mode.{Mode}
@@ -21,28 +17,27 @@ use Rattle.dill_rules.specs.World.{World, is_coroutine, coroutine_of, begin, wit
 use Rattle.dill_rules.specs.Settling.{settle}
 use Rattle.dill_rules.specs.Turning.{as_running, resume, given_of, answer_given, go_on, turn}
 use Rattle.dill_kept.specs.Kept.{Kept}
-use Rattle.dill_kept.specs.Laws.{MayTurn, KeepsWell}
-use Rattle.dill_kept.specs.Plain.{IsPlain}
-use Rattle.dill_kept.specs.Well.{Numbered, IsWell}
+use Rattle.dill_kept.specs.Laws.{KeepsWell}
+use Rattle.dill_kept.specs.Well.{Numbered}
 use Rattle.dill_sound.specs.Laws.{is_closing}
 use Rattle.dill_sound.specs.Order.{IsInOrder}
 use Rattle.dill_debts.specs.Closing.{IsStable}
 use Rattle.dill_debts.specs.Flags.{Ranked}
 use Rattle.dill_debts.specs.Owed.{share_by}
-use Rattle.dill_debts.specs.Says.{Says, SaysIn, LowersIn, IsLowering}
+use Rattle.dill_debts.specs.Says.{Says, SaysIn, IsLowering}
 use Rattle.dill_kept.proofs.Plainly.{begin_plain}
 use Rattle.dill_kept.proofs.Turns.{go_on_plain}
 use Rattle.dill_debts.proofs.Ending.{KeepsWithin, IsShutAs, shut_lasts}
 use Rattle.dill_debts.proofs.Evolving.{Evolves, Suits, newborn, evolves_all, evolves_total}
-use Rattle.dill_debts.proofs.Holding.{Facts, new_outside as new_outside_of}
+use Rattle.dill_debts.proofs.Holding.{new_outside as new_outside_of}
 use Rattle.dill_debts.proofs.Keeping.{good_stable, sits_resumed, turn_is}
 use Rattle.dill_debts.proofs.Lists.{total, total_change, all_found, all_to, found_passes, found_changed, number_of, some_same}
 use Rattle.dill_debts.proofs.Lowering.{less_at, others_lower, others_share, share_falls, answered_owes}
-use Rattle.dill_debts.proofs.Settling.{AllSit, leads_sits}
-use Rattle.dill_debts.proofs.Shutting.{AllHold, go_on_shut}
-use Rattle.dill_debts.proofs.Tracking.{Tracks, tracks_self, all_by_key}
+use Rattle.dill_debts.proofs.Settling.{leads_sits}
+use Rattle.dill_debts.proofs.Shutting.{go_on_shut}
+use Rattle.dill_debts.proofs.Tracking.{tracks_self, all_by_key}
 use Rattle.dill_debts.proofs.Tree.{InTree, tree_same, tree_off, tree_leads, settled_tree, facts_of, closing_found, go_on_tracks}
-use Rattle.dill_debts.proofs.Turning.{Went, called, ended, MayGo, go_on_went, went_leads, found_number, all_resumed, total_resumed}
+use Rattle.dill_debts.proofs.Turning.{given_is, Went, called, ended, go_on_went, went_leads, found_number, all_resumed, total_resumed}
 use Rattle.dill_debts.proofs.Walking.{unlike}
 
 -- ---- sums over those inside
@@ -161,10 +156,6 @@ module _ {V : Type 0} (p : Program V) (law : IsLawful p) (plainly : MakesPlain p
       no_more : now ≤ was
       falls : t ≡ true → now < was
 
-    by_call : (t : Bool) (tg tf g f x y : ℕ) → tg + f ≡ tf + g → g ≡ (if t then x else 0) → f ≡ (if t then y else 0) → x < y → Owes tg tf t
-    by_call true tg tf g f x y e i j l = record { no_more = omega (arith, e, i, j, l); falls = λ u. omega (arith, e, i, j, l) }
-    by_call false tg tf g f x y e i j l = record { no_more = omega (arith, e, i, j); falls = λ u. cc }
-
     by_end : (t : Bool) (tg tr tf g h f y : ℕ) → tr + f ≡ tf + g → tg + g ≡ tr + h → h ≡ 0 → f ≡ (if t then y else 0) → 1 ≤ y → Owes tg tf t
     by_end true tg tr tf g h f y e d z j l = record { no_more = omega (arith, e, d, z, j, l); falls = λ u. omega (arith, e, d, z, j, l) }
     by_end false tg tr tf g h f y e d z j l = record { no_more = omega (arith, e, d, z, j); falls = λ u. cc }
@@ -196,9 +187,6 @@ module _ {V : Type 0} (p : Program V) (law : IsLawful p) (plainly : MakesPlain p
         let last_share : share_in p tree less (with_mode (modes.Ending outcome) (as_running view c)) ≡ 0 = none_left (tree c.number) in
         let over = by_end b (total (share_in p tree less) (change (is_coroutine who) (with_mode (modes.Ending outcome)) (change (is_coroutine who) (as_running view) w.coroutines))) (total (share_in p tree less) (change (is_coroutine who) (as_running view) w.coroutines)) (total (share_in p tree early) w.coroutines) (share_in p tree less (as_running view c)) (share_in p tree less (with_mode (modes.Ending outcome) (as_running view c))) (share_in p tree early c) (share_by p early c) one two last_share (in_is early c b i) owes in
         subst (λ cs. Owes (total (share_in p tree less) cs) (total (share_in p tree early) w.coroutines) b) (sym ends) over
-
-  given_is : (w : World V) (who : ℕ) (c : Coroutine V) → coroutine_of w who ≡ Some c → answer_given (begin w) who ≡ given_of c.mode
-  given_is w who c e = ap (λ o. if_some o (Start, Number 0) (λ d. given_of d.mode)) e
 
   -- the turn of the first of the queue, and whether what is owed fell
   pub record TurnFalls (w : World V) (b : ℕ) (early less : ℕ → Bool) (who : ℕ) (v : World V) : Type 0 where

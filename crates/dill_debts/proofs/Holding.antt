@@ -31,6 +31,7 @@ use Rattle.dill_rules.specs.Entering.{keep_for, perform, is_too_late, late_answe
 use Rattle.dill_rules.specs.Settling.{close_owned, end}
 use Rattle.dill_kept.proofs.Crew.{give_all_crew}
 use Rattle.dill_scope.proofs.Carrying.{inside_lives}
+use Rattle.dill_debts.proofs.Entering.{picks_none, or_false}
 use Rattle.dill_debts.proofs.Flagging.{all_picked}
 use Rattle.dill_debts.proofs.Lists.{all_append, all_without, all_found, all_to, found_passes, number_of, equal_number, some_same}
 use Rattle.dill_debts.proofs.Tracking.{NotOf, OwnerOk, BundleOk, HomeOk, Tracks}
@@ -76,10 +77,6 @@ pub record Facts {V : Type 0} (w : World V) (b : ℕ) : Type 0 where
   pub new_bundle : find (is_bundle (w.last_bundle + 1)) w.scopes.bundles ≡ None
   pub new_home : home_of w.scopes (w.last_coroutine + 1) ≡ None
 
-or_left : (a c : Bool) → (a || c) ≡ false → a ≡ false
-or_left true c e = cc
-or_left false c e = refl
-
 or_right : (a c : Bool) → (a || c) ≡ false → c ≡ false
 or_right true c e = cc
 or_right false c e = e
@@ -97,10 +94,6 @@ not_false : (a : Bool) → a ≡ false → not a ≡ true
 not_false true e = cc
 not_false false e = refl
 
-picks_none : {A : Type 0} (c : Bool) (x : A) (rest : Option A) → cond c (Some x) rest ≡ None → (c ≡ false) × (rest ≡ None)
-picks_none true x rest e = cc
-picks_none false x rest e = (refl, e)
-
 module _ {V : Type 0} (p : Program V) where
   -- what isn't refused is neither called off nor busy
   unrefused : (w : World V) (who : ℕ) (view : V) (call : Call) → order_of call ≡ order → refuse p w who view call ≡ None → (is_called_off w who call ≡ false) × (is_busy w who call ≡ false)
@@ -112,8 +105,8 @@ module _ {V : Type 0} (p : Program V) where
       let three = picks_none (f errnos.Enotsup) errnos.Enotsup (find f (errnos.Einval ∷ errnos.Ebusy ∷ errnos.Epipe ∷ errnos.Econnreset ∷ errnos.Emsgsize ∷ errnos.Emfile ∷ [])) two.1 in
       let four = picks_none (f errnos.Einval) errnos.Einval (find f (errnos.Ebusy ∷ errnos.Epipe ∷ errnos.Econnreset ∷ errnos.Emsgsize ∷ errnos.Emfile ∷ [])) three.1 in
       let five = picks_none (f errnos.Ebusy) errnos.Ebusy (find f (errnos.Epipe ∷ errnos.Econnreset ∷ errnos.Emsgsize ∷ errnos.Emfile ∷ [])) four.1 in (
-        or_left (is_called_off w who call) (is_refused_by_stack w call errnos.Ecanceled) one.0,
-        or_left (is_busy w who call) (is_refused_by_stack w call errnos.Ebusy) five.0,
+        or_false (is_called_off w who call) (is_refused_by_stack w call errnos.Ecanceled) one.0,
+        or_false (is_busy w who call) (is_refused_by_stack w call errnos.Ebusy) five.0,
       )
 
 module _ {V : Type 0} (w : World V) (b : ℕ) (facts : Facts w b) where
@@ -127,12 +120,12 @@ module _ {V : Type 0} (w : World V) (b : ℕ) (facts : Facts w b) where
       outside x.owner c (subst (λ o. Inside w.scopes b o) (sym same) i)
 
   held_free : (who : ℕ) (x : Entry Thing) → (x.owner == who) ≡ false → is_held_back w who x ≡ false → is_cancelled w x.owner ≡ false
-  held_free who x n h = or_left (is_cancelled w x.owner) _ (and_right (not (x.owner == who)) (is_leaving w x.owner) h (not_false (x.owner == who) n))
+  held_free who x n h = or_false (is_cancelled w x.owner) _ (and_right (not (x.owner == who)) (is_leaving w x.owner) h (not_false (x.owner == who) n))
 
   taken_held : (who : ℕ) (call : Call) (n : ℕ) (x : Entry Thing) → entry_of w n ≡ Some x → cannot_take w who call n ≡ false → is_held_back w who x ≡ false
   taken_held who call n x e h =
       let at : (is_within w who call x.thing || (is_held_back w who x || (is_awaited w call n || is_cancelled_taker w who call x))) ≡ false = sym (ap (λ o. if_some o false (λ y. is_within w who call y.thing || (is_held_back w who y || (is_awaited w call n || is_cancelled_taker w who call y)))) e) ∙ h in
-      or_left (is_held_back w who x) _ (or_right (is_within w who call x.thing) _ at)
+      or_false (is_held_back w who x) _ (or_right (is_within w who call x.thing) _ at)
 
   -- a bundle whose number the caller may take
   take_ok : (who : ℕ) (call : Call) (n : ℕ) (x : Entry Thing) (name : ℕ) → entry_of w n ≡ Some x → bundle_of x.thing ≡ Some name → cannot_take w who call n ≡ false → (is_cancelled w who && is_anothers w who n) ≡ false → OwnerOk w.scopes b name who
@@ -270,7 +263,7 @@ none_passes test m [] e f = cc
 none_passes test m (x ∷ xs) e f = at (x == m) refl f (λ g. none_passes test m xs (or_right (test x) (list_any test xs) e) g)
   where
     at : (c : Bool) → (x == m) ≡ c → (c || list_any (λ n. n == m) xs) ≡ true → (list_any (λ n. n == m) xs ≡ true → test m ≡ false) → test m ≡ false
-    at true i g rest = ap test (sym (number_of x m i)) ∙ or_left (test x) (list_any test xs) e
+    at true i g rest = ap test (sym (number_of x m i)) ∙ or_false (test x) (list_any test xs) e
     at false i g rest = rest g
 
 all_filter : {X : Type 0} (P : X → Type 0) (test : X → Bool) (xs : List X) → AllByRecursion P xs → AllByRecursion (λ x. P x × (test x ≡ true)) (filter test xs)
@@ -295,9 +288,9 @@ module _ {V : Type 0} (p : Program V) (w : World V) (b : ℕ) (facts : Facts w b
   takes_one : (who : ℕ) (view : V) (call : Call) (n : ℕ) → order_of call ≡ order → taken_by call ≡ n ∷ [] → (blocks (word_of call) || makes (word_of call)) ≡ false → refuse p w who view call ≡ None → (cannot_take w who call n ≡ false) × ((is_cancelled w who && is_anothers w who n) ≡ false)
   takes_one who view call n o t q e =
       let un = unrefused p w who view call o e in
-      let busy : list_any (cannot_take w who call) (taken_by call) ≡ false = or_left (list_any (cannot_take w who call) (taken_by call)) (is_occupied w call || (is_in_use w call || is_closed_bundle w who call)) un.1 in
+      let busy : list_any (cannot_take w who call) (taken_by call) ≡ false = or_false (list_any (cannot_take w who call) (taken_by call)) (is_occupied w call || (is_in_use w call || is_closed_bundle w who call)) un.1 in
       let alone : (cannot_take w who call n || false) ≡ false = ap (list_any (cannot_take w who call)) (sym t) ∙ busy in
-      (or_left (cannot_take w who call n) false alone, anothers (blocks (word_of call)) (makes (word_of call)) q un.0)
+      (or_false (cannot_take w who call n) false alone, anothers (blocks (word_of call)) (makes (word_of call)) q un.0)
     where
       pick : (x y z c : Bool) → (x || y) ≡ false → (c && (x || (y || z))) ≡ false → (c && z) ≡ false
       pick true y z c i f = cc
@@ -317,7 +310,7 @@ module _ {V : Type 0} (p : Program V) (w : World V) (b : ℕ) (facts : Facts w b
   -- the entries of a world, of which the gifts may be taken
   gifts_free : (who : ℕ) (call : Call) (gifts : List ℕ) → taken_by call ≡ gifts → is_cancelled w who ≡ false → is_busy w who call ≡ false → AllByRecursion (GiftOk w b facts gifts) w.handles.entries
   gifts_free who call gifts t c e =
-      let none : list_any (cannot_take w who call) (taken_by call) ≡ false = or_left (list_any (cannot_take w who call) (taken_by call)) (is_occupied w call || (is_in_use w call || is_closed_bundle w who call)) e in
+      let none : list_any (cannot_take w who call) (taken_by call) ≡ false = or_false (list_any (cannot_take w who call) (taken_by call)) (is_occupied w call || (is_in_use w call || is_closed_bundle w who call)) e in
       let free : list_any (cannot_take w who call) gifts ≡ false = ap (list_any (cannot_take w who call)) (sym t) ∙ none in
       all_to (λ x. entry_of w x.number ≡ Some x) (GiftOk w b facts gifts) w.handles.entries
       (λ x f g name h. gift_ok w b facts who call x.number x name c f h (none_passes (cannot_take w who call) x.number gifts free g)) facts.each
@@ -370,7 +363,7 @@ module _ {V : Type 0} (p : Program V) (w : World V) (b : ℕ) (facts : Facts w b
       homes home c None i g a = cc
       homes home c (Some x) i g a =
           let leaving : is_leaving w x.owner ≡ false = sym (ap (λ o. if_some o false (λ y. is_leaving w y.owner)) i) ∙ c in
-          let free : is_cancelled w x.owner ≡ false = or_left (is_cancelled w x.owner) _ leaving in
+          let free : is_cancelled w x.owner ≡ false = or_false (is_cancelled w x.owner) _ leaving in
           start_tracks (keep_for w (calls.BundleGo number program args)) view home program args refl (λ j. facts.dead number x i (subst (λ n. bundle_of x.thing ≡ Some n) j g)) (not_of w b facts number x home i g free) a h
   perform_tracks who view (calls.BundleWait number deadline) e f h = h
   perform_tracks who view (calls.Pass word fault) e f h = h

@@ -12,7 +12,7 @@ use Rattle.dill_plain.specs.Plain.{MakesPlain}
 use Rattle.dill_rules.specs.declared.coroutine.Coroutine.{Coroutine}
 use Rattle.dill_rules.specs.declared.coroutine.Mode.{Mode}
 use Rattle.dill_rules.specs.declared.coroutine.Mode.TheVariants as modes
-use Rattle.dill_rules.specs.World.{World, is_coroutine, coroutine_of, begin, pending_call}
+use Rattle.dill_rules.specs.World.{World, is_coroutine, coroutine_of, begin}
 use Rattle.dill_rules.specs.Expiring.{expire_one, passed}
 use Rattle.dill_rules.specs.Hearing.{heat_ready}
 use Rattle.dill_rules.specs.Settling.{settle_one, settle_within, settle}
@@ -33,6 +33,7 @@ use Rattle.dill_kept.proofs.Settles.{both}
 use Rattle.dill_kept.proofs.Turns.{root_closed}
 use Rattle.dill_debts.proofs.Entering.{start_only}
 use Rattle.dill_debts.proofs.Flagging.{all_picked, ranked_change}
+use Rattle.dill_debts.proofs.Lining.{lined_pending}
 use Rattle.dill_debts.proofs.Lists.{all_change, all_map, all_to, numbered_change, number_of}
 use Rattle.dill_debts.proofs.Settling.{Sits, AllSit, leads_sits, leads_numbered, settle_one_leads, settle_within_leads, settle_leads, pass_nothing, expire_leads}
 use Rattle.dill_debts.proofs.Shutting.{AllHold, Lasts, settle_one_shut, expire_one_shut, go_on_shut}
@@ -54,13 +55,6 @@ any_lasts = record { owned = λ x owner a. tt; closed = λ x a. tt; made = λ la
 all_any : (xs : List Bundle) → AllByRecursion AnyBundle xs
 all_any [] = tt
 all_any (x ∷ xs) = (tt, all_any xs)
-
-lined_pending : (mode : Mode) → pending_call (lined_mode mode) ≡ pending_call mode
-lined_pending (modes.Pending call) = refl
-lined_pending modes.Running = refl
-lined_pending (modes.Fresh word answer) = refl
-lined_pending (modes.Answered word answer) = refl
-lined_pending (modes.Ending outcome) = refl
 
 module _ {V : Type 0} (P : Bundle → Type 0) (low : ℕ) (lasts : Lasts P low) (p : Program V) where
   within_holds : (k : ℕ) (w : World V) → AllSit p w.coroutines → Numbered 0 w.coroutines w.last_coroutine → AllHold P low w → AllHold P low (settle_within k w)

@@ -1,4 +1,5 @@
 pub mod Lists
+pub mod Lining
 pub mod Evolving
 pub mod Entering
 pub mod Walking
@@ -22,3 +23,4 @@ pub mod Stamping
 pub mod Stepwise
 pub mod Moving
 pub mod Shifting
+pub mod Debting

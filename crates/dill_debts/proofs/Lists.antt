@@ -1,11 +1,10 @@
 -- Coroutines by number: what holds of all of them, and sums over them, as one changes or is gone.
-use Rattle.std.proofs.Common.{◌≡◌, ◌∙◌, ◌+◌, ◌<◌, ◌≤◌, ◌==◌, ℕ, List, [], ◌∷◌, ◌++◌, map, find, sum_by, Bool, true, false, cond, Option, Some, None, refl, sym, ap, subst, arith, eq-eqb}
+use Rattle.std.proofs.Common.{◌≡◌, ◌∙◌, ◌+◌, ◌<◌, ◌≤◌, ◌==◌, ℕ, List, [], ◌∷◌, ◌++◌, map, find, sum_by, Bool, true, false, cond, Option, Some, refl, sym, ap, subst, arith, eq-eqb}
 use Rattle.std.specs.List.{AllByRecursion}
 use Rattle.std.proofs.lemmas.Bool.Decides.{nat_tests}
 use Rattle.std.proofs.lemmas.List.Sums.{sum_by-cons}
 use Rattle.dill_maps.specs.Maps.{change, without}
 use Rattle.dill_rules.specs.declared.coroutine.Coroutine.{Coroutine}
-use Rattle.dill_rules.specs.World.{is_coroutine}
 use Rattle.dill_kept.specs.Well.{Numbered}
 
 pub equal_number : (a b : ℕ) → a ≡ b → (a == b) ≡ true
@@ -171,20 +170,3 @@ module _ {V : Type 0} where
       at : (t : Bool) → cond t (Some x) (find test cs) ≡ Some c → (find test cs ≡ Some c → x.number < c.number) → low < c.number
       at true f rest = let it = some_same x c f in subst (λ d. low < d.number) it h.0
       at false f rest = let r = rest f in let l = h.0 in omega (arith, l, r)
-
-  -- who is found by a test is found by its number
-  pub by_number : (low high : ℕ) (test : Coroutine V → Bool) (cs : List (Coroutine V)) (c : Coroutine V) → find test cs ≡ Some c → Numbered low cs high → find (is_coroutine c.number) cs ≡ Some c
-  by_number low high test [] c e h = cc
-  by_number low high test (x ∷ cs) c e h = at (test x) e (λ f. by_number x.number high test cs c f h.1)
-    where
-      at : (t : Bool) → cond t (Some x) (find test cs) ≡ Some c → (find test cs ≡ Some c → find (is_coroutine c.number) cs ≡ Some c) → find (is_coroutine c.number) (x ∷ cs) ≡ Some c
-      at true f rest = let it = some_same x c f in rw (equal_number x.number c.number (ap (λ d. d.number) it)) f
-      at false f rest = rw (above_of x.number c.number (above x.number high test cs c f h.1)) (rest f)
-
-  -- nobody has a number that is too low
-  pub none_below : (cs : List (Coroutine V)) (low high n : ℕ) → Numbered low cs high → n ≤ low → find (is_coroutine n) cs ≡ None
-  none_below [] low high n h l = refl
-  none_below (c ∷ cs) low high n h l =
-      let a = h.0 in
-      let other : (c.number == n) ≡ false = above_other low c.number n a l in
-      rw other (none_below cs c.number high n h.1 (omega (arith, a, l)))

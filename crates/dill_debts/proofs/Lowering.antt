@@ -9,13 +9,14 @@ use Rattle.dill_maps.specs.Maps.{change}
 use Rattle.dill_rules.specs.declared.coroutine.Coroutine.{Coroutine}
 use Rattle.dill_rules.specs.declared.coroutine.Mode.{Mode}
 use Rattle.dill_rules.specs.declared.coroutine.Mode.TheVariants as modes
-use Rattle.dill_rules.specs.State.{lined_mode, lined}
+use Rattle.dill_rules.specs.State.{lined}
 use Rattle.dill_rules.specs.Turning.{as_running, given_of}
 use Rattle.dill_rules.specs.World.{is_coroutine, with_mode, is_ending, is_answered}
 use Rattle.dill_kept.specs.Well.{Numbered, bit, occurs}
 use Rattle.dill_debts.specs.Owed.{share_by}
 use Rattle.dill_debts.specs.Says.{SaysIn, LowersIn, IsLowering, AllLower}
 use Rattle.dill_debts.proofs.Evolving.{Evolves, Suits, evolves_all, evolves_total}
+use Rattle.dill_debts.proofs.Lining.{lined_ending, lowers_lined}
 use Rattle.dill_debts.proofs.Lists.{total, total_map, total_change}
 use Rattle.dill_debts.proofs.Turning.{total_resumed}
 
@@ -62,23 +63,9 @@ module _ {V : Type 0} (p : Program V) (early : ℕ → Bool) where
   pub lowers_evolves : (cs ds : List (Coroutine V)) (k l : ℕ) → Evolves p all_calm cs k ds l → AllLower early cs → AllLower early ds
   lowers_evolves cs ds k l e a = evolves_all p all_calm (IsLowering early) suits_lowers (λ number view b q. cc) cs ds k l e a
 
-  lined_share : (c : Coroutine V) (mode : Mode) → is_ending (lined_mode mode) ≡ is_ending mode
-  lined_share c (modes.Pending call) = refl
-  lined_share c modes.Running = refl
-  lined_share c (modes.Fresh word answer) = refl
-  lined_share c (modes.Answered word answer) = refl
-  lined_share c (modes.Ending outcome) = refl
-
   -- a place in the queue changes nothing of it
   pub owed_lined : (cs : List (Coroutine V)) → total (share_by p early) (map lined cs) ≡ total (share_by p early) cs
-  owed_lined cs = total_map (share_by p early) lined cs (λ c. ap (λ b. if b then 0 else (if early c.number then 1 + p.most c.body else p.left c.body)) (lined_share c c.mode))
-
-lowers_lined : (mode : Mode) → LowersIn mode → LowersIn (lined_mode mode)
-lowers_lined (modes.Pending call) l = tt
-lowers_lined modes.Running l = tt
-lowers_lined (modes.Fresh word answer) l = l
-lowers_lined (modes.Answered word answer) l = l
-lowers_lined (modes.Ending outcome) l = tt
+  owed_lined cs = total_map (share_by p early) lined cs (λ c. ap (λ b. if b then 0 else (if early c.number then 1 + p.most c.body else p.left c.body)) (lined_ending c.mode))
 
 module _ {V : Type 0} (early : ℕ → Bool) where
   pub all_lower_lined : (cs : List (Coroutine V)) → AllLower early cs → AllLower early (map lined cs)

@@ -1,21 +1,20 @@
 -- A turn, as a step of a state.
-use Rattle.std.proofs.Common.{◌≡◌, ◌∙◌, ◌⊎◌, inl, inr, ◌+◌, ◌-◌, ◌≤◌, ◌<◌, ◌==◌, ℕ, zero, suc, List, [], ◌∷◌, length, map, filter, find, Bool, true, false, not, Option, Some, None, is_some, if◌then◌else◌, refl, sym, ap, subst, arith}
+use Rattle.std.proofs.Common.{◌≡◌, ◌∙◌, ◌≤◌, ◌<◌, ◌==◌, ℕ, zero, suc, List, [], ◌∷◌, length, filter, find, Bool, true, false, not, Option, Some, None, is_some, if◌then◌else◌, refl, sym, ap, subst, arith}
 use Rattle.std.specs.List.{AllByRecursion, list_any, list_all}
 use Rattle.dill_calls.specs.declared.ran.LackPlace.{LackPlace}
-use Rattle.dill_calls.specs.Program.{Program, IsLawful, Begins}
-use Rattle.dill_scope.specs.declared.forest.Bundle.{Bundle}
+use Rattle.dill_calls.specs.Program.{Program, IsLawful}
 use Rattle.dill_scope.specs.Scopes as scopes
 use Rattle.dill_scope.specs.Scopes.{Scopes, is_bundle, is_inside}
 use Rattle.dill_scope.specs.Keeping.{IsThere}
-use Rattle.dill_plain.specs.Plain.{MovesPlain, MakesPlain}
+use Rattle.dill_plain.specs.Plain.{MakesPlain}
 use Rattle.dill_rules.specs.declared.coroutine.Coroutine.{Coroutine}
 use Rattle.dill_rules.specs.declared.coroutine.Mode.{Mode}
 use Rattle.dill_rules.specs.declared.coroutine.Mode.TheVariants as modes
 use Rattle.dill_rules.specs.Debts.{is_early}
 use Rattle.dill_rules.specs.State.{State, Stamp, is_stamp_of, stamp_of, is_fresh}
-use Rattle.dill_rules.specs.World.{World, is_coroutine, coroutine_of, begin, with_mode, is_answered}
+use Rattle.dill_rules.specs.World.{World, is_coroutine, begin, is_answered}
 use Rattle.dill_rules.specs.Settling.{settle_one, settle_within, settle}
-use Rattle.dill_rules.specs.Turning.{as_running, resume, answer_given, move_of, go_on, turn}
+use Rattle.dill_rules.specs.Turning.{resume, answer_given, go_on, turn}
 use Rattle.dill_kept.specs.Kept.{Kept}
 use Rattle.dill_kept.specs.Laws.{MayTurn, KeepsWell}
 use Rattle.dill_kept.specs.Plain.{IsPlain}
@@ -26,27 +25,26 @@ use Rattle.dill_kept.proofs.Settles.{both}
 use Rattle.dill_kept.proofs.Turns.{go_on_plain}
 use Rattle.dill_sound.specs.Laws.{is_closing, is_resting}
 use Rattle.dill_sound.specs.Order.{IsInOrder}
-use Rattle.dill_sound.proofs.Fitting.{there_is}
 use Rattle.dill_debts.specs.Closing.{IsStable}
 use Rattle.dill_debts.specs.Says.{IsLowering}
 use Rattle.dill_debts.specs.Steady.{HasStamps, LowersInside}
 use Rattle.dill_debts.proofs.Beginning.{OldFlag, NoAnswer, Begun, same, none, old_flags, go_on_begun}
 use Rattle.dill_debts.proofs.Bounded.{each_found, queued_early}
-use Rattle.dill_debts.proofs.Ending.{KeepsWithin, IsShutAs}
-use Rattle.dill_debts.proofs.Evolving.{Suits, newborn, evolves_all}
+use Rattle.dill_debts.proofs.Ending.{KeepsWithin}
+use Rattle.dill_debts.proofs.Evolving.{Suits, evolves_all}
 use Rattle.dill_debts.proofs.Falling.{LowersAt, closing_shut, ranked_bound, turn_falls}
 use Rattle.dill_debts.proofs.Flagging.{both_all}
-use Rattle.dill_debts.proofs.Keeping.{nobody_calm, AnyBundle, any_lasts, IsGood, good_stable, good_moved, settles, settle_holds, turn_is}
+use Rattle.dill_debts.proofs.Keeping.{nobody_calm, AnyBundle, IsGood, good_stable, good_moved, settles, settle_holds, turn_is}
 use Rattle.dill_debts.proofs.Lists.{all_found, all_to, all_without, found_passes, number_of, equal_number}
 use Rattle.dill_debts.proofs.Settling.{AllSit, leads_sits, leads_numbered, settle_one_leads, settle_within_leads, pass_nothing}
-use Rattle.dill_debts.proofs.Shutting.{AllHold, Lasts, go_on_shut}
+use Rattle.dill_debts.proofs.Shutting.{AllHold, go_on_shut}
 use Rattle.dill_debts.proofs.Stamping.{others_stay, taken_gone}
-use Rattle.dill_debts.proofs.Standing.{IsStanding, stands}
+use Rattle.dill_debts.proofs.Standing.{stands}
 use Rattle.dill_debts.proofs.Stepwise.{LowersFresh, StampOk, stamp_lasts, stamps_self, all_there, Stepped, less_early}
-use Rattle.dill_debts.proofs.Tracking.{Tracks, tracks_self}
+use Rattle.dill_debts.proofs.Tracking.{tracks_self}
 use Rattle.dill_debts.proofs.Tree.{InTree, tree_same, tree_leads, settled_tree, closing_found, settle_one_tracks}
 use Rattle.dill_debts.proofs.Turning.{go_on_went, went_leads, all_resumed}
-use Rattle.dill_debts.proofs.Walking.{Leads, leads_then, unlike}
+use Rattle.dill_debts.proofs.Walking.{unlike}
 
 -- ---- what stays of scopes as a world settles
 
@@ -196,7 +194,7 @@ module _ {V : Type 0} (p : Program V) (law : IsLawful p) (plainly : MakesPlain p
         holds = turned_holds k s.closings s.next lack who stable may low each;
         falls = λ b c.
             let here : AllByRecursion (LowersAt p (is_inside k.world.scopes b) (is_early s b)) k.world.coroutines =
-                subst (λ (w : World V). AllByRecursion (λ d. is_inside w.scopes b d.number ≡ true → IsLowering (is_early s b) d) w.coroutines) (sym stands.world) (lowers b (subst (λ (w : World V). is_closing w.scopes b ≡ true) stands.world c)) in
+            subst (λ (w : World V). AllByRecursion (λ d. is_inside w.scopes b d.number ≡ true → IsLowering (is_early s b) d) w.coroutines) (sym stands.world) (lowers b (subst (λ (w : World V). is_closing w.scopes b ≡ true) stands.world c)) in
             (turn_falls p law plainly keeps within k lack who rest b (is_early s b) (less_early p law plainly s b (λ n. n == who)) stable e c (ap (λ g. if g then false else is_early s b who) (equal_number who who refl)) (λ n i. ap (λ g. if g then false else is_early s b n) i) here).falling;
         begun = λ b c d. turned_begun k lack who rest b stable e may c d;
         answered = turned_answered k lack who stable may;

@@ -37,7 +37,8 @@ use Rattle.dill_kept.specs.Plain.{may_wait}
 use Rattle.dill_debts.specs.Flags.{Ranked, IsFlagged, HasFlags}
 use Rattle.dill_debts.specs.Says.{IsProper}
 use Rattle.dill_debts.proofs.Flagging.{flagged_closed, flagged_freed, ranked_change, ranked_without, ranked_append}
-use Rattle.dill_debts.proofs.Entering.{entered_plain, MakesProper, unrefused_proper}
+use Rattle.dill_kept.proofs.Turns.{entered_plain}
+use Rattle.dill_debts.proofs.Entering.{MakesProper, unrefused_proper}
 use Rattle.dill_debts.proofs.Lists.{all_append, all_without, all_found}
 use Rattle.dill_debts.proofs.Settling.{AllSit, due_first, pending_runs, call_pends}
 use Rattle.dill_kept.specs.Well.{Numbered}

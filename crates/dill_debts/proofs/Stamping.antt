@@ -1,12 +1,12 @@
 -- Stamps: which answers came before a closing, as answers are given, taken and queued.
-use Rattle.std.proofs.Common.{◌≡◌, ◌∙◌, ◌⊎◌, inl, inr, ◌+◌, ◌≤◌, ◌<◌, ◌==◌, ℕ, List, [], ◌∷◌, ◌++◌, map, filter, find, Bool, true, false, not, ◌&&◌, ◌||◌, cond, Option, Some, None, option_map, is_some, if◌then◌else◌, nat_lt, refl, sym, ap, subst, arith}
+use Rattle.std.proofs.Common.{◌≡◌, ◌∙◌, ◌+◌, ◌≤◌, ◌<◌, ◌==◌, ℕ, List, [], ◌∷◌, ◌++◌, map, filter, find, Bool, true, false, not, ◌&&◌, ◌||◌, cond, Option, Some, None, option_map, nat_lt, refl, sym, ap, arith}
 use Rattle.std.specs.List.{AllByRecursion, list_any}
 use Rattle.std.proofs.lemmas.Bool.Decides.{nat_tests}
 use Rattle.dill_scope.specs.declared.forest.Bundle.{Bundle}
 use Rattle.dill_maps.specs.Maps.{if_some}
 use Rattle.dill_rules.specs.State.{Stamp, is_stamp_of, stamp_of, stamped}
 use Rattle.dill_kept.specs.Stands.{Rise}
-use Rattle.dill_debts.proofs.Lists.{all_found, all_append, all_to, find_append, equal_number, number_of, some_same}
+use Rattle.dill_debts.proofs.Lists.{all_found, find_append, some_same}
 
 -- ---- answers
 
@@ -81,6 +81,15 @@ queued_stamp n low next (x ∷ xs) r e = at (x.of == n) refl e (queued_stamp n (
     at false i f rest =
         let y = rest f in
         (y.0, ap (λ c. cond c (Some x) (find (is_stamp_of n) xs)) i ∙ y.1, y.2)
+
+-- whose number isn't has none
+pub unqueued : (n : ℕ) (xs : List Stamp) → list_any (λ m. m == n) (map (λ x. x.of) xs) ≡ false → find (is_stamp_of n) xs ≡ None
+unqueued n [] e = refl
+unqueued n (x ∷ xs) e = at (x.of == n) e (unqueued n xs)
+  where
+    at : (b : Bool) → (b || list_any (λ m. m == n) (map (λ y. y.of) xs)) ≡ false → (list_any (λ m. m == n) (map (λ y. y.of) xs) ≡ false → find (is_stamp_of n) xs ≡ None) → cond b (Some x) (find (is_stamp_of n) xs) ≡ None
+    at true f rest = cc
+    at false f rest = rest f
 
 -- ---- closings
 

@@ -1,5 +1,5 @@
 -- A step of a state: closings have their stamps behind it, and what is given to who is inside one lowers.
-use Rattle.std.proofs.Common.{◌≡◌, ◌∙◌, ◌⊎◌, inl, inr, ◌+◌, ◌≤◌, ◌<◌, ◌==◌, ℕ, List, [], ◌∷◌, ◌++◌, length, map, filter, find, sum_by, Bool, true, false, not, ◌&&◌, cond, Option, Some, None, option_map, is_some, if◌then◌else◌, nat_lt, refl, sym, ap, subst, arith}
+use Rattle.std.proofs.Common.{◌≡◌, ◌∙◌, ◌+◌, ◌≤◌, ◌<◌, ◌==◌, ℕ, List, [], ◌∷◌, ◌++◌, length, map, filter, find, Bool, true, false, cond, Option, Some, None, option_map, is_some, if◌then◌else◌, nat_lt, refl, sym, ap, subst, arith}
 use Rattle.std.specs.List.{AllByRecursion, list_any}
 use Rattle.std.proofs.lemmas.Bool.Decides.{nat_tests}
 use Rattle.dill_calls.specs.Program.{Program, IsLawful, Lowers}
@@ -12,12 +12,11 @@ use Rattle.dill_rules.specs.declared.coroutine.Coroutine.{Coroutine}
 use Rattle.dill_rules.specs.declared.coroutine.Mode.{Mode}
 use Rattle.dill_rules.specs.declared.coroutine.Mode.TheVariants as modes
 use Rattle.dill_rules.specs.Debts.{is_early, debt}
-use Rattle.dill_rules.specs.State.{State, Stamp, is_stamp_of, stamp_of, stamped, is_fresh, lined_mode, lined, fresh, line_up}
-use Rattle.dill_rules.specs.World.{World, is_coroutine, coroutine_of, is_ending, is_answered}
+use Rattle.dill_rules.specs.State.{State, Stamp, is_stamp_of, stamp_of, stamped, lined_mode, lined, fresh, line_up}
+use Rattle.dill_rules.specs.World.{World, is_coroutine, is_ending, is_answered}
 use Rattle.dill_kept.specs.Kept.{Kept, queued}
 use Rattle.dill_kept.specs.Plain.{wordless}
 use Rattle.dill_kept.specs.Stands.{StandsFor}
-use Rattle.dill_kept.specs.Well.{Numbered}
 use Rattle.dill_sound.specs.Laws.{is_closing}
 use Rattle.dill_sound.specs.Order.{is_there, IsInOrder}
 use Rattle.dill_sound.proofs.Fitting.{there_is}
@@ -29,9 +28,10 @@ use Rattle.dill_debts.specs.Steady.{HasStamps, LowersInside, IsEven}
 use Rattle.dill_debts.proofs.Bounded.{each_found}
 use Rattle.dill_debts.proofs.Falling.{share_in, LowersAt, Falls, ranked_bound}
 use Rattle.dill_debts.proofs.Flagging.{both_all}
-use Rattle.dill_debts.proofs.Lists.{total, is_total, total_same, total_map, all_found, all_append, all_map, all_to, find_append, found_passes, number_of, equal_number, some_same}
+use Rattle.dill_debts.proofs.Lining.{lined_ending, lowers_lined}
+use Rattle.dill_debts.proofs.Lists.{total, is_total, total_map, all_found, all_append, all_to, find_append, found_passes, number_of, some_same}
 use Rattle.dill_debts.proofs.Shutting.{AllHold, Lasts}
-use Rattle.dill_debts.proofs.Stamping.{stamped_from, find_behind, is_less, came, came_before, queued_stamp, new_closings, closing_stamped, open_unstamped, stamps_low}
+use Rattle.dill_debts.proofs.Stamping.{stamped_from, find_behind, is_less, came, came_before, queued_stamp, unqueued, new_closings, closing_stamped, open_unstamped, stamps_low}
 use Rattle.dill_debts.proofs.Tracking.{all_by_key}
 use Rattle.dill_debts.proofs.Tree.{closing_found}
 use Rattle.dill_debts.proofs.Walking.{unlike}
@@ -80,10 +80,10 @@ module _ {V : Type 0} where
     closed = λ x h. ((λ e. refl), h.1);
     made = λ last owner l. (
       (λ e.
-      let x = closing_found w.scopes (last + 1) e in
-      let name = number_of x.0.name (last + 1) (found_passes (is_bundle (last + 1)) w.scopes.bundles x.0 x.1) in
-      let bound = ranked_bound w.scopes.bundles 0 w.last_bundle (last + 1) x.0 f.ranked x.1 in
-      absurd (omega (arith, l, name, bound))),
+          let x = closing_found w.scopes (last + 1) e in
+          let name = number_of x.0.name (last + 1) (found_passes (is_bundle (last + 1)) w.scopes.bundles x.0 x.1) in
+          let bound = ranked_bound w.scopes.bundles 0 w.last_bundle (last + 1) x.0 f.ranked x.1 in
+          absurd (omega (arith, l, name, bound))),
       (λ e. no_stamp last w.last_bundle next closings l a),
     );
   }
@@ -117,7 +117,7 @@ total_filter f test (x ∷ xs) = at (test x) (total_filter f test xs)
     at true r = ap (λ n. f x + n) r
     at false r = omega (arith, r)
 
-total_all : {X : Type 0} (f g : X → ℕ) (xs : List X) → AllByRecursion (λ x. f x ≡ g x) xs → total f xs ≡ total g xs
+pub total_all : {X : Type 0} (f g : X → ℕ) (xs : List X) → AllByRecursion (λ x. f x ≡ g x) xs → total f xs ≡ total g xs
 total_all f g [] a = refl
 total_all f g (x ∷ xs) a = let one = a.0 in let r = total_all f g xs a.1 in omega (arith, one, r)
 
@@ -128,20 +128,6 @@ all_unmap P f (x ∷ xs) a = (a.0, all_unmap P f xs a.1)
 all_remap : {X : Type 0} (P : X → Type 0) (f : X → X) (xs : List X) → AllByRecursion (λ x. P (f x)) xs → AllByRecursion P (map f xs)
 all_remap P f [] a = tt
 all_remap P f (x ∷ xs) a = (a.0, all_remap P f xs a.1)
-
-lined_ending : (mode : Mode) → is_ending (lined_mode mode) ≡ is_ending mode
-lined_ending (modes.Pending call) = refl
-lined_ending modes.Running = refl
-lined_ending (modes.Fresh word answer) = refl
-lined_ending (modes.Answered word answer) = refl
-lined_ending (modes.Ending outcome) = refl
-
-lined_lowers : (mode : Mode) → LowersIn mode → LowersIn (lined_mode mode)
-lined_lowers (modes.Pending call) l = tt
-lined_lowers modes.Running l = tt
-lined_lowers (modes.Fresh word answer) l = l
-lined_lowers (modes.Answered word answer) l = l
-lined_lowers (modes.Ending outcome) l = tt
 
 -- where it was answered in this step, or has no early answer
 fresh_lowers : (mode : Mode) (b : Bool) → LowersFresh mode → (is_answered mode ≡ true → b ≡ true) → b ≡ false → LowersIn (lined_mode mode)
@@ -262,26 +248,43 @@ module _ {V : Type 0} (p : Program V) (law : IsLawful p) (plainly : MakesPlain p
         (λ y e h. stamp_each y e h y.closing refl (is_closing k.world.scopes y.name) refl) bundle_found step.holds.bundles in
         record {
           low = subst (λ n. AllByRecursion {X = Stamp} (λ x. (x.of ≤ n) × (x.at < s.next + 1 + length (fresh u))) (s.closings ++ new_closings u.scopes.bundles s.closings s.next)) same_last
-          (subst (λ (t : Scopes). AllByRecursion {X = Stamp} (λ x. (x.of ≤ v.last_bundle) × (x.at < s.next + 1 + length (fresh u))) (s.closings ++ new_closings t.bundles s.closings s.next)) same_scopes low);
+              (subst (λ (t : Scopes). AllByRecursion {X = Stamp} (λ x. (x.of ≤ v.last_bundle) × (x.at < s.next + 1 + length (fresh u))) (s.closings ++ new_closings t.bundles s.closings s.next)) same_scopes low);
           each = subst (λ (t : Scopes). AllByRecursion (λ y. is_some (stamp_of (s.closings ++ new_closings t.bundles s.closings s.next) y.name) ≡ y.closing) t.bundles) same_scopes each;
         }
 
-    -- of a bundle that begins to close all are early that were queued before
-    early_new : (b : ℕ) → is_closing k.world.scopes b ≡ false → is_closing v.scopes b ≡ true → (n : ℕ) → gone n ≡ false → list_any (λ m. m == n) k.ready ≡ true → is_early next_state b n ≡ true
-    early_new b c d n g q =
+    -- the answers that came before a bundle began to close
+    early_when : (b : ℕ) → is_closing k.world.scopes b ≡ false → is_closing v.scopes b ≡ true → (n : ℕ) → gone n ≡ false → is_early next_state b n ≡ came s.answers n s.next
+    early_when b c d n g =
         let y = closing_found v.scopes b d in
         let name = number_of y.0.name b (found_passes (is_bundle b) v.scopes.bundles y.0 y.1) in
         let ok = all_found (StampOk k.world.scopes s.closings) (is_bundle b) y.0 v.scopes.bundles y.1 step.holds.bundles in
         let here : find (is_bundle y.0.name) v.scopes.bundles ≡ Some y.0 = subst (λ m. find (is_bundle m) v.scopes.bundles ≡ Some y.0) (sym name) y.1 in
         let none = ok.1 (ap (is_closing k.world.scopes) name ∙ c) in
         let there : find (is_stamp_of b) (s.closings ++ new_closings u.scopes.bundles s.closings s.next) ≡ Some (record { of = y.0.name; at = s.next }) =
-            subst (λ (t : Scopes). find (is_stamp_of b) (s.closings ++ new_closings t.bundles s.closings s.next) ≡ Some (record { of = y.0.name; at = s.next })) same_scopes
-            (subst (λ m. find (is_stamp_of m) (s.closings ++ new_closings v.scopes.bundles s.closings s.next) ≡ Some (record { of = y.0.name; at = s.next })) name (new_stamp y.0 here y.2 none)) in
-        let x = queued_stamp n 0 s.next s.answers stands.rise (subst (λ xs. list_any (λ m. m == n) xs ≡ true) stands.order q) in
+        subst (λ (t : Scopes). find (is_stamp_of b) (s.closings ++ new_closings t.bundles s.closings s.next) ≡ Some (record { of = y.0.name; at = s.next })) same_scopes
+        (subst (λ m. find (is_stamp_of m) (s.closings ++ new_closings v.scopes.bundles s.closings s.next) ≡ Some (record { of = y.0.name; at = s.next })) name (new_stamp y.0 here y.2 none)) in
         ap (λ o. if_some (option_map (λ (z : Stamp). z.at) o) false (λ closed. came (answers ++ stamped (s.next + 1) (fresh u)) n closed)) there
         ∙ came_now n s.next (omega arith) false g
-        ∙ ap (λ o. if_some (option_map (λ (z : Stamp). z.at) o) false (λ a. nat_lt a s.next)) x.1
-        ∙ is_less x.0.at s.next x.2
+
+    -- of a bundle that begins to close all are early that were queued before
+    early_new : (b : ℕ) → is_closing k.world.scopes b ≡ false → is_closing v.scopes b ≡ true → (n : ℕ) → gone n ≡ false → list_any (λ m. m == n) k.ready ≡ true → is_early next_state b n ≡ true
+    early_new b c d n g q =
+        let x = queued_stamp n 0 s.next s.answers stands.rise (subst (λ xs. list_any (λ m. m == n) xs ≡ true) stands.order q) in
+        early_when b c d n g ∙ ap (λ o. if_some (option_map (λ (z : Stamp). z.at) o) false (λ a. nat_lt a s.next)) x.1 ∙ is_less x.0.at s.next x.2
+
+    -- and nobody else
+    early_none : (b : ℕ) → is_closing k.world.scopes b ≡ false → is_closing v.scopes b ≡ true → (n : ℕ) → gone n ≡ false → list_any (λ m. m == n) k.ready ≡ false → is_early next_state b n ≡ false
+    early_none b c d n g q =
+        let x = unqueued n s.answers (subst (λ xs. list_any (λ m. m == n) xs ≡ false) stands.order q) in
+        early_when b c d n g ∙ ap (λ o. if_some (option_map (λ (z : Stamp). z.at) o) false (λ a. nat_lt a s.next)) x
+
+    -- exactly those are early that were queued before
+    pub early_queued : (b : ℕ) → is_closing k.world.scopes b ≡ false → is_closing v.scopes b ≡ true → (n : ℕ) → gone n ≡ false → is_early next_state b n ≡ list_any (λ m. m == n) k.ready
+    early_queued b c d n g = at (list_any (λ m. m == n) k.ready) refl
+      where
+        at : (q : Bool) → list_any (λ m. m == n) k.ready ≡ q → is_early next_state b n ≡ list_any (λ m. m == n) k.ready
+        at true e = early_new b c d n g e ∙ sym e
+        at false e = early_none b c d n g e ∙ sym e
 
     there_after : AllByRecursion (λ c. IsThere v.scopes c.number) v.coroutines
     there_after = all_unmap (λ (c : Coroutine V). IsThere v.scopes c.number) lined v.coroutines (all_there (queued v ready early).world after.order)
@@ -291,7 +294,7 @@ module _ {V : Type 0} (p : Program V) (law : IsLawful p) (plainly : MakesPlain p
     lowers_old b c =
         let f = step.falls b c in
         both_all (λ (d : Coroutine V). IsThere v.scopes d.number) (LowersAt p (is_inside k.world.scopes b) (less_early s b gone)) (λ d. is_inside v.scopes b d.number ≡ true → IsLowering (is_early next_state b) (lined d)) v.coroutines
-        (λ d there l i e. lined_lowers d.mode (l (sym (f.places d.number there) ∙ i) (sym (early_kept b c d.number) ∙ e))) there_after f.lowers
+        (λ d there l i e. lowers_lined d.mode (l (sym (f.places d.number there) ∙ i) (sym (early_kept b c d.number) ∙ e))) there_after f.lowers
 
     lowers_new : (b : ℕ) → is_closing k.world.scopes b ≡ false → is_closing v.scopes b ≡ true → AllByRecursion (λ c. is_inside v.scopes b c.number ≡ true → IsLowering (is_early next_state b) (lined c)) v.coroutines
     lowers_new b c d =
@@ -309,7 +312,7 @@ module _ {V : Type 0} (p : Program V) (law : IsLawful p) (plainly : MakesPlain p
         subst (λ (w : World V). AllByRecursion (λ x. is_inside w.scopes b x.number ≡ true → IsLowering (is_early next_state b) x) w.coroutines) stands_after.world all
 
     -- the state is even again
-    pub even_after : IsEven p next_state
+    abbrev pub even_after : IsEven p next_state
     even_after = record { kept = queued v ready early; stable = after; stands = stands_after; stamps = stamps_after; lowers = lowers_after }
 
     share_lined : (tree f : ℕ → Bool) (c : Coroutine V) → share_in p tree f (lined c) ≡ share_in p tree f c

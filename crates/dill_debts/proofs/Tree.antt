@@ -1,8 +1,7 @@
 -- The worlds of a step in which a bundle is closing: who is inside it stays the same, but for who is gone, and is cancelled.
-use Rattle.std.proofs.Common.{◌≡◌, ◌∙◌, ◌⊎◌, inl, inr, ◌+◌, ◌≤◌, ◌<◌, ◌==◌, ℕ, zero, suc, List, [], ◌∷◌, length, map, fold, filter, filter_map, reverse, find, Bool, true, false, ◌&&◌, Option, Some, None, option_map, is_some, nat_le, if◌then◌else◌, refl, sym, ap, subst, arith}
+use Rattle.std.proofs.Common.{◌≡◌, ◌∙◌, ◌⊎◌, inl, inr, ◌+◌, ◌≤◌, ◌==◌, ℕ, zero, suc, List, [], ◌∷◌, length, map, fold, filter, reverse, find, Bool, true, false, ◌&&◌, Option, Some, None, option_map, is_some, nat_le, if◌then◌else◌, refl, sym, ap, subst, arith}
 use Rattle.std.specs.Prelude.{option_and_then}
-use Rattle.std.specs.List.{AllByRecursion, list_all}
-use Rattle.dill_base.specs.declared.errno.Errno.{Errno}
+use Rattle.std.specs.List.{AllByRecursion}
 use Rattle.dill_calls.specs.declared.answer.Answer.{Answer}
 use Rattle.dill_calls.specs.declared.answer.Answer.TheVariants.{Fault}
 use Rattle.dill_calls.specs.declared.call.Call.{Call}
@@ -10,7 +9,7 @@ use Rattle.dill_calls.specs.declared.call.Call.TheVariants as calls
 use Rattle.dill_calls.specs.declared.ran.LackPlace.{LackPlace}
 use Rattle.dill_calls.specs.declared.ran.Note.TheVariants.{Freed}
 use Rattle.dill_calls.specs.CallTable.{word_of, is_built}
-use Rattle.dill_calls.specs.Program.{Program, Move, Calls, Ends, IsLawful}
+use Rattle.dill_calls.specs.Program.{Program, Move, Calls, Ends}
 use Rattle.dill_handles.specs.Handles as handles
 use Rattle.dill_handles.specs.declared.entry.Entry.{Entry}
 use Rattle.dill_scope.specs.declared.forest.Bundle.{Bundle}
@@ -23,17 +22,17 @@ use Rattle.dill_scope.proofs.Carrying.{parent_told}
 use Rattle.dill_scope.proofs.Chains.{search_is_inside}
 use Rattle.dill_scope.proofs.Numbered.{none_below}
 use Rattle.dill_maps.specs.Maps.{if_some, first_some}
-use Rattle.dill_plain.specs.Plain.{MovesPlain, MakesPlain}
+use Rattle.dill_plain.specs.Plain.{MovesPlain}
 use Rattle.dill_rules.specs.declared.coroutine.Closing.{Closing}
 use Rattle.dill_rules.specs.declared.coroutine.Coroutine.{Coroutine}
 use Rattle.dill_rules.specs.declared.thing.Thing.{Thing}
 use Rattle.dill_rules.specs.declared.thing.Thing.TheVariants as things
-use Rattle.dill_rules.specs.World.{World, coroutine_of, call_of, reply, note, from_start, begin}
+use Rattle.dill_rules.specs.World.{World, coroutine_of, reply, note}
 use Rattle.dill_rules.specs.Entering.{entered, lack_fault}
 use Rattle.dill_rules.specs.Giving.{give}
 use Rattle.dill_rules.specs.Owning.{entry_of, drop, release, free_bundle, is_dead_as}
 use Rattle.dill_rules.specs.Taking.{bundle_of, is_cancelled}
-use Rattle.dill_rules.specs.Settling.{can_finish, end, highest_first, is_owned_by, free_all, release_all, outcome_of, keep_end, finish, answer_due, give_first, settle_one, settle_within, settle}
+use Rattle.dill_rules.specs.Settling.{can_finish, end, highest_first, is_owned_by, free_all, release_all, finish, answer_due, give_first, settle_one, settle_within, settle}
 use Rattle.dill_rules.specs.Turning.{is_build, is_entry, may_lack_build, resume, answer_given, move_of, make_move, lack_move, go_on}
 use Rattle.dill_kept.specs.Plain.{may_wait, IsPlain}
 use Rattle.dill_kept.specs.Well.{Numbered, bit, occurs}
@@ -41,7 +40,7 @@ use Rattle.dill_kept.proofs.Lists.{all_found}
 use Rattle.dill_kept.proofs.Settles.{both}
 use Rattle.dill_kept.proofs.Steps.{settle_one_plain}
 use Rattle.dill_sound.specs.Laws.{is_closing}
-use Rattle.dill_sound.specs.Order.{is_there, is_held, has_bundle, FitsTogether, IsInOrder}
+use Rattle.dill_sound.specs.Order.{is_there, is_held, has_bundle, IsInOrder}
 use Rattle.dill_sound.proofs.Counting.{holds, weigh_filter, weighs_found}
 use Rattle.dill_sound.proofs.Fitting.{next_is_new, there_is}
 use Rattle.dill_sound.proofs.Keeping.{order_settle_one}
@@ -49,7 +48,7 @@ use Rattle.dill_sound.proofs.Owners.{owned_no_root}
 use Rattle.dill_sound.proofs.Sound.{owner_is, inside_cancelled}
 use Rattle.dill_debts.specs.Flags.{IsFlagged, HasFlags}
 use Rattle.dill_debts.proofs.Ending.{IsShutAs, shut_lasts}
-use Rattle.dill_debts.proofs.Entering.{entered_plain}
+use Rattle.dill_kept.proofs.Turns.{entered_plain}
 use Rattle.dill_debts.proofs.Flagging.{closed_names}
 use Rattle.dill_debts.proofs.Holding.{Facts, tracks_drop, tracks_ended, enter_tracks, end_tracks}
 use Rattle.dill_debts.proofs.Lists as lists
@@ -57,7 +56,7 @@ use Rattle.dill_debts.proofs.Lists.{equal_number, number_of, all_to}
 use Rattle.dill_debts.proofs.Settling.{AllSit, leads_sits, settle_one_leads, settle_leads, pass_nothing, due_first, pending_runs}
 use Rattle.dill_debts.proofs.Shutting.{AllHold, settle_one_shut}
 use Rattle.dill_debts.proofs.Tracking.{Tracks, inside_same}
-use Rattle.dill_debts.proofs.Walking.{Leads, unlike}
+use Rattle.dill_debts.proofs.Walking.{Leads}
 
 -- ---- what is known of a world in order
 

@@ -3,25 +3,26 @@ use Rattle.std.proofs.Common.{◌≡◌, ◌∙◌, ◌+◌, ◌≤◌, ◌==◌
 use Rattle.std.specs.List.{AllByRecursion}
 use Rattle.dill_base.specs.declared.errno.Errno.{Errno}
 use Rattle.dill_calls.specs.declared.answer.Answer.{Answer}
-use Rattle.dill_calls.specs.declared.answer.Answer.TheVariants.{Fault}
-use Rattle.dill_calls.specs.declared.call.Call.{Call}
+use Rattle.dill_calls.specs.declared.answer.Answer.TheVariants.{Number, Fault}
 use Rattle.dill_calls.specs.declared.ran.LackPlace.{LackPlace}
 use Rattle.dill_calls.specs.declared.word.Word.{Word}
+use Rattle.dill_calls.specs.declared.word.Word.TheVariants.{Start}
 use Rattle.dill_calls.specs.CallTable.{word_of, is_built}
 use Rattle.dill_calls.specs.Program.{Program, Move, Calls, Ends, IsLawful, Moves, GoesOn}
 use Rattle.dill_maps.specs.Maps.{if_some, change}
 use Rattle.dill_plain.specs.Plain.{MovesPlain, MakesPlain}
 use Rattle.dill_rules.specs.declared.coroutine.Coroutine.{Coroutine}
 use Rattle.dill_rules.specs.declared.coroutine.Mode.TheVariants as modes
-use Rattle.dill_rules.specs.World.{World, is_coroutine, coroutine_of, with_mode, reply, pending_call}
+use Rattle.dill_rules.specs.World.{World, begin, is_coroutine, coroutine_of, with_mode, reply, pending_call}
 use Rattle.dill_rules.specs.Taking.{is_cancelled}
 use Rattle.dill_rules.specs.Entering.{entered, lack_fault}
 use Rattle.dill_rules.specs.Settling.{end}
-use Rattle.dill_rules.specs.Turning.{is_build, is_entry, as_running, may_lack_build, resume, answer_given, make_move, lack_move, go_on}
+use Rattle.dill_rules.specs.Turning.{given_of, is_build, is_entry, as_running, may_lack_build, resume, answer_given, make_move, lack_move, go_on}
 use Rattle.dill_kept.specs.Well.{Numbered}
 use Rattle.dill_debts.specs.Says.{IsProper}
 use Rattle.dill_kept.proofs.Crew.{close_all_crew}
-use Rattle.dill_debts.proofs.Entering.{word_entered, entered_plain, entered_passes, lack_lowers}
+use Rattle.dill_kept.proofs.Turns.{entered_plain}
+use Rattle.dill_debts.proofs.Entering.{word_entered, entered_passes, lack_lowers}
 use Rattle.dill_debts.proofs.Evolving.{Evolves, turns}
 use Rattle.dill_debts.proofs.Lists.{found_changed, found_passes, number_of, some_same, above_other, total}
 use Rattle.dill_debts.proofs.Standing.{Stands, reply_stands, enter_stands}
@@ -30,6 +31,10 @@ use Rattle.dill_debts.proofs.Walking.{Leads, Runs, Enters, reply_leads, enter_le
 -- where a coroutine is found by its number, it has it
 pub found_number : {V : Type 0} (who : ℕ) (cs : List (Coroutine V)) (c : Coroutine V) → find (is_coroutine who) cs ≡ Some c → c.number ≡ who
 found_number who cs c e = number_of c.number who (found_passes (is_coroutine who) cs c e)
+
+-- the answer that is given is that of who has the turn
+pub given_is : {V : Type 0} (w : World V) (who : ℕ) (c : Coroutine V) → coroutine_of w who ≡ Some c → answer_given (begin w) who ≡ given_of c.mode
+given_is w who c e = ap (λ o. if_some o (Start, Number 0) (λ d. given_of d.mode)) e
 
 module _ {V : Type 0} (p : Program V) (law : IsLawful p) (calm : ℕ → Bool) where
   -- how a coroutine went on from its answer
@@ -56,12 +61,6 @@ module _ {V : Type 0} (p : Program V) (law : IsLawful p) (calm : ℕ → Bool) w
   from_move : (lack : Option LackPlace) (w : World V) (who : ℕ) (c : Coroutine V) (answer : Answer) (next : V × Move) → MayGo w who c → Moves p c.body answer next → MovesPlain next → Went w who c answer (if is_build lack && may_lack_build next.1 then lack_move (resume w who (p.short c.body answer)) who next.1 else make_move p (is_entry lack) (resume w who next.0) who next.0 next.1)
   from_move lack w who c answer (new, Calls call) g m plain = at (is_build lack && is_built (word_of call))
     where
-      short : V
-      short = p.short c.body answer
-
-      call_now : Call
-      call_now = entered w.moment call
-
       enters : Enters p law calm (resume w who new) who new (entered w.moment call)
       enters = record {
         runs = runs_resumed w who new (word_of (entered w.moment call)) c g.found (m.1.said ∙ sym (word_entered w.moment call plain));

@@ -15,14 +15,13 @@ use Rattle.dill_rules.specs.Settling.{end}
 use Rattle.dill_rules.specs.Turning.{is_build, is_entry, as_running, may_lack_build, resume, answer_given, move_of, make_move, lack_move, go_on}
 use Rattle.dill_kept.specs.Laws.{KeepsWell}
 use Rattle.dill_sound.specs.Order.{IsInOrder}
-use Rattle.dill_kept.proofs.Turns.{root_closed}
+use Rattle.dill_kept.proofs.Turns.{root_closed, entered_plain}
 use Rattle.dill_sound.proofs.Entering.{order_enter}
 use Rattle.dill_sound.proofs.Keeping.{order_settle_one, order_begin}
 use Rattle.dill_sound.proofs.Nearly.{is_free}
 use Rattle.dill_sound.proofs.Ordering.{order_anyway, order_free, order_reply, order_closed}
 use Rattle.dill_sound.proofs.Shutting.{order_end}
 use Rattle.dill_debts.proofs.Ending.{KeepsWithin}
-use Rattle.dill_debts.proofs.Entering.{entered_plain}
 use Rattle.dill_debts.proofs.Lists.{found_changed}
 
 answered_free : (mode : Mode) → is_answered mode ≡ true → is_free mode ≡ true

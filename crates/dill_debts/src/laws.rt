@@ -1,3 +1,4 @@
+ghost use Rattle.dill_debts.specs.Debts.{DebtFalls};
 ghost use Rattle.dill_debts.specs.Laws.{KeepsStable, EndsClosing};
 
 use dill_plain::PlainBody;
@@ -12,4 +13,11 @@ pub fn steps_keep_stable<B: PlainBody>()
 /// answer: so it ends within as many turns as are owed, which are at most 2^48, wherever memory is refused.
 pub fn root_debt_falls<B: PlainBody>()
     ensures { EndsClosing B.means }
+{}
+
+/// While a bundle is closing, each turn of who is inside it lowers its debt, and no step raises it. Nobody comes in, and
+/// nobody leaves but by being gone. As long as somebody is inside, somebody there has an answer: so the bundle is empty
+/// within as many turns of its own as its debt.
+pub fn debts_fall<B: PlainBody>()
+    ensures { DebtFalls B.means }
 {}

@@ -4,4 +4,4 @@
 
 mod laws;
 
-pub use laws::{root_debt_falls, steps_keep_stable};
+pub use laws::{debts_fall, root_debt_falls, steps_keep_stable};

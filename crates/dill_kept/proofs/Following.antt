@@ -185,7 +185,7 @@ module _ {V : Type 0} (p : Program V) (law : IsLawful p) (plainly : MakesPlain p
   expired_all [] k s well stands = (well, stands)
   expired_all (x ∷ xs) k s well stands = expired_all xs (kept_expire_next k x) (expire_next s x) (keeps.expires k x well) (expired_next k s x well stands)
 
-  settled_after : (k : Kept V) (s : State V) → IsWell p k → StandsFor k s → StandsFor (queued (settle k.world) k.ready k.early) (after s (settle s.world))
+  pub settled_after : (k : Kept V) (s : State V) → IsWell p k → StandsFor k s → StandsFor (queued (settle k.world) k.ready k.early) (after s (settle s.world))
   settled_after k s well stands =
       stands_queued (settle k.world) k.ready k.early (settle s.world) s.answers s.closings s.next
       (ap settle stands.world ∙ settle_blind no_words s.world (plain_of k s well.plain stands)) stands.order stands.rise
