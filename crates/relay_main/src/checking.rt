@@ -1,13 +1,49 @@
-ghost use Rattle.std.specs.Prelude.{◌≡◌};
+ghost use Rattle.std.specs.Prelude.{◌≡◌, ◌<◌, ◌++◌, length, OnOk, OnErr};
+ghost use Rattle.std.specs.Io.KnownBytes.{Appends};
+ghost use Rattle.dill_base.specs.Causes.{HasCause};
+ghost use Rattle.dill_base.specs.Sinks.{AppendsPart};
 ghost use Rattle.relay_main.specs.Checking.{Checks, PrintsWhole};
 
 use crate::reading::{ReadFault, read_all};
 use crate::saying::{refuse, say, say_not_read, say_want};
-use dill_base::{Shelf, Sink, Status};
+use dill_base::{Failed, Shelf, Sink, Status};
 use dill_script::Script;
 use relay_printer::print_script;
 use relay_reader::read_script;
 use std::alloc::Global;
+
+/// How many bytes go out at once.
+const PIECE: usize = 4096;
+
+/// The first bytes of some, and what is behind them.
+fn cut_piece(bytes: &[u8]) -> (&[u8], &[u8])
+    requires { 0 < length bytes.now }
+    ensures whole { bytes.now ≡ result.0.now ++ result.1.now }
+    ensures some { 0 < length result.0.now }
+    ensures less { length result.1.now < length bytes.now }
+{
+    let count = if bytes.len() < PIECE {
+        bytes.len()
+    } else {
+        PIECE
+    };
+    bytes.split_at(count)
+}
+
+/// Writes bytes in pieces. Where a write fails, a front of them went out.
+fn write_pieces<W: Sink>(bytes: &[u8], out: &mut W) -> Result<(), Failed>
+    ensures ok { OnOk result (Appends (W.told out.old) (W.told out.new) bytes.now) }
+    ensures err { OnErr result (AppendsPart (W.told out.old) (W.told out.new) bytes.now) }
+    ensures cause { HasCause (W.faults out.old) (W.faults out.new) result }
+{
+    let mut rest = bytes;
+    while !rest.is_empty() {
+        let (piece, behind) = cut_piece(rest);
+        out.write(piece)?;
+        rest = behind;
+    }
+    Ok(())
+}
 
 /// Prints the canonical text of a script.
 fn print_whole<W: Sink>(alloc: Global, script: &Script, out: &mut W, err: &mut W) -> Status
@@ -16,7 +52,7 @@ fn print_whole<W: Sink>(alloc: Global, script: &Script, out: &mut W, err: &mut W
     let Ok(text) = print_script(alloc, script) else {
         return say_want(err);
     };
-    match out.write(text.as_slice()) {
+    match write_pieces(text.as_slice(), out) {
         Ok(()) => Status::Well,
         Err(_) => {
             say(b"dillrelay: output not written", err);

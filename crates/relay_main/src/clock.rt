@@ -3,11 +3,12 @@ use dill_kernel::{Finished, Flow, Kernel, KernelFault, Limit, Made, ReadyList};
 use std::time::{Clock, Duration, Instant};
 use std::{io, thread};
 
-/// The system's clock, and no network. Moments are milliseconds since it was made. It tells nothing, and keeps its count.
+/// The system's clock, and no network. Moments are milliseconds since it was made; where the clock couldn't be read then,
+/// every wait fails. It tells nothing, and keeps its count.
 #[derive(Drop)]
 pub struct ClockKernel<'a, C: Clock> {
     clock: &'a C,
-    begun: Instant,
+    begun: Option<Instant>,
     count: u64,
 }
 
@@ -17,32 +18,32 @@ fn passed<C: Clock>(clock: &C, begun: Instant) -> io::Result<u64> {
     Ok(u64::try_from(passed.as_millis()).unwrap_or(u64::MAX))
 }
 
+/// Sleeps until a moment that is to come, where it is to come, and tells the moment.
+fn wait_until<C: Clock>(clock: &C, begun: Instant, due: u64) -> io::Result<u64> {
+    let now = passed(clock, begun)?;
+    if now < due {
+        thread::sleep(clock, Duration::from_millis(due - now));
+        return passed(clock, begun);
+    }
+    Ok(now)
+}
+
 impl<'a, C: Clock> ClockKernel<'a, C> {
     /// Its clock stands at 0 now.
-    pub fn new(clock: &'a C) -> io::Result<ClockKernel<'a, C>> {
-        let begun = Instant::now(clock)?;
-        Ok(ClockKernel {
+    pub fn new(clock: &'a C) -> ClockKernel<'a, C> {
+        ClockKernel {
             clock,
-            begun,
+            begun: Instant::now(clock).ok(),
             count: 0,
-        })
-    }
-
-    /// Sleeps until a moment that is to come, where it is to wait, and tells the moment.
-    fn wait_until(&self, due: u64) -> io::Result<u64> {
-        let now = passed(self.clock, self.begun)?;
-        if now < due {
-            thread::sleep(self.clock, Duration::from_millis(due - now));
-            return passed(self.clock, self.begun);
         }
-        Ok(now)
     }
 
     /// The moment once a wait is over. Without a network nothing ends a wait for ever, and it fails.
     fn woken(&self, limit: Limit) -> Option<u64> {
+        let begun = self.begun?;
         match limit {
-            Limit::NoWait => self.wait_until(0).ok(),
-            Limit::Until(due) => self.wait_until(due).ok(),
+            Limit::NoWait => passed(self.clock, begun).ok(),
+            Limit::Until(due) => wait_until(self.clock, begun, due).ok(),
             Limit::Forever => None,
         }
     }
