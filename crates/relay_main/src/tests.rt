@@ -367,7 +367,7 @@ fn words_say_what_is_done(rt: HostRuntime) -> Result<(), Fail> {
 }
 
 #[test]
-fn a_script_is_checked(rt: HostRuntime) -> Result<(), Fail> {
+fn canonical_text(rt: HostRuntime) -> Result<(), Fail> {
     let text = b"dill 1\n\n  program main 0 # go\nprint   \"a\\x41\"\nend";
     let canonical = End {
         status: Status::Well,
