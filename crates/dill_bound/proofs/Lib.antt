@@ -4,3 +4,5 @@ pub mod Ending
 pub mod Unshut
 pub mod Owing
 pub mod Running
+pub mod Lasting
+pub mod Steadying

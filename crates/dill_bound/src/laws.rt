@@ -1,6 +1,7 @@
 ghost use Rattle.dill_bound.specs.Bound.{ClosingIsBounded, RunsAreBounded, StoppedRunsEnd};
+ghost use Rattle.dill_bound.specs.States.{RunsAreSteady};
 
-use dill_debts::{root_debt_falls, steps_keep_stable};
+use dill_debts::{debts_fall, root_debt_falls, steps_keep_stable};
 use dill_kept::{follows_states, steps_keep_well};
 use dill_plain::PlainBody;
 
@@ -30,4 +31,13 @@ pub fn runs_are_bounded<B: PlainBody>()
     steps_keep_stable::<B>();
     follows_states::<B>();
     root_debt_falls::<B>();
+}
+
+/// Each state of a run from its beginning is steady: so the laws of debts speak of every state that a run comes through,
+/// and of every bundle that is closing there.
+pub fn runs_are_steady<B: PlainBody>()
+    ensures { RunsAreSteady B.means }
+{
+    follows_states::<B>();
+    debts_fall::<B>();
 }
