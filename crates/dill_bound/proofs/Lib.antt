@@ -6,3 +6,4 @@ pub mod Owing
 pub mod Running
 pub mod Lasting
 pub mod Steadying
+pub mod Waiting

@@ -1,5 +1,6 @@
 ghost use Rattle.dill_bound.specs.Bound.{ClosingIsBounded, RunsAreBounded, StoppedRunsEnd};
 ghost use Rattle.dill_bound.specs.States.{RunsAreSteady};
+ghost use Rattle.dill_bound.specs.Waits.{WaitingIsForSomebody};
 
 use dill_debts::{debts_fall, root_debt_falls, steps_keep_stable};
 use dill_kept::{follows_states, steps_keep_well};
@@ -41,3 +42,10 @@ pub fn runs_are_steady<B: PlainBody>()
     follows_states::<B>();
     debts_fall::<B>();
 }
+
+/// In a steady state whoever is pending in `hclose` has begun to close a bundle in which somebody lives, whoever is
+/// pending in `bundle_wait` waits for such a bundle, and whoever is ending owns one: so they wait no longer than up to the
+/// step in which the last one of the bundle goes.
+pub fn waiting_is_for_somebody<B: PlainBody>()
+    ensures { WaitingIsForSomebody B.means }
+{}

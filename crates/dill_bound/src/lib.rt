@@ -3,4 +3,7 @@
 
 mod laws;
 
-pub use laws::{closing_is_bounded, runs_are_bounded, runs_are_steady, stopped_runs_end};
+pub use laws::{
+    closing_is_bounded, runs_are_bounded, runs_are_steady, stopped_runs_end,
+    waiting_is_for_somebody,
+};
