@@ -7,3 +7,4 @@ pub mod Running
 pub mod Lasting
 pub mod Steadying
 pub mod Waiting
+pub mod Ended

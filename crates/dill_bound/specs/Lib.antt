@@ -1,3 +1,4 @@
 pub mod Bound
 pub mod States
 pub mod Waits
+pub mod Ends

@@ -1,4 +1,5 @@
 ghost use Rattle.dill_bound.specs.Bound.{ClosingIsBounded, RunsAreBounded, StoppedRunsEnd};
+ghost use Rattle.dill_bound.specs.Ends.{RunsEnd};
 ghost use Rattle.dill_bound.specs.States.{RunsAreSteady};
 ghost use Rattle.dill_bound.specs.Waits.{WaitingIsForSomebody};
 
@@ -41,6 +42,16 @@ pub fn runs_are_steady<B: PlainBody>()
 {
     follows_states::<B>();
     debts_fall::<B>();
+}
+
+/// A run from its beginning that closes its open root makes no more turns from then on than the debt of the root is there,
+/// and it is over, with `main` ended, after three steps for each of them and four more.
+pub fn runs_end<B: PlainBody>()
+    ensures { RunsEnd B.means }
+{
+    follows_states::<B>();
+    debts_fall::<B>();
+    root_debt_falls::<B>();
 }
 
 /// In a steady state whoever is pending in `hclose` has begun to close a bundle in which somebody lives, whoever is
