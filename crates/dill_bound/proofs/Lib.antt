@@ -8,3 +8,4 @@ pub mod Lasting
 pub mod Steadying
 pub mod Waiting
 pub mod Ended
+pub mod Going

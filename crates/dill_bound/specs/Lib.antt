@@ -2,3 +2,4 @@ pub mod Bound
 pub mod States
 pub mod Waits
 pub mod Ends
+pub mod Goes

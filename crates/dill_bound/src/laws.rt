@@ -1,5 +1,6 @@
 ghost use Rattle.dill_bound.specs.Bound.{ClosingIsBounded, RunsAreBounded, StoppedRunsEnd};
 ghost use Rattle.dill_bound.specs.Ends.{RunsEnd};
+ghost use Rattle.dill_bound.specs.Goes.{BundlesGoEmpty};
 ghost use Rattle.dill_bound.specs.States.{RunsAreSteady};
 ghost use Rattle.dill_bound.specs.Waits.{WaitingIsForSomebody};
 
@@ -60,3 +61,10 @@ pub fn runs_end<B: PlainBody>()
 pub fn waiting_is_for_somebody<B: PlainBody>()
     ensures { WaitingIsForSomebody B.means }
 {}
+
+/// A bundle that is closing goes in a step only if nobody who was inside it is there after that step.
+pub fn bundles_go_empty<B: PlainBody>()
+    ensures { BundlesGoEmpty B.means }
+{
+    debts_fall::<B>();
+}
