@@ -4,3 +4,8 @@ pub mod Ending
 pub mod Unshut
 pub mod Owing
 pub mod Running
+pub mod Lasting
+pub mod Steadying
+pub mod Waiting
+pub mod Ended
+pub mod Going

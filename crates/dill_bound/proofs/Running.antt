@@ -1,5 +1,10 @@
 -- Each step of a run up to its stop keeps: a stable core stands for the state, and nothing is counted. Or it is the stop.
-use Rattle.std.proofs.Common.{◌≡◌, ◌⊎◌, inl, inr, ◌∙◌, ℕ, zero, suc, ◌-◌, ◌≤◌, ◌^◌, ◌==◌, List, [], ◌++◌, length, Option, Some, None, Bool, true, false, not, ◌||◌, if◌then◌else◌, refl, sym, ap, subst}
+use Rattle.std.proofs.Common.{◌≡◌, ◌⊎◌, inl, inr, ◌∙◌, ℕ, zero, suc, ◌-◌, ◌≤◌, ◌^◌, ◌==◌, List, [], ◌∷◌, ◌++◌, length, Option, Some, None, Bool, true, false, not, ◌||◌, if◌then◌else◌, cond, find, refl, sym, ap, subst}
+use Rattle.std.specs.List.{AllByRecursion}
+use Rattle.dill_scope.specs.declared.forest.Bundle.{Bundle}
+use Rattle.dill_scope.specs.Scopes.{is_bundle}
+use Rattle.dill_maps.specs.Maps.{if_some}
+use Rattle.dill_debts.proofs.Lists.{number_of}
 use Rattle.dill_base.specs.declared.status.Status.{Status}
 use Rattle.dill_base.specs.declared.status.Status.TheVariants as status
 use Rattle.dill_calls.specs.declared.ran.LackPlace.{LackPlace}
@@ -8,7 +13,7 @@ use Rattle.dill_plain.specs.Plain.{MakesPlain}
 use Rattle.dill_rules.specs.Debts.{debt}
 use Rattle.dill_kept.specs.Laws.{KeepsWell}
 use Rattle.dill_bound.proofs.Owing.{owed_is_debt}
-use Rattle.dill_bound.proofs.Unshut.{IsUnshut, expired_unshut, opening_unshut, turned_unshut, woke_unshut}
+use Rattle.dill_bound.proofs.Unshut.{IsOpenRoot, IsUnshut, expired_unshut, opening_unshut, turned_unshut, woke_unshut}
 use Rattle.dill_kernel.specs.declared.replies.KernelAsk.{KernelAsk}
 use Rattle.dill_kernel.specs.declared.replies.KernelReply.{KernelReply}
 use Rattle.dill_kernel.specs.declared.replies.KernelReply.TheVariants as reply
@@ -40,6 +45,15 @@ goes_on _ = true
 abbrev is_early : Place → Bool
 is_early (Writing next) = goes_on next
 is_early other = goes_on other
+
+-- the root is open, if it is there
+root_open : (bs : List Bundle) → AllByRecursion IsOpenRoot bs → if_some (find (is_bundle 0) bs) false (λ x. x.closing) ≡ false
+root_open [] a = refl
+root_open (x ∷ bs) a = at (x.name == 0) refl (root_open bs a.1)
+  where
+    at : (b : Bool) → (x.name == 0) ≡ b → if_some (find (is_bundle 0) bs) false (λ y. y.closing) ≡ false → if_some (cond b (Some x) (find (is_bundle 0) bs)) false (λ y. y.closing) ≡ false
+    at true e r = a.0 (number_of x.name 0 e)
+    at false e r = r
 
 -- a stable core stands for the state, whose root is open
 record Stable {V : Type 0} (p : Program V) (s : State V) : Type 0 where
@@ -193,7 +207,7 @@ module _ {V : Type 0} (p : Program V) (law : IsLawful p) (plainly : MakesPlain p
 
   later : (run : Playing (State V)) (count : ℕ) → IsBounded (advance m traced most run) count → IsBounded run count
   later run count (inl none) = inl none
-  later run count (inr stops) = inr (record { steps = suc stops.steps; stop = stops.stop; few = stops.few; small = stops.small })
+  later run count (inr stops) = inr (record { steps = suc stops.steps; open_root = stops.open_root; stop = stops.stop; few = stops.few; small = stops.small })
 
   -- the stop, and all that comes behind it
   stops_within : (ends : EndsClosing p) (n : ℕ) (run : Playing (State V)) → Stable p run.config.state → IsAtStop run.config.state (advance m traced most run).config → StopsWithin p traced most run (play m traced most n (advance m traced most run)).config.tally.closing
@@ -203,6 +217,7 @@ module _ {V : Type 0} (p : Program V) (law : IsLawful p) (plainly : MakesPlain p
       let same : owed p (kept_shut h.kept) ≡ debt p there.config.state 0 = owed_is_debt p follows ends h.kept run.config.state h.stable h.stands h.unshut ∙ ap (λ s. debt p s 0) (sym stop.state) in
       record {
         steps = 0;
+        open_root = root_open run.config.state.world.scopes.bundles h.unshut.root;
         stop = stop;
         few = subst (λ x. count ≤ x) same (closing_is_bounded p follows ends h.kept run.config.state traced most there h.stands h.stable stop n);
         small = subst (λ x. x ≤ 2 ^ 48) same (ends.few (kept_shut h.kept) (ends.shut h.kept h.stable));

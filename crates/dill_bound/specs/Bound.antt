@@ -1,5 +1,5 @@
 -- Once a run has stopped, `main` ends within as many turns as are owed.
-use Rattle.std.specs.Prelude.{◌≡◌, ◌⊎◌, ℕ, ◌≤◌, ◌^◌, ◌+◌, ◌*◌, List, Option, Bool, true, is_some}
+use Rattle.std.specs.Prelude.{◌≡◌, ◌⊎◌, ℕ, ◌≤◌, ◌^◌, ◌+◌, ◌*◌, List, Option, Bool, true, false, is_some}
 use Rattle.rand_core.specs.Stream.{Stream}
 use Rattle.dill_calls.specs.Program.{Program, Begins}
 use Rattle.dill_kernel.specs.declared.replies.KernelReply.{KernelReply}
@@ -10,6 +10,7 @@ use Rattle.dill_drive.specs.Play.{IsOver, Lack, Playing, advance, opening, play}
 use Rattle.dill_drive.specs.Story.{Closing, Config, Writing}
 use Rattle.dill_kept.specs.Kept.{Kept, kept_shut}
 use Rattle.dill_kept.specs.Stands.{StandsFor}
+use Rattle.dill_sound.specs.Laws.{is_closing}
 use Rattle.dill_debts.specs.Closing.{IsStable}
 use Rattle.dill_debts.specs.Owed.{owed}
 
@@ -32,9 +33,10 @@ StoppedRunsEnd {V} p = (k : Kept V) (s : State V) (traced : Bool) (most : ℕ) (
 abbrev pub stepped : {V : Type 0} → Program V → Bool → ℕ → Playing (State V) → ℕ → Playing (State V)
 stepped p traced most begun steps = advance (machine_of p) traced most (play (machine_of p) traced most steps begun)
 
--- A run stops: the step behind so many closes the root. No more turns are counted than its debt is there.
+-- A run stops: the step behind so many closes the root, which was open. No more turns are counted than its debt is there.
 pub record StopsWithin {V : Type 0} (p : Program V) (traced : Bool) (most : ℕ) (begun : Playing (State V)) (count : ℕ) : Type 0 where
   pub steps : ℕ
+  pub open_root : is_closing (play (machine_of p) traced most steps begun).config.state.world.scopes 0 ≡ false
   pub stop : IsAtStop (play (machine_of p) traced most steps begun).config.state (stepped p traced most begun steps).config
   pub few : count ≤ debt p (stepped p traced most begun steps).config.state 0
   pub small : debt p (stepped p traced most begun steps).config.state 0 ≤ 2 ^ 48

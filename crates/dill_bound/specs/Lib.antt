@@ -1,1 +1,5 @@
 pub mod Bound
+pub mod States
+pub mod Waits
+pub mod Ends
+pub mod Goes

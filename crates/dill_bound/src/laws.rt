@@ -1,6 +1,10 @@
 ghost use Rattle.dill_bound.specs.Bound.{ClosingIsBounded, RunsAreBounded, StoppedRunsEnd};
+ghost use Rattle.dill_bound.specs.Ends.{RunsEnd};
+ghost use Rattle.dill_bound.specs.Goes.{BundlesGoEmpty};
+ghost use Rattle.dill_bound.specs.States.{RunsAreSteady};
+ghost use Rattle.dill_bound.specs.Waits.{WaitingIsForSomebody};
 
-use dill_debts::{root_debt_falls, steps_keep_stable};
+use dill_debts::{debts_fall, root_debt_falls, steps_keep_stable};
 use dill_kept::{follows_states, steps_keep_well};
 use dill_plain::PlainBody;
 
@@ -30,4 +34,37 @@ pub fn runs_are_bounded<B: PlainBody>()
     steps_keep_stable::<B>();
     follows_states::<B>();
     root_debt_falls::<B>();
+}
+
+/// Each state of a run from its beginning is steady: so the laws of debts speak of every state that a run comes through,
+/// and of every bundle that is closing there.
+pub fn runs_are_steady<B: PlainBody>()
+    ensures { RunsAreSteady B.means }
+{
+    follows_states::<B>();
+    debts_fall::<B>();
+}
+
+/// A run from its beginning that closes its open root makes no more turns from then on than the debt of the root is there,
+/// and it is over, with `main` ended, after three steps for each of them and four more.
+pub fn runs_end<B: PlainBody>()
+    ensures { RunsEnd B.means }
+{
+    follows_states::<B>();
+    debts_fall::<B>();
+    root_debt_falls::<B>();
+}
+
+/// In a steady state whoever is pending in `hclose` has begun to close a bundle in which somebody lives, whoever is
+/// pending in `bundle_wait` waits for such a bundle, and whoever is ending owns one: so they wait no longer than up to the
+/// step in which the last one of the bundle goes.
+pub fn waiting_is_for_somebody<B: PlainBody>()
+    ensures { WaitingIsForSomebody B.means }
+{}
+
+/// A bundle that is closing goes in a step only if nobody who was inside it is there after that step.
+pub fn bundles_go_empty<B: PlainBody>()
+    ensures { BundlesGoEmpty B.means }
+{
+    debts_fall::<B>();
 }

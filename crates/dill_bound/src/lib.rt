@@ -3,4 +3,7 @@
 
 mod laws;
 
-pub use laws::{closing_is_bounded, runs_are_bounded, stopped_runs_end};
+pub use laws::{
+    bundles_go_empty, closing_is_bounded, runs_are_bounded, runs_are_steady, runs_end,
+    stopped_runs_end, waiting_is_for_somebody,
+};
