@@ -10,3 +10,4 @@ pub mod Waiting
 pub mod Ended
 pub mod Going
 pub mod Marking
+pub mod Marks

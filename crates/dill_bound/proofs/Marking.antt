@@ -1,5 +1,5 @@
 -- The bundle of each noted closing is closing: it stays so over each part of a step.
-use Rattle.std.proofs.Common.{◌≡◌, ◌∙◌, ◌+◌, ◌≤◌, ◌<◌, ◌==◌, ℕ, List, [], ◌∷◌, ◌++◌, map, fold, filter, reverse, find, Bool, true, false, ◌&&◌, cond, Option, Some, None, if◌then◌else◌, refl, sym, ap, subst, arith}
+use Rattle.std.proofs.Common.{◌≡◌, ◌+◌, ◌≤◌, ◌==◌, ℕ, List, [], ◌∷◌, ◌++◌, fold, filter, reverse, find, Bool, true, false, ◌&&◌, cond, Option, Some, None, if◌then◌else◌, refl, sym, ap, subst, arith}
 use Rattle.std.specs.List.{AllByRecursion}
 use Rattle.std.proofs.lemmas.Bool.Decides.{nat_tests}
 use Rattle.dill_base.specs.declared.errno.Errno.{Errno}
@@ -117,7 +117,7 @@ marked_closed xs name number (x ∷ bs) low high r a = at (x.name == name) refl 
         ((λ e. cc), both_all (λ y. (y.name == name) ≡ false) (IsMarked xs) (IsMarked more) bs (λ y j f. marked_more xs y name number j f) (ranked_others name bs (x.name + 1) high (omega (arith, same)) r.1) a.1)
     at false i rest = (marked_more xs x name number i a.0, rest)
 
-all_changed : {X : Type 0} (P : X → Type 0) (pick : X → Bool) (g : X → X) (xs : List X) → ((x : X) → P x → P (g x)) → AllByRecursion P xs → AllByRecursion P (change pick g xs)
+pub all_changed : {X : Type 0} (P : X → Type 0) (pick : X → Bool) (g : X → X) (xs : List X) → ((x : X) → P x → P (g x)) → AllByRecursion P xs → AllByRecursion P (change pick g xs)
 all_changed P pick g [] h a = tt
 all_changed P pick g (x ∷ xs) h a = at (pick x) (all_changed P pick g xs h a.1)
   where
@@ -366,4 +366,3 @@ module _ {V : Type 0} where
       if_marked (is_build lack && may_lack_build next.1) (lack_move (resume w who short) who next.1) (make_move p (is_entry lack) (resume w who next.0) who next.0 next.1)
       (lack_marked (resume w who short) who next.1 (same_marked w (resume w who short) refl refl refl refl h))
       (move_made_marked p (is_entry lack) (resume w who next.0) who next.0 next.1 e (same_marked w (resume w who next.0) refl refl refl refl h))
-

@@ -1,4 +1,5 @@
 ghost use Rattle.dill_bound.specs.Bound.{ClosingIsBounded, RunsAreBounded, StoppedRunsEnd};
+ghost use Rattle.dill_bound.specs.Closes.{RunsCloseWell};
 ghost use Rattle.dill_bound.specs.Ends.{RunsEnd};
 ghost use Rattle.dill_bound.specs.Goes.{BundlesGoEmpty};
 ghost use Rattle.dill_bound.specs.States.{RunsAreSteady};
@@ -7,6 +8,7 @@ ghost use Rattle.dill_bound.specs.Waits.{WaitingIsForSomebody};
 use dill_debts::{debts_fall, root_debt_falls, steps_keep_stable};
 use dill_kept::{follows_states, steps_keep_well};
 use dill_plain::PlainBody;
+use dill_sound::steps_keep_order;
 
 /// Once a run has stopped no more turns are made than are owed: a summary's `closing` is at most what is owed of what a
 /// core keeps once the root is closed, whatever comes from outside.
@@ -66,5 +68,17 @@ pub fn waiting_is_for_somebody<B: PlainBody>()
 pub fn bundles_go_empty<B: PlainBody>()
     ensures { BundlesGoEmpty B.means }
 {
+    debts_fall::<B>();
+}
+
+/// In each state of a run whoever is pending in `hclose` waits for a bundle that is closing, in which somebody lives and
+/// somebody has an answer: so it is answered once those inside the bundle have made at most as many turns as its debt.
+pub fn runs_close_well<B: PlainBody>()
+    ensures { RunsCloseWell B.means }
+{
+    steps_keep_well::<B>();
+    steps_keep_order::<B>();
+    steps_keep_stable::<B>();
+    follows_states::<B>();
     debts_fall::<B>();
 }

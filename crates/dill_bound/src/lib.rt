@@ -4,6 +4,6 @@
 mod laws;
 
 pub use laws::{
-    bundles_go_empty, closing_is_bounded, runs_are_bounded, runs_are_steady, runs_end,
-    stopped_runs_end, waiting_is_for_somebody,
+    bundles_go_empty, closing_is_bounded, runs_are_bounded, runs_are_steady, runs_close_well,
+    runs_end, stopped_runs_end, waiting_is_for_somebody,
 };
