@@ -31,7 +31,7 @@ use Rattle.dill_kept.proofs.Turns.{root_closed}
 use Rattle.dill_sound.specs.Laws.{is_closing, KeepsOrder}
 use Rattle.dill_sound.specs.Order.{IsInOrder}
 use Rattle.dill_debts.specs.Closing.{IsStable}
-use Rattle.dill_debts.specs.Debts.{DebtFalls, Turn, Expire, Shut, Wake}
+use Rattle.dill_debts.specs.Debts.{Step, step, DebtFalls, Turn, Expire, Shut, Wake}
 use Rattle.dill_debts.specs.Laws.{KeepsStable}
 use Rattle.dill_debts.specs.Steady.{IsSteady}
 use Rattle.dill_debts.proofs.Flagging.{ranked_change}
@@ -45,81 +45,84 @@ use Rattle.dill_bound.proofs.Waiting.{waiting_is_for_somebody}
 
 -- ---- steps of what a core keeps
 
-module _ {V : Type 0} where
-  begun_marked : (w : World V) → Marked w → Marked (begin w)
-  begun_marked w h = same_marked w (begin w) refl refl refl refl h
+module _ {V : Type 0} (tie : Closing) where
+  begun_marked : (w : World V) → Marked tie w → Marked tie (begin w)
+  begun_marked w h = same_marked tie w (begin w) refl refl refl refl refl h
 
-  root_marked : (w : World V) → Marked w → Marked (root_closed w)
+  root_marked : (w : World V) → Marked tie w → Marked tie (root_closed w)
   root_marked w h = record {
     ranked = ranked_change (is_bundle 0) as_closing w.scopes.bundles 0 w.last_bundle (λ x. refl) h.ranked;
     marked = all_changed (IsMarked w.closings) (is_bundle 0) as_closing w.scopes.bundles (λ x f e. cc) h.marked;
     noted = h.noted;
     things = h.things;
+    tied = h.tied;
+    others = h.others;
+    given = h.given;
   }
 
-  heated_marked : (ready : List Ready) (w : World V) → Marked w → Marked (fold heat_ready w ready)
+  heated_marked : (ready : List Ready) (w : World V) → Marked tie w → Marked tie (fold heat_ready w ready)
   heated_marked [] w h = h
-  heated_marked (x ∷ xs) w h = heated_marked xs (heat_ready w x) (same_marked w (heat_ready w x) refl refl refl refl h)
+  heated_marked (x ∷ xs) w h = heated_marked xs (heat_ready w x) (same_marked tie w (heat_ready w x) refl refl refl refl refl h)
 
-  woke_marked : (k : Kept V) (told : ℕ) (ready : List Ready) → Marked k.world → Marked (kept_woke k told ready).world
+  woke_marked : (k : Kept V) (told : ℕ) (ready : List Ready) → Marked tie k.world → Marked tie (kept_woke k told ready).world
   woke_marked k told ready h =
       let heated = heated_marked ready (begin k.world) (begun_marked k.world h) in
-      same_marked (fold heat_ready (begin k.world) ready) (kept_woke k told ready).world refl refl refl refl heated
+      same_marked tie (fold heat_ready (begin k.world) ready) (kept_woke k told ready).world refl refl refl refl refl heated
 
-  to_state : (k : Kept V) (s : State V) → StandsFor k s → Marked k.world → Marked s.world
-  to_state k s stands h = same_marked (wordless s.world) s.world refl refl refl refl (subst Marked stands.world h)
+  to_state : (k : Kept V) (s : State V) → StandsFor k s → Marked tie k.world → Marked tie s.world
+  to_state k s stands h = same_marked tie (wordless s.world) s.world refl refl refl refl refl (subst (Marked tie) stands.world h)
 
-  to_kept : (k : Kept V) (s : State V) → StandsFor k s → Marked s.world → Marked k.world
-  to_kept k s stands h = subst Marked (sym stands.world) (same_marked s.world (wordless s.world) refl refl refl refl h)
+  to_kept : (k : Kept V) (s : State V) → StandsFor k s → Marked tie s.world → Marked tie k.world
+  to_kept k s stands h = subst (Marked tie) (sym stands.world) (same_marked tie s.world (wordless s.world) refl refl refl refl refl h)
 
-module _ {V : Type 0} (p : Program V) where
-  within_marked : (n : ℕ) (w : World V) → AllSit p w.coroutines → Numbered 0 w.coroutines w.last_coroutine → Marked w → Marked (settle_within n w)
+module _ {V : Type 0} (tie : Closing) (p : Program V) where
+  within_marked : (n : ℕ) (w : World V) → AllSit p w.coroutines → Numbered 0 w.coroutines w.last_coroutine → Marked tie w → Marked tie (settle_within n w)
   within_marked zero w a n h = h
   within_marked (suc k) w a n h =
       let one = settle_one_leads p nobody_calm (λ v. Unit {0}) (λ v who c i e f. cc) w tt a n in
-      within_marked k (settle_one w) (leads_sits p nobody_calm w (settle_one w) one a) (leads_numbered p nobody_calm w (settle_one w) one n) (settle_one_marked p w a n h)
+      within_marked k (settle_one w) (leads_sits p nobody_calm w (settle_one w) one a) (leads_numbered p nobody_calm w (settle_one w) one n) (settle_one_marked tie p w a n h)
 
-  settle_marked : (w : World V) → AllSit p w.coroutines → Numbered 0 w.coroutines w.last_coroutine → Marked w → Marked (settle w)
+  settle_marked : (w : World V) → AllSit p w.coroutines → Numbered 0 w.coroutines w.last_coroutine → Marked tie w → Marked tie (settle w)
   settle_marked w a n h =
       let done = settle_within (length w.coroutines) w in
       let leads = settle_within_leads p nobody_calm (λ v. Unit {0}) (λ v who c i e f. cc) (λ v i. tt) (length w.coroutines) w tt a n in
       let same : settle w ≡ done = pass_nothing p done (leads_sits p nobody_calm w done leads a) in
-      subst Marked (sym same) (within_marked (length w.coroutines) w a n h)
+      subst (Marked tie) (sym same) (within_marked (length w.coroutines) w a n h)
 
-module _ {V : Type 0} (p : Program V) (law : IsLawful p) (plainly : MakesPlain p) (keeps : KeepsWell p) (stays : KeepsStable p) where
-  turned_marked : (k : Kept V) (lack : Option LackPlace) → IsStable p k → Marked k.world → Marked (kept_turn p lack k).world
+module _ {V : Type 0} (tie : Closing) (p : Program V) (law : IsLawful p) (plainly : MakesPlain p) (keeps : KeepsWell p) (stays : KeepsStable p) where
+  turned_marked : (k : Kept V) (lack : Option LackPlace) → IsStable p k → Marked tie k.world → Marked tie (kept_turn p lack k).world
   turned_marked k lack s h = at k.ready refl
     where
-      at : (ready : List ℕ) → k.ready ≡ ready → Marked (turn_first p lack k ready).world
+      at : (ready : List ℕ) → k.ready ≡ ready → Marked tie (turn_first p lack k ready).world
       at [] e = h
       at (who ∷ rest) e =
           let w = k.world in
           let may = keeps.first k who rest s.well e in
           let view = may.one.body in
           let good = good_moved p law plainly lack w who may may.one may.found may.some may.real (good_stable p k s) in
-          let moved = go_on_marked p lack (begin w) who view (plainly view (answer_given (begin w) who).1 may.real may.some) (begun_marked w h) in
-          let settled = settle_marked p (go_on p lack (begin w) who view) good.sits good.numbered moved in
-          let turned = subst Marked (sym (turn_is p law plainly lack w who may.one may.found)) settled in
-          record { ranked = turned.ranked; marked = turned.marked; noted = turned.noted; things = turned.things }
+          let moved = go_on_marked tie p lack (begin w) who view (plainly view (answer_given (begin w) who).1 may.real may.some) (begun_marked tie w h) in
+          let settled = settle_marked tie p (go_on p lack (begin w) who view) good.sits good.numbered moved in
+          let turned = subst (Marked tie) (sym (turn_is p law plainly lack w who may.one may.found)) settled in
+          record { ranked = turned.ranked; marked = turned.marked; noted = turned.noted; things = turned.things; tied = turned.tied; others = turned.others; given = turned.given }
 
-  late_marked : (xs : List ℕ) (k : Kept V) → IsGood p k.world → Marked k.world → IsGood p (fold kept_expire_next k xs).world × Marked (fold kept_expire_next k xs).world
+  late_marked : (xs : List ℕ) (k : Kept V) → IsGood p k.world → Marked tie k.world → IsGood p (fold kept_expire_next k xs).world × Marked tie (fold kept_expire_next k xs).world
   late_marked [] k g h = (g, h)
   late_marked (x ∷ xs) k g h =
-      let next = expire_one_marked p k.world x g.sits h in
-      late_marked xs (kept_expire_next k x) (good_queued p (expire_one k.world x) k.ready k.early (good_expire p k.world x g)) (record { ranked = next.ranked; marked = next.marked; noted = next.noted; things = next.things })
+      let next = expire_one_marked tie p k.world x g.sits h in
+      late_marked xs (kept_expire_next k x) (good_queued p (expire_one k.world x) k.ready k.early (good_expire p k.world x g)) (record { ranked = next.ranked; marked = next.marked; noted = next.noted; things = next.things; tied = next.tied; others = next.others; given = next.given })
 
-  expired_marked : (k : Kept V) → IsStable p k → Marked k.world → Marked (kept_expired k).world
+  expired_marked : (k : Kept V) → IsStable p k → Marked tie k.world → Marked tie (kept_expired k).world
   expired_marked k s h =
-      let late = late_marked (passed k.world) (record k { world = begin k.world }) (good_stable p (record k { world = begin k.world }) (stays.started k s)) (begun_marked k.world h) in
-      let done = settle_marked p (kept_late k).world late.0.sits late.0.numbered late.1 in
-      record { ranked = done.ranked; marked = done.marked; noted = done.noted; things = done.things }
+      let late = late_marked (passed k.world) (record k { world = begin k.world }) (good_stable p (record k { world = begin k.world }) (stays.started k s)) (begun_marked tie k.world h) in
+      let done = settle_marked tie p (kept_late k).world late.0.sits late.0.numbered late.1 in
+      record { ranked = done.ranked; marked = done.marked; noted = done.noted; things = done.things; tied = done.tied; others = done.others; given = done.given }
 
-module _ {V : Type 0} (p : Program V) (law : IsLawful p) (plainly : MakesPlain p) (keeps : KeepsWell p) (ordered : KeepsOrder p) where
-  shut_marked : (k : Kept V) → IsStable p k → Marked k.world → Marked (kept_shut k).world
+module _ {V : Type 0} (tie : Closing) (p : Program V) (law : IsLawful p) (plainly : MakesPlain p) (keeps : KeepsWell p) (ordered : KeepsOrder p) where
+  shut_marked : (k : Kept V) → IsStable p k → Marked tie k.world → Marked tie (kept_shut k).world
   shut_marked k s h =
       let closed = good_closed p law plainly keeps ordered k.world (good_stable p k s) in
-      let done = settle_marked p (root_closed k.world) closed.sits closed.numbered (root_marked k.world h) in
-      record { ranked = done.ranked; marked = done.marked; noted = done.noted; things = done.things }
+      let done = settle_marked tie p (root_closed k.world) closed.sits closed.numbered (root_marked tie k.world h) in
+      record { ranked = done.ranked; marked = done.marked; noted = done.noted; things = done.things; tied = done.tied; others = done.others; given = done.given }
 
 -- ---- what is noted is closing
 
@@ -135,7 +138,7 @@ bit_true : (b : Bool) → 1 ≤ bit b → b ≡ true
 bit_true true l = refl
 bit_true false l = absurd (omega (arith, l))
 
-module _ {V : Type 0} (w : World V) (order : IsInOrder w) (h : Marked w) where
+module _ {V : Type 0} (tie : Closing) (w : World V) (order : IsInOrder w) (h : Marked tie w) where
   owned_closing : (name : ℕ) (o : Option Bundle) → find (is_bundle name) w.scopes.bundles ≡ o → 1 ≤ times_closed name w.closings → is_some (option_and_then (λ x. x.owner) o) ≡ true → if_some o false (λ x. x.closing) ≡ true
   owned_closing name None e l s = cc
   owned_closing name (Some y) e l s = at y.closing refl
@@ -161,42 +164,48 @@ module _ {V : Type 0} (w : World V) (order : IsInOrder w) (h : Marked w) where
       at None f g = cc
       at (Some x) f g = let same : x.bundle ≡ name = cc in noted_closing name (subst (λ n. 1 ≤ times_closed n w.closings) same (found_noted (is_dead_as number) w.closings x f))
 
--- ---- whole runs
+-- ---- steps of steady states
 
-module _ {V : Type 0} (p : Program V) (law : IsLawful p) (plainly : MakesPlain p) (keeps : KeepsWell p) (ordered : KeepsOrder p) (stays : KeepsStable p) (follows : Follows p) (debts : DebtFalls p) where
-  -- a steady state that is marked
-  record IsSteadyMarked (s : State V) : Type 0 where
-    steady : IsSteady p s
-    marked : Marked s.world
+-- a steady state that is marked
+pub record IsSteadyMarked {V : Type 0} (tie : Closing) (p : Program V) (s : State V) : Type 0 where
+  pub steady : IsSteady p s
+  pub marked : Marked tie s.world
 
+module _ {V : Type 0} (tie : Closing) (p : Program V) (law : IsLawful p) (plainly : MakesPlain p) (keeps : KeepsWell p) (ordered : KeepsOrder p) (stays : KeepsStable p) (follows : Follows p) (debts : DebtFalls p) where
   -- what a core keeps of it is stable and marked
-  kept_marked : (s : State V) (h : IsSteadyMarked s) → Marked h.steady.even.kept.world
-  kept_marked s h = to_kept h.steady.even.kept s h.steady.even.stands h.marked
+  kept_marked : (s : State V) (h : IsSteadyMarked tie p s) → Marked tie h.steady.even.kept.world
+  kept_marked s h = to_kept tie h.steady.even.kept s h.steady.even.stands h.marked
 
-  after_turn : (s : State V) (lack : Option LackPlace) (words : Stream) → IsSteadyMarked s → IsSteadyMarked (turn_seen p s lack words).0
+  after_turn : (s : State V) (lack : Option LackPlace) (words : Stream) → IsSteadyMarked tie p s → IsSteadyMarked tie p (turn_seen p s lack words).0
   after_turn s lack words h =
       let even = h.steady.even in
       record {
         steady = debts.steady (lend s words) (Turn lack) (debts.lent s words h.steady);
-        marked = to_state (kept_turn p lack even.kept) (turn_seen p s lack words).0 (follows.turned even.kept s lack words even.stable.well even.stands) (turned_marked p law plainly keeps stays even.kept lack even.stable (kept_marked s h));
+        marked = to_state tie (kept_turn p lack even.kept) (turn_seen p s lack words).0 (follows.turned even.kept s lack words even.stable.well even.stands) (turned_marked tie p law plainly keeps stays even.kept lack even.stable (kept_marked s h));
       }
 
-  after_expiry : (s : State V) → IsSteadyMarked s → IsSteadyMarked (expired s)
+  after_expiry : (s : State V) → IsSteadyMarked tie p s → IsSteadyMarked tie p (expired s)
   after_expiry s h =
       let even = h.steady.even in
-      record { steady = debts.steady s Expire h.steady; marked = to_state (kept_expired even.kept) (expired s) (follows.expired even.kept s even.stable.well even.stands) (expired_marked p law plainly keeps stays even.kept even.stable (kept_marked s h)) }
+      record { steady = debts.steady s Expire h.steady; marked = to_state tie (kept_expired even.kept) (expired s) (follows.expired even.kept s even.stable.well even.stands) (expired_marked tie p law plainly keeps stays even.kept even.stable (kept_marked s h)) }
 
-  after_shut : (s : State V) → IsSteadyMarked s → IsSteadyMarked (shut s)
+  after_shut : (s : State V) → IsSteadyMarked tie p s → IsSteadyMarked tie p (shut s)
   after_shut s h =
       let even = h.steady.even in
-      record { steady = debts.steady s Shut h.steady; marked = to_state (kept_shut even.kept) (shut s) (follows.shut even.kept s even.stable.well even.stands) (shut_marked p law plainly keeps ordered even.kept even.stable (kept_marked s h)) }
+      record { steady = debts.steady s Shut h.steady; marked = to_state tie (kept_shut even.kept) (shut s) (follows.shut even.kept s even.stable.well even.stands) (shut_marked tie p law plainly keeps ordered even.kept even.stable (kept_marked s h)) }
 
-  after_wake : (s : State V) (told : ℕ) (ready : List Ready) → IsSteadyMarked s → IsSteadyMarked (woke s told ready)
+  after_wake : (s : State V) (told : ℕ) (ready : List Ready) → IsSteadyMarked tie p s → IsSteadyMarked tie p (woke s told ready)
   after_wake s told ready h =
       let even = h.steady.even in
-      record { steady = debts.steady s (Wake told ready) h.steady; marked = to_state (kept_woke even.kept told ready) (woke s told ready) (follows.woke even.kept s told ready even.stable.well even.stands) (woke_marked even.kept told ready (kept_marked s h)) }
+      record { steady = debts.steady s (Wake told ready) h.steady; marked = to_state tie (kept_woke even.kept told ready) (woke s told ready) (follows.woke even.kept s told ready even.stable.well even.stands) (woke_marked tie even.kept told ready (kept_marked s h)) }
 
-  marked_lasts : Lasts (machine_of p) IsSteadyMarked
+  pub marked_step : (s : State V) (x : Step) → IsSteadyMarked tie p s → IsSteadyMarked tie p (step p s x)
+  marked_step s (Turn lack) h = after_turn s lack s.world.words h
+  marked_step s Expire h = after_expiry s h
+  marked_step s Shut h = after_shut s h
+  marked_step s (Wake told ready) h = after_wake s told ready h
+
+  marked_lasts : Lasts (machine_of p) (IsSteadyMarked tie p)
   marked_lasts = record {
     woke = after_wake;
     none = λ s h. (follows.seen h.steady.even.kept s h.steady.even.stable.well h.steady.even.stands).next_try;
@@ -205,24 +214,32 @@ module _ {V : Type 0} (p : Program V) (law : IsLawful p) (plainly : MakesPlain p
     shut = after_shut;
   }
 
-  opening_marked : (view : V) (words : Stream) → Marked (opening_state view words).world
-  opening_marked view words = record { ranked = (omega arith, omega arith); marked = ((λ e. refl), tt); noted = tt; things = tt }
-
-  closes_well : (s : State V) → IsSteadyMarked s → ClosesWell s.world
-  closes_well s h =
+  marked_closing : (s : State V) → IsSteadyMarked tie p s → (number name : ℕ) → bundle_dead_as s.world number ≡ Some name → is_closing s.world.scopes name ≡ true
+  marked_closing s h number name e =
       let order : IsInOrder (wordless s.world) = subst IsInOrder h.steady.even.stands.world h.steady.even.stable.order in
-      let bare = same_marked s.world (wordless s.world) refl refl refl refl h.marked in
-      let closing : (number name : ℕ) → bundle_dead_as s.world number ≡ Some name → is_closing s.world.scopes name ≡ true = λ number name e. dead_closing (wordless s.world) order bare number name e in
-      record {
-        closing = closing;
-        waits = λ who number e.
-            let c = (waiting_is_for_somebody p s h.steady).closing who number e in
-            let is = closing number c.name c.dead in
-            record { name = c.name; dead = c.dead; owned = c.owned; closing = is; lived = c.lived; going = debts.goes_on s c.name h.steady is c.lived };
-      }
+      dead_closing tie (wordless s.world) order (same_marked tie s.world (wordless s.world) refl refl refl refl refl h.marked) number name e
+
+  pub closes_well : (s : State V) → IsSteadyMarked tie p s → ClosesWell s.world
+  closes_well s h = record {
+    closing = marked_closing s h;
+    waits = λ who number e.
+        let c = (waiting_is_for_somebody p s h.steady).closing who number e in
+        let is = marked_closing s h number c.name c.dead in
+        record { name = c.name; dead = c.dead; owned = c.owned; closing = is; lived = c.lived; going = debts.goes_on s c.name h.steady is c.lived };
+  }
+
+-- ---- whole runs
+
+-- the number that is never given, and the root
+abbrev no_tie : Closing
+no_tie = record { bundle = 0; number = 0 }
+
+module _ {V : Type 0} (p : Program V) (law : IsLawful p) (plainly : MakesPlain p) (keeps : KeepsWell p) (ordered : KeepsOrder p) (stays : KeepsStable p) (follows : Follows p) (debts : DebtFalls p) where
+  opening_marked : (view : V) (words : Stream) → Marked no_tie (opening_state view words).world
+  opening_marked view words = record { ranked = (omega arith, omega arith); marked = ((λ e. refl), tt); noted = tt; things = tt; tied = tt; others = tt; given = omega arith }
 
   pub runs_close_well : RunsCloseWell p
   runs_close_well view words keys traced most replies lacks halt n begins =
       let begun = opening (machine_of p) traced most (opening_state view words) keys replies lacks halt in
-      closes_well (play (machine_of p) traced most n begun).config.state
-      (lasts_over (machine_of p) IsSteadyMarked marked_lasts traced most n begun (record { steady = debts.opening view words begins; marked = opening_marked view words }))
+      closes_well no_tie p law plainly keeps ordered stays follows debts (play (machine_of p) traced most n begun).config.state
+      (lasts_over (machine_of p) (IsSteadyMarked no_tie p) (marked_lasts no_tie p law plainly keeps ordered stays follows debts) traced most n begun (record { steady = debts.opening view words begins; marked = opening_marked view words }))
