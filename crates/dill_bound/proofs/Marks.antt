@@ -1,16 +1,23 @@
 -- Each state of a run is steady and marked: the bundle of each noted closing is closing.
-use Rattle.std.proofs.Common.{◌≡◌, ℕ, zero, suc, ◌≤◌, ◌==◌, List, [], ◌∷◌, length, fold, find, Bool, true, false, cond, Option, Some, None, is_some, refl, sym, ap, subst, arith}
+use Rattle.std.proofs.Common.{◌≡◌, ◌∙◌, ℕ, zero, suc, ◌+◌, ◌≤◌, ◌<◌, ◌==◌, List, [], ◌∷◌, length, map, fold, find, Bool, true, false, cond, if◌then◌else◌, Option, Some, None, is_some, nat_le, refl, sym, ap, subst, arith}
+use Rattle.std.proofs.lemmas.Bool.Decides.{nat_tests}
+use Rattle.std.specs.List.{AllByRecursion}
 use Rattle.std.specs.Prelude.{option_and_then}
 use Rattle.rand_core.specs.Stream.{Stream}
+use Rattle.dill_calls.specs.declared.call.Call.{Call}
+use Rattle.dill_calls.specs.declared.call.Call.TheVariants as calls
 use Rattle.dill_calls.specs.declared.ran.LackPlace.{LackPlace}
 use Rattle.dill_calls.specs.Program.{Program, IsLawful}
 use Rattle.dill_kernel.specs.declared.ready.Ready.{Ready}
 use Rattle.dill_plain.specs.Plain.{MakesPlain}
+use Rattle.dill_handles.specs.declared.entry.Entry.{Entry}
 use Rattle.dill_scope.specs.declared.forest.Bundle.{Bundle}
 use Rattle.dill_scope.specs.Scopes.{as_closing, is_bundle, owner_of}
 use Rattle.dill_maps.specs.Maps.{if_some}
 use Rattle.dill_rules.specs.declared.coroutine.Closing.{Closing}
+use Rattle.dill_rules.specs.declared.thing.Thing.{Thing}
 use Rattle.dill_rules.specs.Answers.{bundle_dead_as}
+use Rattle.dill_rules.specs.Debts.{debt}
 use Rattle.dill_rules.specs.Expiring.{expire_one, passed}
 use Rattle.dill_rules.specs.Hearing.{heat_ready}
 use Rattle.dill_rules.specs.Owning.{is_dead_as}
@@ -18,7 +25,7 @@ use Rattle.dill_rules.specs.Seen.{lend, turn_seen}
 use Rattle.dill_rules.specs.Settling.{settle, settle_one, settle_within}
 use Rattle.dill_rules.specs.State.{State, expired, opening_state, shut, woke}
 use Rattle.dill_rules.specs.Turning.{answer_given, go_on}
-use Rattle.dill_rules.specs.World.{World, begin}
+use Rattle.dill_rules.specs.World.{World, begin, call_of}
 use Rattle.dill_drive.specs.ByRules.{machine_of}
 use Rattle.dill_drive.specs.Play.{opening, play}
 use Rattle.dill_kept.specs.Following.{Follows}
@@ -26,21 +33,22 @@ use Rattle.dill_kept.specs.Kept.{Kept, kept_expire_next, kept_expired, kept_late
 use Rattle.dill_kept.specs.Laws.{KeepsWell}
 use Rattle.dill_kept.specs.Plain.{wordless}
 use Rattle.dill_kept.specs.Stands.{StandsFor}
-use Rattle.dill_kept.specs.Well.{Numbered, bit}
+use Rattle.dill_kept.specs.Well.{Numbered, bit, occurs}
 use Rattle.dill_kept.proofs.Turns.{root_closed}
 use Rattle.dill_sound.specs.Laws.{is_closing, KeepsOrder}
 use Rattle.dill_sound.specs.Order.{IsInOrder}
+use Rattle.dill_sound.proofs.Lists.{occurs_found}
 use Rattle.dill_debts.specs.Closing.{IsStable}
-use Rattle.dill_debts.specs.Debts.{Step, step, DebtFalls, Turn, Expire, Shut, Wake}
+use Rattle.dill_debts.specs.Debts.{Step, Turn, Expire, Shut, Wake, step, is_turn_inside, DebtFalls}
 use Rattle.dill_debts.specs.Laws.{KeepsStable}
 use Rattle.dill_debts.specs.Steady.{IsSteady}
 use Rattle.dill_debts.proofs.Flagging.{ranked_change}
 use Rattle.dill_debts.proofs.Keeping.{IsGood, good_closed, good_expire, good_moved, good_queued, good_stable, nobody_calm, turn_is}
 use Rattle.dill_debts.proofs.Lists.{all_found, equal_number, found_passes, number_of}
 use Rattle.dill_debts.proofs.Settling.{AllSit, leads_numbered, leads_sits, pass_nothing, settle_one_leads, settle_within_leads}
-use Rattle.dill_bound.specs.Closes.{ClosesWell, RunsCloseWell}
+use Rattle.dill_bound.specs.Closes.{ClosesWell, RunsCloseWell, is_hclose_of, turns_waited, waits_in_close}
 use Rattle.dill_bound.proofs.Lasting.{Lasts, lasts_over}
-use Rattle.dill_bound.proofs.Marking.{IsMarked, Marked, all_changed, expire_one_marked, go_on_marked, same_marked, settle_one_marked, times_closed}
+use Rattle.dill_bound.proofs.Marking.{IsMarked, IsTied, IsOther, Marked, all_changed, expire_one_marked, go_on_marked, same_marked, settle_one_marked, times_closed}
 use Rattle.dill_bound.proofs.Waiting.{waiting_is_for_somebody}
 
 -- ---- steps of what a core keeps
@@ -219,14 +227,127 @@ module _ {V : Type 0} (tie : Closing) (p : Program V) (law : IsLawful p) (plainl
       let order : IsInOrder (wordless s.world) = subst IsInOrder h.steady.even.stands.world h.steady.even.stable.order in
       dead_closing tie (wordless s.world) order (same_marked tie s.world (wordless s.world) refl refl refl refl refl h.marked) number name e
 
-  pub closes_well : (s : State V) → IsSteadyMarked tie p s → ClosesWell s.world
-  closes_well s h = record {
-    closing = marked_closing s h;
-    waits = λ who number e.
-        let c = (waiting_is_for_somebody p s h.steady).closing who number e in
-        let is = marked_closing s h number c.name c.dead in
-        record { name = c.name; dead = c.dead; owned = c.owned; closing = is; lived = c.lived; going = debts.goes_on s c.name h.steady is c.lived };
-  }
+-- ---- how long an `hclose` waits
+
+bit_falls : (b : Bool) (rest now was : ℕ) → rest ≤ now → (b ≡ true → now < was) → now ≤ was → bit b + rest ≤ was
+bit_falls true rest now was l f m = let less = f refl in omega (arith, l, less)
+bit_falls false rest now was l f m = omega (arith, l, m)
+
+hclose_of : (number : ℕ) (call : Call) → is_hclose_of number call ≡ true → call ≡ calls.Hclose number
+hclose_of number (calls.Hclose closed) e = ap (λ n. calls.Hclose n) (number_of closed number e)
+hclose_of number _ e = cc
+
+module _ {V : Type 0} (w : World V) (who number : ℕ) where
+  pends_in : waits_in_close w who number ≡ true → call_of w who ≡ Some (calls.Hclose number)
+  pends_in e = at (call_of w who) e
+    where
+      at : (o : Option Call) → if_some o false (is_hclose_of number) ≡ true → o ≡ Some (calls.Hclose number)
+      at None f = cc
+      at (Some call) f = ap (λ x. Some x) (hclose_of number call f)
+
+module _ {V : Type 0} (w : World V) (number name : ℕ) where
+  -- it died with the closing of the bundle that it is tied to
+  dead_tied : (bundle : ℕ) → AllByRecursion (IsTied (record { bundle = bundle; number = number })) w.closings → bundle_dead_as w number ≡ Some name → name ≡ bundle
+  dead_tied bundle tied e = at (find (is_dead_as number) w.closings) refl e
+    where
+      at : (o : Option Closing) → find (is_dead_as number) w.closings ≡ o → if_some o None (λ x. Some x.bundle) ≡ Some name → name ≡ bundle
+      at None f g = cc
+      at (Some x) f g =
+          let same : x.bundle ≡ name = cc in
+          sym same ∙ all_found (IsTied (record { bundle = bundle; number = number })) (is_dead_as number) x w.closings f tied (number_of x.number number (found_passes (is_dead_as number) w.closings x f))
+
+-- a number that occurs at most once is noted with one bundle
+unused : (number : ℕ) (P : ℕ → Type 0) (xs : List Closing) → occurs number (map (λ x. x.number) xs) ≡ 0 → AllByRecursion (λ x. x.number ≡ number → P x.bundle) xs
+unused number P [] e = tt
+unused number P (x ∷ xs) e = ((λ f. let one : bit (x.number == number) ≡ 1 = ap bit (equal_number x.number number f) in absurd (omega (arith, e, one))), unused number P xs (omega (arith, e)))
+
+only_one : (number name : ℕ) (xs : List Closing) → if_some (find (is_dead_as number) xs) None (λ x. Some x.bundle) ≡ Some name → occurs number (map (λ x. x.number) xs) ≤ 1 → AllByRecursion (IsTied (record { bundle = name; number = number })) xs
+only_one number name [] e l = tt
+only_one number name (x ∷ xs) e l = at (x.number == number) refl e (only_one number name xs)
+  where
+    at : (b : Bool) → (x.number == number) ≡ b → if_some (cond b (Some x) (find (is_dead_as number) xs)) None (λ y. Some y.bundle) ≡ Some name
+        → (if_some (find (is_dead_as number) xs) None (λ y. Some y.bundle) ≡ Some name → occurs number (map (λ y. y.number) xs) ≤ 1 → AllByRecursion (IsTied (record { bundle = name; number = number })) xs)
+        → AllByRecursion (IsTied (record { bundle = name; number = number })) (x ∷ xs)
+    at true f g rest =
+        let same : x.bundle ≡ name = cc in
+        let one : bit (x.number == number) ≡ 1 = ap bit f in
+        ((λ h. same), unused number (λ n. n ≡ name) xs (omega (arith, l, one)))
+    at false f g rest = ((λ h. let one = equal_number x.number number h in cc), rest g (omega (arith, l)))
+
+not_live : (number name : ℕ) (es : List (Entry Thing)) → occurs number (map (λ x. x.number) es) ≡ 0 → AllByRecursion (IsOther (record { bundle = name; number = number })) es
+not_live number name [] e = tt
+not_live number name (x ∷ es) e = ((λ f. let one : bit (x.number == number) ≡ 1 = ap bit (equal_number x.number number f) in absurd (omega (arith, e, one))), not_live number name es (omega (arith, e)))
+
+below : (n m : ℕ) → nat_le n m ≡ true → n ≤ m
+below n m e = grind (arith, nat_tests)
+
+bit_most : (b : Bool) → bit b ≤ 1
+bit_most true = omega arith
+bit_most false = omega arith
+
+module _ {V : Type 0} (w : World V) (order : IsInOrder w) (number name : ℕ) where
+  abbrev tie_of : Closing
+  tie_of = record { bundle = name; number = number }
+
+  dead_noted : bundle_dead_as w number ≡ Some name → 1 ≤ occurs number (map (λ x. x.number) w.closings)
+  dead_noted e = at (find (is_dead_as number) w.closings) refl e
+    where
+      at : (o : Option Closing) → find (is_dead_as number) w.closings ≡ o → if_some o None (λ x. Some x.bundle) ≡ Some name → 1 ≤ occurs number (map (λ x. x.number) w.closings)
+      at None f g = cc
+      at (Some x) f g = occurs_found (λ (y : Closing). y.number) number w.closings x f
+
+  tied_by : (other : Closing) → bundle_dead_as w number ≡ Some name → Marked other w → Marked tie_of w
+  tied_by other e h =
+      let noted = dead_noted e in
+      let most = bit_most (nat_le number w.handles.last) in
+      let used = order.fits.numbers number in
+      record {
+        ranked = h.ranked;
+        marked = h.marked;
+        noted = h.noted;
+        things = h.things;
+        tied = only_one number name w.closings e (omega (arith, most, used));
+        others = not_live number name w.handles.entries (omega (arith, most, used, noted));
+        given = below number w.handles.last (bit_true (nat_le number w.handles.last) (omega (arith, used, noted)));
+      }
+
+module _ {V : Type 0} (p : Program V) (law : IsLawful p) (plainly : MakesPlain p) (keeps : KeepsWell p) (ordered : KeepsOrder p) (stays : KeepsStable p) (follows : Follows p) (debts : DebtFalls p) where
+  module _ (who number name : ℕ) where
+    abbrev tie : Closing
+    tie = record { bundle = name; number = number }
+
+    -- as long as it waits the bundle is closing
+    tied_closing : (s : State V) → IsSteadyMarked tie p s → waits_in_close s.world who number ≡ true → is_closing s.world.scopes name ≡ true
+    tied_closing s h e =
+        let c = (waiting_is_for_somebody p s h.steady).closing who number (pends_in s.world who number e) in
+        let same = dead_tied s.world number c.name name h.marked.tied c.dead in
+        subst (λ n. is_closing s.world.scopes n ≡ true) same (marked_closing tie p law plainly keeps ordered stays follows debts s h number c.name c.dead)
+
+    waits_within : (xs : List Step) (s : State V) → IsSteadyMarked tie p s → turns_waited p s who number name xs ≤ debt p s name
+    waits_within [] s h = omega arith
+    waits_within (x ∷ xs) s h = at (waits_in_close s.world who number) refl (waits_within xs (step p s x) (marked_step tie p law plainly keeps ordered stays follows debts s x h))
+      where
+        at : (b : Bool) → waits_in_close s.world who number ≡ b → turns_waited p (step p s x) who number name xs ≤ debt p (step p s x) name → (if b then bit (is_turn_inside s name x) + turns_waited p (step p s x) who number name xs else 0) ≤ debt p s name
+        at false e rest = omega arith
+        at true e rest =
+            let closing = tied_closing s h e in
+            bit_falls (is_turn_inside s name x) (turns_waited p (step p s x) who number name xs) (debt p (step p s x) name) (debt p s name) rest (λ i. debts.falls s x name h.steady closing i) (debts.no_more s x name h.steady closing)
+
+  closes_well : (tie : Closing) (s : State V) → IsSteadyMarked tie p s → ClosesWell p s
+  closes_well tie s h =
+      let order : IsInOrder (wordless s.world) = subst IsInOrder h.steady.even.stands.world h.steady.even.stable.order in
+      let bare = same_marked tie s.world (wordless s.world) refl refl refl refl refl h.marked in
+      let closing = marked_closing tie p law plainly keeps ordered stays follows debts s h in
+      record {
+        closing = closing;
+        waits = λ who number e.
+            let c = (waiting_is_for_somebody p s h.steady).closing who number e in
+            let is = closing number c.name c.dead in
+            record { name = c.name; dead = c.dead; owned = c.owned; closing = is; lived = c.lived; going = debts.goes_on s c.name h.steady is c.lived };
+        within = λ who number name e xs.
+            let tied = tied_by (wordless s.world) order number name tie e bare in
+            waits_within who number name xs s (record { steady = h.steady; marked = same_marked (record { bundle = name; number = number }) (wordless s.world) s.world refl refl refl refl refl tied });
+      }
 
 -- ---- whole runs
 
@@ -241,5 +362,5 @@ module _ {V : Type 0} (p : Program V) (law : IsLawful p) (plainly : MakesPlain p
   pub runs_close_well : RunsCloseWell p
   runs_close_well view words keys traced most replies lacks halt n begins =
       let begun = opening (machine_of p) traced most (opening_state view words) keys replies lacks halt in
-      closes_well no_tie p law plainly keeps ordered stays follows debts (play (machine_of p) traced most n begun).config.state
+      closes_well p law plainly keeps ordered stays follows debts no_tie (play (machine_of p) traced most n begun).config.state
       (lasts_over (machine_of p) (IsSteadyMarked no_tie p) (marked_lasts no_tie p law plainly keeps ordered stays follows debts) traced most n begun (record { steady = debts.opening view words begins; marked = opening_marked view words }))

@@ -72,7 +72,8 @@ pub fn bundles_go_empty<B: PlainBody>()
 }
 
 /// In each state of a run whoever is pending in `hclose` waits for a bundle that is closing, in which somebody lives and
-/// somebody has an answer: so it is answered once those inside the bundle have made at most as many turns as its debt.
+/// somebody has an answer. As long as it waits those inside the bundle take at most as many turns as the bundle's debt,
+/// whatever the steps are: so a bundle closes in a bounded number of its own turns.
 pub fn runs_close_well<B: PlainBody>()
     ensures { RunsCloseWell B.means }
 {
