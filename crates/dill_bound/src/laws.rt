@@ -58,8 +58,8 @@ pub fn runs_end<B: PlainBody>()
 }
 
 /// In a steady state whoever is pending in `hclose` has begun to close a bundle in which somebody lives, whoever is
-/// pending in `bundle_wait` waits for such a bundle, and whoever is ending owns one: so they wait no longer than up to the
-/// step in which the last one of the bundle goes.
+/// pending in `bundle_wait` names no bundle that is empty, and whoever is ending owns a bundle in which somebody lives: so
+/// they wait no longer than up to the step in which the last one of the bundle goes.
 pub fn waiting_is_for_somebody<B: PlainBody>()
     ensures { WaitingIsForSomebody B.means }
 {}

@@ -1,4 +1,5 @@
-//! That the turns after a stop are few: at most what is owed once the root is closed. Definitions and laws; it holds no code.
+//! What the laws of closing say of whole runs: their states are steady, an `hclose` waits for few turns, and the turns
+//! after a stop are few, at most what is owed once the root is closed. Definitions and laws; it holds no code.
 #![tactic(auto)]
 
 mod laws;
