@@ -9,3 +9,5 @@ pub mod Steadying
 pub mod Waiting
 pub mod Ended
 pub mod Going
+pub mod Marking
+pub mod Marks

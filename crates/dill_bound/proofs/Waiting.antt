@@ -128,6 +128,7 @@ module _ {V : Type 0} (w : World V) (order : IsInOrder w) (settled : IsSettled w
       let second = or_none (when (lost_its_number w call) _) (when_empty w (bundle_named w number)) first.1 in
       record {
         going = none_when (is_cancelled w who) _ first.0;
+        live = none_when (lost_its_number w call) _ second.0;
         lived = λ name f. none_when (is_empty w.scopes name) _ (ap (when_empty w) (sym f) ∙ second.1);
       }
 
@@ -139,7 +140,7 @@ module _ {V : Type 0} where
   worded : (w : World V) → WaitsForSomebody (wordless w) → WaitsForSomebody w
   worded w h = record {
     closing = λ who number e. let c = h.closing who number e in record { name = c.name; dead = c.dead; owned = c.owned; lived = c.lived };
-    awaiting = λ who number deadline e. let c = h.awaiting who number deadline e in record { going = c.going; lived = c.lived };
+    awaiting = λ who number deadline e. let c = h.awaiting who number deadline e in record { going = c.going; live = c.live; lived = c.lived };
     ending = λ who c outcome e f. let d = h.ending who c outcome e f in record { name = d.name; owned = d.owned; lived = d.lived };
   }
 

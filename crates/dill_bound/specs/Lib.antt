@@ -3,3 +3,4 @@ pub mod States
 pub mod Waits
 pub mod Ends
 pub mod Goes
+pub mod Closes

@@ -8,6 +8,7 @@ use Rattle.dill_scope.specs.Scopes.{is_empty, owner_of}
 use Rattle.dill_rules.specs.declared.coroutine.Coroutine.{Coroutine}
 use Rattle.dill_rules.specs.declared.coroutine.Mode.TheVariants as modes
 use Rattle.dill_rules.specs.Answers.{bundle_dead_as}
+use Rattle.dill_rules.specs.Kinds.{is_dead}
 use Rattle.dill_rules.specs.State.{State}
 use Rattle.dill_rules.specs.Taking.{bundle_named, is_cancelled}
 use Rattle.dill_rules.specs.World.{World, call_of, coroutine_of}
@@ -21,9 +22,10 @@ module _ {V : Type 0} where
     pub owned : owner_of w.scopes name ≡ Some who
     pub lived : is_empty w.scopes name ≡ false
 
-  -- Nobody has cancelled this coroutine, and somebody lives in the bundle that a number names, if it names one.
+  -- Nobody has cancelled this coroutine, the number is live, and if it names a bundle somebody lives in that.
   pub record AwaitsLived (w : World V) (who number : ℕ) : Type 0 where
     pub going : is_cancelled w who ≡ false
+    pub live : is_dead w number ≡ false
     pub lived : (name : ℕ) → bundle_named w number ≡ Some name → is_empty w.scopes name ≡ false
 
   -- This coroutine owns a bundle in which somebody lives.

@@ -1,4 +1,5 @@
 ghost use Rattle.dill_bound.specs.Bound.{ClosingIsBounded, RunsAreBounded, StoppedRunsEnd};
+ghost use Rattle.dill_bound.specs.Closes.{RunsCloseWell};
 ghost use Rattle.dill_bound.specs.Ends.{RunsEnd};
 ghost use Rattle.dill_bound.specs.Goes.{BundlesGoEmpty};
 ghost use Rattle.dill_bound.specs.States.{RunsAreSteady};
@@ -7,6 +8,7 @@ ghost use Rattle.dill_bound.specs.Waits.{WaitingIsForSomebody};
 use dill_debts::{debts_fall, root_debt_falls, steps_keep_stable};
 use dill_kept::{follows_states, steps_keep_well};
 use dill_plain::PlainBody;
+use dill_sound::steps_keep_order;
 
 /// Once a run has stopped no more turns are made than are owed: a summary's `closing` is at most what is owed of what a
 /// core keeps once the root is closed, whatever comes from outside.
@@ -56,8 +58,8 @@ pub fn runs_end<B: PlainBody>()
 }
 
 /// In a steady state whoever is pending in `hclose` has begun to close a bundle in which somebody lives, whoever is
-/// pending in `bundle_wait` waits for such a bundle, and whoever is ending owns one: so they wait no longer than up to the
-/// step in which the last one of the bundle goes.
+/// pending in `bundle_wait` names no bundle that is empty, and whoever is ending owns a bundle in which somebody lives: so
+/// they wait no longer than up to the step in which the last one of the bundle goes.
 pub fn waiting_is_for_somebody<B: PlainBody>()
     ensures { WaitingIsForSomebody B.means }
 {}
@@ -66,5 +68,18 @@ pub fn waiting_is_for_somebody<B: PlainBody>()
 pub fn bundles_go_empty<B: PlainBody>()
     ensures { BundlesGoEmpty B.means }
 {
+    debts_fall::<B>();
+}
+
+/// In each state of a run whoever is pending in `hclose` waits for a bundle that is closing, in which somebody lives and
+/// somebody has an answer. As long as it waits those inside the bundle take at most as many turns as the bundle's debt,
+/// whatever the steps are: so a bundle closes in a bounded number of its own turns.
+pub fn runs_close_well<B: PlainBody>()
+    ensures { RunsCloseWell B.means }
+{
+    steps_keep_well::<B>();
+    steps_keep_order::<B>();
+    steps_keep_stable::<B>();
+    follows_states::<B>();
     debts_fall::<B>();
 }

@@ -1,6 +1,7 @@
 -- The laws of runs, of the runs of scripts.
 use Rattle.dill_drive.specs.ByRules.{machine_of}
 use Rattle.dill_bound.specs.Bound.{RunsAreBounded}
+use Rattle.dill_bound.specs.Closes.{RunsCloseWell}
 use Rattle.dill_bound.specs.Ends.{RunsEnd}
 use Rattle.dill_bound.specs.States.{RunsAreSteady}
 use Rattle.dill_bound.specs.Waits.{WaitingIsForSomebody}
@@ -11,14 +12,15 @@ use Rattle.relay_body.specs.Running.{running}
 use Rattle.relay_laws.specs.Beginning.{ScriptsBegin}
 use Rattle.relay_laws.specs.Runs.{ScriptsEnd}
 
-pub ends : ScriptsBegin → RunsAreSteady running → RunsAreBounded running → RunsEnd running → WaitingIsForSomebody running → ScriptsEnd
-ends begin steady bounded ended waits text script reads words keys traced most replies lacks halt n =
+pub ends : ScriptsBegin → RunsAreSteady running → RunsAreBounded running → RunsEnd running → WaitingIsForSomebody running → RunsCloseWell running → ScriptsEnd
+ends begin steady bounded ended waits closes text script reads words keys traced most replies lacks halt n =
     let b = (begin text script reads).begins in
     let view = main_of script in
     let still = steady view words keys traced most replies lacks halt n b in
     record {
       steady = still;
       waits = waits (play (machine_of running) traced most n (opening (machine_of running) traced most (opening_state view words) keys replies lacks halt)).config.state still;
+      closes = closes view words keys traced most replies lacks halt n b;
       bounded = bounded view words keys traced most replies lacks halt n b;
       ends = ended view words keys traced most replies lacks halt n b;
     }

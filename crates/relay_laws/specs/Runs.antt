@@ -7,6 +7,7 @@ use Rattle.dill_drive.specs.ByRules.{machine_of}
 use Rattle.dill_drive.specs.Play.{Lack, Playing, opening, play}
 use Rattle.dill_debts.specs.Steady.{IsSteady}
 use Rattle.dill_bound.specs.Bound.{StopsWithin, stepped}
+use Rattle.dill_bound.specs.Closes.{ClosesWell}
 use Rattle.dill_bound.specs.Ends.{EndsWell, StopsAt}
 use Rattle.dill_bound.specs.Waits.{WaitsForSomebody}
 use Rattle.dill_meaning.specs.Views.{ScriptView, main_of}
@@ -15,10 +16,11 @@ use Rattle.dill_script.specs.Reading.{script_with}
 use Rattle.relay_body.specs.Running.{running}
 use Rattle.relay_reader.specs.Built.{is_built_so_far}
 
--- A run after so many steps. Its state is steady, and whoever waits for a bundle to be empty waits for somebody who lives in it. Turns after a stop are at most the debt of the root at that stop, and where the next step closes the open root the run ends within that debt.
+-- A run after so many steps. Its state is steady, whoever waits for a bundle to be empty waits for somebody who lives in it, and whoever waits in `hclose` for a bundle that is closing, in which somebody goes on, and which closes within its debt. Turns after a stop are at most the debt of the root at that stop, and where the next step closes the open root the run ends within that debt.
 pub record RunsWell (traced : Bool) (most : ℕ) (begun : Playing (State ScriptView)) (n : ℕ) : Type 0 where
   pub steady : IsSteady running (play (machine_of running) traced most n begun).config.state
   pub waits : WaitsForSomebody (play (machine_of running) traced most n begun).config.state.world
+  pub closes : ClosesWell running (play (machine_of running) traced most n begun).config.state
   pub bounded : ((play (machine_of running) traced most n begun).config.tally.closing ≡ 0) ⊎ StopsWithin running traced most begun (play (machine_of running) traced most n begun).config.tally.closing
   pub ends : StopsAt running traced most begun n → EndsWell running traced most (stepped running traced most begun n)
 

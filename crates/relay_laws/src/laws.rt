@@ -3,7 +3,9 @@ ghost use Rattle.relay_body.specs.Running.{running};
 ghost use Rattle.relay_laws.specs.Beginning.{ScriptsBegin};
 ghost use Rattle.relay_laws.specs.Runs.{ScriptsEnd};
 
-use dill_bound::{runs_are_bounded, runs_are_steady, runs_end, waiting_is_for_somebody};
+use dill_bound::{
+    runs_are_bounded, runs_are_steady, runs_close_well, runs_end, waiting_is_for_somebody,
+};
 use dill_debts::debts_fall;
 use dill_meaning::scripts_are_lawful;
 use dill_script::script_laws;
@@ -28,5 +30,6 @@ pub fn scripts_end()
     runs_are_steady::<ScriptBody>();
     runs_are_bounded::<ScriptBody>();
     runs_end::<ScriptBody>();
+    runs_close_well::<ScriptBody>();
     waiting_is_for_somebody::<ScriptBody>();
 }
