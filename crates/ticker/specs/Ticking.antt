@@ -1,5 +1,5 @@
 -- A program that sleeps so many times, 10 milliseconds each, and ends: what it does, and that it keeps the law of programs.
-use Rattle.std.proofs.Common.{◌≡◌, ◌≤◌, ◌<◌, ◌+◌, ℕ, zero, suc, Bool, true, false, ◌&&◌, Some, None, nat_le, nat_lt, if◌then◌else◌, refl, arith}
+use Rattle.std.proofs.Common.{◌≡◌, ◌≤◌, ◌<◌, ◌+◌, ℕ, zero, suc, Bool, true, false, ◌&&◌, ◌==◌, Some, None, nat_le, nat_lt, if◌then◌else◌, refl, arith}
 use Rattle.std.proofs.lemmas.Bool.Decides.{nat_tests}
 use Rattle.dill_base.specs.declared.deadline.Deadline.TheVariants.{After}
 use Rattle.dill_calls.specs.declared.answer.Answer.{Answer}
@@ -36,7 +36,7 @@ said view = if view.begun then words.Msleep else words.Start
 abbrev pub is_real : View → Bool
 is_real view = nat_le view.to_come view.all && nat_lt view.all 4294967295
 
--- it starts no other program, and takes no memory for its calls
+-- Its own program is the only one, number 0, and takes no arguments. Its calls take no memory to be built.
 abbrev pub ticking : Program View
 ticking = record {
   real = is_real;
@@ -45,8 +45,8 @@ ticking = record {
   said = said;
   left = λ view. view.to_come + 1;
   most = λ view. view.all + 1;
-  knows = λ view program args. false;
-  child = λ view program args. view;
+  knows = λ view program args. (program == 0) && (args == 0);
+  child = λ view program args. starting view.all;
 }
 
 record Bounds (view : View) : Type 0 where
@@ -96,7 +96,7 @@ ticking_is_lawful = record {
   small = λ view real. let b = bounds view real in omega (arith, b.small);
   within = λ view real some. let b = bounds view real in omega (arith, b.less);
   moves = λ view answer real some. moves view answer real;
-  child = λ view program args real known. cc;
+  child = λ view program args real known. let b = bounds view real in record { real = real_of view.all view.all false (omega arith) b.small; start = refl; some = omega arith; whole = refl };
 }
 
 sleep_plain : (view : View) (n : ℕ) → MovesPlain (next_sleep view n)

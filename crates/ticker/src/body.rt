@@ -58,13 +58,13 @@ impl Body for Ticker {
         Next::Call(Call::Msleep(Deadline::After(10)))
     }
 
-    /// It starts no other program.
-    fn knows(&self, _program: u32, _args: usize) -> bool {
-        false
+    /// Its own program is the only one, number 0, and takes no arguments.
+    fn knows(&self, program: u32, args: usize) -> bool {
+        program == 0 && args == 0
     }
 
     fn child(&self, _program: u32, _args: &[u64]) -> Result<Ticker, NoMemory> {
-        Err(NoMemory)
+        Ok(Ticker::new(self.all))
     }
 
     fn left(&self) -> u64 {
