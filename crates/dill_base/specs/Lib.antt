@@ -2,6 +2,7 @@ pub mod Causes
 pub mod Errnos
 pub mod MemShelf
 pub mod MemSink
+pub mod Maps
 pub mod Moments
 pub mod Reading
 pub mod Shelves

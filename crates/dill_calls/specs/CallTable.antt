@@ -200,24 +200,24 @@ takes_memory words.WsDetach = true
 takes_memory _ = false
 
 -- the program needs memory to build the call: it has bytes, arguments or clauses
-abbrev pub is_built : Word → Bool
-is_built words.Print = true
-is_built words.Set = true
-is_built words.Join = true
-is_built words.Go = true
-is_built words.BundleGo = true
-is_built words.Chsend = true
-is_built words.Choose = true
-is_built words.Bsend = true
-is_built words.Msend = true
-is_built words.SuffixAttach = true
-is_built words.TermAttach = true
-is_built words.HttpSendrequest = true
-is_built words.HttpSendstatus = true
-is_built words.HttpSendfield = true
-is_built words.WsAttachClient = true
-is_built words.WsDetach = true
-is_built _ = false
+abbrev pub build_takes_memory : Word → Bool
+build_takes_memory words.Print = true
+build_takes_memory words.Set = true
+build_takes_memory words.Join = true
+build_takes_memory words.Go = true
+build_takes_memory words.BundleGo = true
+build_takes_memory words.Chsend = true
+build_takes_memory words.Choose = true
+build_takes_memory words.Bsend = true
+build_takes_memory words.Msend = true
+build_takes_memory words.SuffixAttach = true
+build_takes_memory words.TermAttach = true
+build_takes_memory words.HttpSendrequest = true
+build_takes_memory words.HttpSendstatus = true
+build_takes_memory words.HttpSendfield = true
+build_takes_memory words.WsAttachClient = true
+build_takes_memory words.WsDetach = true
+build_takes_memory _ = false
 
 -- the handle that a call names first
 abbrev pub named_by : Call → Option ℕ
@@ -318,3 +318,22 @@ answer_form (answers.Two first second) = Some TwoBytes
 answer_form (answers.Coded code bytes) = Some CodeAndBytes
 answer_form (answers.Chosen index fault bytes) = Some Choice
 answer_form (answers.Fault errno) = None
+
+-- What is built so far: the calls of printing, time, coroutines and handles, and the statements that keep bytes. Channels, links and layers follow.
+abbrev pub is_built : Word → Bool
+is_built words.Start = true
+is_built words.Set = true
+is_built words.Join = true
+is_built words.Print = true
+is_built words.Now = true
+is_built words.Yield = true
+is_built words.Msleep = true
+is_built words.Hmake = true
+is_built words.Hquery = true
+is_built words.Hown = true
+is_built words.Hclose = true
+is_built words.Bundle = true
+is_built words.Go = true
+is_built words.BundleGo = true
+is_built words.BundleWait = true
+is_built _ = false

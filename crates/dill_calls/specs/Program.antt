@@ -10,7 +10,7 @@ use Rattle.dill_calls.specs.declared.call.Call.{Call}
 use Rattle.dill_calls.specs.declared.call.Call.TheVariants.{Pass}
 use Rattle.dill_calls.specs.declared.word.Word.{Word}
 use Rattle.dill_calls.specs.declared.word.Word.TheVariants.{Set, Join}
-use Rattle.dill_calls.specs.CallTable.{word_of, is_start, is_quiet, is_built}
+use Rattle.dill_calls.specs.CallTable.{word_of, is_start, is_quiet, build_takes_memory}
 
 -- what a program does once it has its answer
 pub data Move : Type 0 where
@@ -80,5 +80,5 @@ moved_word (Ends outcome) = None
 -- a body went on as its program says, or memory for its call was refused, where that takes any
 abbrev pub Turns : {V : Type 0} → Program V → V → Answer → V → Next → Type 0
 Turns p old answer new (nexts.Call call) = p.next old answer ≡ (new, Calls call)
-Turns p old answer new (nexts.Lack word) = (is_built word ≡ true) × (moved_word (p.next old answer).1 ≡ Some word) × (new ≡ p.short old answer)
+Turns p old answer new (nexts.Lack word) = (build_takes_memory word ≡ true) × (moved_word (p.next old answer).1 ≡ Some word) × (new ≡ p.short old answer)
 Turns p old answer new (nexts.End outcome) = p.next old answer ≡ (new, Ends outcome)

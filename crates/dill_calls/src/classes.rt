@@ -1,5 +1,5 @@
 ghost use Rattle.std.specs.Prelude.{◌≡◌};
-ghost use Rattle.dill_calls.specs.CallTable.{word_of, blocks, makes, takes, gives_up, draws, is_quiet, takes_memory, named_by, deadline_of};
+ghost use Rattle.dill_calls.specs.CallTable.{word_of, blocks, makes, takes, gives_up, draws, is_quiet, takes_memory, is_built, named_by, deadline_of};
 
 use crate::{Call, Word};
 use dill_base::Deadline;
@@ -171,6 +171,30 @@ impl Word {
                 | Word::WsAttachServer
                 | Word::WsAttachNohttp
                 | Word::WsDetach
+        )
+    }
+
+    /// Whether it is built so far.
+    pub fn is_built(self) -> bool
+        ensures { result ≡ is_built self }
+    {
+        matches!(
+            self,
+            Word::Start
+                | Word::Set
+                | Word::Join
+                | Word::Print
+                | Word::Now
+                | Word::Yield
+                | Word::Msleep
+                | Word::Hmake
+                | Word::Hquery
+                | Word::Hown
+                | Word::Hclose
+                | Word::Bundle
+                | Word::Go
+                | Word::BundleGo
+                | Word::BundleWait
         )
     }
 }

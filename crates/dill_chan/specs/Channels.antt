@@ -1,6 +1,6 @@
 -- Channels: the ends that are live, and the clauses that wait at them in the order of waiting.
 use Rattle.std.specs.Prelude.{ℕ, ◌+◌, ◌==◌, List, [], ◌∷◌, ◌++◌, filter, find, Bool, true, false, not, Option, option_map, is_some}
-use Rattle.dill_maps.specs.Maps.{if_some, change, without}
+use Rattle.dill_base.specs.Maps.{if_some, change, without}
 use Rattle.dill_chan.specs.declared.end.End.{End}
 use Rattle.dill_chan.specs.declared.end.Wait.{Wait}
 

@@ -3,7 +3,7 @@ use Rattle.std.specs.Prelude.{ℕ, ◌==◌, List, [], ◌∷◌, length, filter
 use Rattle.dill_base.specs.declared.errno.Errno.TheVariants.{Emsgsize}
 use Rattle.dill_calls.specs.declared.answer.Answer.{Answer}
 use Rattle.dill_calls.specs.declared.answer.Answer.TheVariants.{Number, Bytes, Fault}
-use Rattle.dill_maps.specs.Maps.{if_some}
+use Rattle.dill_base.specs.Maps.{if_some}
 use Rattle.dill_chan.specs.declared.end.Wait.{Wait}
 use Rattle.dill_chan.specs.declared.end.Want.{Want}
 use Rattle.dill_chan.specs.declared.end.Want.TheVariants.{Send, Recv}

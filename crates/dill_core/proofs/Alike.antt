@@ -7,12 +7,12 @@ use Rattle.dill_rules.specs.Links.{Links, no_links}
 use Rattle.dill_rules.specs.Seen.{turn_seen}
 use Rattle.dill_rules.specs.State.{State, opening_state, expired, shut, woke}
 use Rattle.dill_rules.specs.World.{World, Place, at_start}
-use Rattle.dill_kept.specs.Following.{Follows}
-use Rattle.dill_kept.specs.Kept.{Kept, opening_kept, kept_turn, kept_expired, kept_shut, kept_woke}
-use Rattle.dill_kept.specs.Laws.{KeepsWell}
-use Rattle.dill_kept.specs.Plain.{no_words, IsPlain}
-use Rattle.dill_kept.specs.Stands.{StandsFor}
-use Rattle.dill_kept.specs.Well.{IsWell}
+use Rattle.laws_queue.specs.Following.{Follows}
+use Rattle.laws_queue.specs.Kept.{Kept, opening_kept, kept_turn, kept_expired, kept_shut, kept_woke}
+use Rattle.laws_queue.specs.Laws.{KeepsWell}
+use Rattle.laws_queue.specs.Plain.{no_random, IsPlain}
+use Rattle.laws_queue.specs.Stands.{StandsFor}
+use Rattle.laws_queue.specs.Well.{IsWell}
 use Rattle.dill_drive.specs.ByRules.{machine_of}
 use Rattle.dill_drive.proofs.Alike.{Alike}
 use Rattle.dill_world.specs.Store.{world_of}
@@ -20,15 +20,15 @@ use Rattle.dill_core.specs.CoreMachine.{core_machine}
 use Rattle.dill_core.specs.Holding.{Holding, kept_of, held_of, store_of}
 
 module _ {V : Type 0} where
-  -- a plain world without random words is stored whole
-  stored_world : (w : World V) → IsPlain w → w.words ≡ no_words → world_of (store_of w) ≡ w
-  stored_world w plain words =
-      let made : Channels → Links → Place → List ℕ → Stream → World V = λ c l p o u. record w { channels = c; links = l; place = p; wrote = o; words = u } in
-      ap (λ c. made c no_links at_start [] no_words) (sym plain.channels)
-      ∙ ap (λ l. made w.channels l at_start [] no_words) (sym plain.links)
-      ∙ ap (λ p. made w.channels w.links p [] no_words) (sym plain.place)
-      ∙ ap (λ o. made w.channels w.links w.place o no_words) (sym plain.wrote)
-      ∙ ap (λ u. made w.channels w.links w.place w.wrote u) (sym words)
+  -- a plain world without random numbers is stored whole
+  stored_world : (w : World V) → IsPlain w → w.random ≡ no_random → world_of (store_of w) ≡ w
+  stored_world w plain random =
+      let made : Channels → Links → Place → List ℕ → Stream → World V = λ c l p o u. record w { channels = c; links = l; place = p; wrote = o; random = u } in
+      ap (λ c. made c no_links at_start [] no_random) (sym plain.channels)
+      ∙ ap (λ l. made w.channels l at_start [] no_random) (sym plain.links)
+      ∙ ap (λ p. made w.channels w.links p [] no_random) (sym plain.place)
+      ∙ ap (λ o. made w.channels w.links w.place o no_random) (sym plain.wrote)
+      ∙ ap (λ u. made w.channels w.links w.place w.wrote u) (sym random)
 
 module _ {V : Type 0} (p : Program V) where
   -- a core stands for the state for which what it keeps does
@@ -38,8 +38,8 @@ module _ {V : Type 0} (p : Program V) where
   -- what is kept well and stands for a state is held whole
   held : (k : Kept V) (s : State V) → IsWell p k → StandsFor k s → Stands (held_of k) s
   held k s well stands =
-      let words : k.world.words ≡ no_words = ap (λ (w : World V). w.words) stands.world in
-      let whole : kept_of (held_of k) ≡ k = ap (λ (w : World V). record k { world = w }) (stored_world k.world well.plain words) in
+      let random : k.world.random ≡ no_random = ap (λ (w : World V). w.random) stands.world in
+      let whole : kept_of (held_of k) ≡ k = ap (λ (w : World V). record k { world = w }) (stored_world k.world well.plain random) in
       (subst (IsWell p) (sym whole) well, subst (λ (l : Kept V). StandsFor l s) (sym whole) stands)
 
   module _ (keeps : KeepsWell p) (follows : Follows p) where
@@ -57,7 +57,7 @@ module _ {V : Type 0} (p : Program V) where
       ran = λ h s lack (well, stands) on may. (follows.seen (kept_of h) s well stands).ran lack;
       turn = λ h s lack keys (well, stands) on may. (
         held (kept_turn p lack (kept_of h)) (turn_seen p s lack keys).0 (keeps.turned (kept_of h) lack well) (follows.turned (kept_of h) s lack keys well stands),
-        follows.words (kept_of h) s lack keys well stands,
+        follows.random (kept_of h) s lack keys well stands,
       );
       shut = λ h s (well, stands). held (kept_shut (kept_of h)) (shut s) (keeps.shut (kept_of h) well) (follows.shut (kept_of h) s well stands);
       notes = λ h s (well, stands). (follows.seen (kept_of h) s well stands).notes;
@@ -67,5 +67,5 @@ module _ {V : Type 0} (p : Program V) where
     }
 
     -- before the first turn
-    pub stands_first : (h : Holding V) (view : V) (words : Stream) → Begins p view → kept_of h ≡ opening_kept view → Stands h (opening_state view words)
-    stands_first h view words begins is = (subst (IsWell p) (sym is) (keeps.opening view begins), subst (λ (k : Kept V). StandsFor k (opening_state view words)) (sym is) (follows.opening view words))
+    pub stands_first : (h : Holding V) (view : V) (random : Stream) → Begins p view → kept_of h ≡ opening_kept view → Stands h (opening_state view random)
+    stands_first h view random begins is = (subst (IsWell p) (sym is) (keeps.opening view begins), subst (λ (k : Kept V). StandsFor k (opening_state view random)) (sym is) (follows.opening view random))

@@ -2,10 +2,10 @@
 use Rattle.std.proofs.Common.{◌≡◌, ◌<◌, ◌≤◌, ◌^◌, true, Option, sym, subst}
 use Rattle.dill_calls.specs.declared.ran.LackPlace.{LackPlace}
 use Rattle.dill_calls.specs.Program.{Program}
-use Rattle.dill_kept.specs.Kept.{Kept, has_answer, kept_turn, kept_shut}
-use Rattle.dill_debts.specs.Closing.{IsStable, IsClosing}
-use Rattle.dill_debts.specs.Laws.{EndsClosing}
-use Rattle.dill_debts.specs.Owed as owing
+use Rattle.laws_queue.specs.Kept.{Kept, has_answer, kept_turn, kept_shut}
+use Rattle.laws_debt.specs.Closing.{IsStable, IsClosing}
+use Rattle.laws_debt.specs.Laws.{EndsClosing}
+use Rattle.laws_debt.specs.Owed as owing
 use Rattle.dill_core.specs.Ending.{IsEnding, owed}
 use Rattle.dill_core.specs.Holding.{Holding, kept_of}
 

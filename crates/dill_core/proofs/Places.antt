@@ -5,11 +5,11 @@ use Rattle.dill_calls.specs.Program.{Program}
 use Rattle.dill_scope.specs.Scopes as scopes
 use Rattle.dill_rules.specs.State.{lined, fresh}
 use Rattle.dill_rules.specs.World.{World, begin, from_start, opening}
-use Rattle.dill_kept.specs.Kept.{Kept, opening_kept, queued, has_answer}
-use Rattle.dill_kept.specs.Laws.{HasPlaces}
-use Rattle.dill_kept.specs.Plain.{no_words}
-use Rattle.dill_kept.specs.Well.{IsWell}
-use Rattle.dill_debts.specs.Closing.{IsStable}
+use Rattle.laws_queue.specs.Kept.{Kept, opening_kept, queued, has_answer}
+use Rattle.laws_queue.specs.Laws.{HasPlaces}
+use Rattle.laws_queue.specs.Plain.{no_random}
+use Rattle.laws_queue.specs.Well.{IsWell}
+use Rattle.laws_debt.specs.Closing.{IsStable}
 use Rattle.dill_world.specs.Store.{Store, world_of}
 use Rattle.dill_core.specs.Holding.{Holding, kept_of, IsHeld}
 use Rattle.dill_core.proofs.Queue.{first_queued}
@@ -67,8 +67,8 @@ module _ {V : Type 0} where
   held_as p h k places same stable room = record { stable = subst (IsStable p) (sym same) stable; room = room }
 
   -- what is held before the first turn
-  pub opened_held : (p : Program V) (s : Store V) (ready : List ℕ) (view : V) (places : ℕ) → world_of s ≡ opening view no_words → ready ≡ 1 ∷ [] → IsStable p (opening_kept view) → 1 ≤ places → IsHeld p (record { world = s; ready = ready; early = 0 }) places
+  pub opened_held : (p : Program V) (s : Store V) (ready : List ℕ) (view : V) (places : ℕ) → world_of s ≡ opening view no_random → ready ≡ 1 ∷ [] → IsStable p (opening_kept view) → 1 ≤ places → IsHeld p (record { world = s; ready = ready; early = 0 }) places
   opened_held p s ready view places w r stable room =
       let made : World V → List ℕ → Kept V = λ v ns. record { world = v; ready = ns; early = 0 } in
-      held_as p (record { world = s; ready = ready; early = 0 }) (opening_kept view) places (ap (λ (v : World V). made v ready) w ∙ ap (made (opening view no_words)) r) stable
+      held_as p (record { world = s; ready = ready; early = 0 }) (opening_kept view) places (ap (λ (v : World V). made v ready) w ∙ ap (made (opening view no_random)) r) stable
       (let same = ap (λ (v : World V). length v.coroutines) w in omega (arith, same, room))

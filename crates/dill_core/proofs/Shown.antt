@@ -2,12 +2,12 @@
 use Rattle.std.proofs.Common.{◌≡◌, ◌∙◌, ℕ, List, ◌∷◌, Bool, true, false, Option, Some, None, if◌then◌else◌, refl, ap}
 use Rattle.dill_calls.specs.declared.ran.LackPlace.{LackPlace}
 use Rattle.dill_calls.specs.Program.{Program}
-use Rattle.dill_maps.specs.Maps.{if_some}
+use Rattle.dill_base.specs.Maps.{if_some}
 use Rattle.dill_rules.specs.declared.coroutine.Coroutine.{Coroutine}
 use Rattle.dill_rules.specs.Seen.{nobody}
 use Rattle.dill_rules.specs.Turning.{shown, may_lack_move, move_of, lack_met}
 use Rattle.dill_rules.specs.World.{coroutine_of}
-use Rattle.dill_kept.specs.Kept.{kept_ran, shown_first, may_lack_first}
+use Rattle.laws_queue.specs.Kept.{kept_ran, shown_first, may_lack_first}
 use Rattle.dill_drive.specs.Machine.{may_be}
 use Rattle.dill_core.specs.CoreMachine.{core_machine}
 use Rattle.dill_core.specs.Holding.{Holding, kept_of}

@@ -6,15 +6,15 @@ use Rattle.dill_calls.specs.declared.call.Call.{Call}
 use Rattle.dill_calls.specs.declared.call.Call.TheVariants as calls
 use Rattle.dill_calls.specs.CallTable.{word_of}
 use Rattle.dill_kernel.specs.declared.ready.Limit.TheVariants.{NoWait}
-use Rattle.dill_maps.specs.Maps.{if_some}
+use Rattle.dill_base.specs.Maps.{if_some}
 use Rattle.dill_rules.specs.declared.coroutine.Coroutine.{Coroutine}
 use Rattle.dill_rules.specs.Naming.{uses_link}
 use Rattle.dill_rules.specs.Trying.{Try, tries}
 use Rattle.dill_rules.specs.Waiting.{Waiter, waiter_of, until, least_due, has_close, awaits_link}
 use Rattle.dill_rules.specs.World.{pending_call}
-use Rattle.dill_kept.specs.Kept.{Kept, has_answer, kept_limit, kept_stuck}
-use Rattle.dill_kept.specs.Plain.{may_wait, waits_plainly, IsPlain}
-use Rattle.dill_kept.proofs.Following.{tries_none, closes_none}
+use Rattle.laws_queue.specs.Kept.{Kept, has_answer, kept_limit, kept_stuck}
+use Rattle.laws_queue.specs.Plain.{may_wait, waits_plainly, IsPlain}
+use Rattle.laws_queue.proofs.Following.{tries_none, closes_none}
 
 both : (a b : Bool) → (a && b) ≡ true → (a ≡ true) × (b ≡ true)
 both true b e = (refl, e)

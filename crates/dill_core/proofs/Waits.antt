@@ -8,7 +8,7 @@ use Rattle.dill_calls.specs.CallTable.{word_of}
 use Rattle.dill_rules.specs.declared.coroutine.Coroutine.{Coroutine}
 use Rattle.dill_rules.specs.Waiting.{Waiter, waiter_of}
 use Rattle.dill_rules.specs.World.{pending_call}
-use Rattle.dill_kept.specs.Well.{Numbered}
+use Rattle.laws_queue.specs.Well.{Numbered}
 use Rattle.dill_drive.specs.Waiting.{next_above, Rises}
 use Rattle.dill_steps.specs.Timing.{as_pair}
 

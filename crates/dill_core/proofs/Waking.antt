@@ -4,7 +4,7 @@ use Rattle.dill_kernel.specs.declared.ready.Ready.{Ready}
 use Rattle.dill_rules.specs.Hearing.{heat_ready}
 use Rattle.dill_rules.specs.Links.{no_links, change_link, heated}
 use Rattle.dill_rules.specs.World.{World, begin, from_start}
-use Rattle.dill_kept.specs.Kept.{kept_woke}
+use Rattle.laws_queue.specs.Kept.{kept_woke}
 use Rattle.dill_world.specs.Store.{Store, world_of}
 use Rattle.dill_core.specs.Holding.{Holding, kept_of}
 

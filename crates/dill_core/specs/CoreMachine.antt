@@ -1,8 +1,8 @@
--- What a core holds, as the machine of a run's story. It draws no random word, and asks the kernel for nothing but waits.
+-- What a core holds, as the machine of a run's story. It draws no random number, and asks the kernel for nothing but waits.
 use Rattle.std.specs.Prelude.{None}
 use Rattle.dill_calls.specs.Program.{Program}
 use Rattle.dill_handles.specs.Handles as handles
-use Rattle.dill_kept.specs.Kept.{has_answer, kept_turn, kept_ran, kept_may_lack, kept_expired, kept_shut, kept_woke, kept_limit, kept_stuck, kept_waiting}
+use Rattle.laws_queue.specs.Kept.{has_answer, kept_turn, kept_ran, kept_may_lack, kept_expired, kept_shut, kept_woke, kept_limit, kept_stuck, kept_waiting}
 use Rattle.dill_drive.specs.Machine.{Machine}
 use Rattle.dill_core.specs.Holding.{Holding, kept_of, held_of}
 

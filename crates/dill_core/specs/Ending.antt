@@ -1,9 +1,9 @@
 -- What is so of a core once its root was closed, and how many turns may still come.
 use Rattle.std.specs.Prelude.{◌≡◌, ℕ, true, None}
 use Rattle.dill_calls.specs.Program.{Program}
-use Rattle.dill_kept.specs.Kept.{has_answer}
-use Rattle.dill_debts.specs.Closing.{IsClosing}
-use Rattle.dill_debts.specs.Owed as owing
+use Rattle.laws_queue.specs.Kept.{has_answer}
+use Rattle.laws_debt.specs.Closing.{IsClosing}
+use Rattle.laws_debt.specs.Owed as owing
 use Rattle.dill_core.specs.Holding.{Holding, kept_of}
 
 module _ {V : Type 0} where

@@ -2,8 +2,8 @@
 use Rattle.std.specs.Prelude.{ℕ, ◌≤◌, List, length}
 use Rattle.dill_calls.specs.Program.{Program}
 use Rattle.dill_rules.specs.World.{World}
-use Rattle.dill_kept.specs.Kept.{Kept}
-use Rattle.dill_debts.specs.Closing.{IsStable}
+use Rattle.laws_queue.specs.Kept.{Kept}
+use Rattle.laws_debt.specs.Closing.{IsStable}
 use Rattle.dill_world.specs.Store.{Store, world_of}
 
 -- what is stored of the world, who has an answer in the order in which they had it, and how many of these had it early

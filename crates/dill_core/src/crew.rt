@@ -4,10 +4,10 @@ ghost use Rattle.dill_kernel.specs.declared.ready.Ready.{Ready};
 ghost use Rattle.dill_rules.specs.Expiring.{passed};
 ghost use Rattle.dill_rules.specs.Settling as settling;
 ghost use Rattle.dill_rules.specs.World as worlds;
-ghost use Rattle.dill_kept.specs.Kept.{opening_kept, queued, has_answer, kept_turn, kept_ran, kept_expire_next, kept_expired, kept_shut, kept_woke};
-ghost use Rattle.dill_debts.specs.Closing.{IsStable};
+ghost use Rattle.laws_queue.specs.Kept.{opening_kept, queued, has_answer, kept_turn, kept_ran, kept_expire_next, kept_expired, kept_shut, kept_woke};
+ghost use Rattle.laws_debt.specs.Closing.{IsStable};
 ghost use Rattle.dill_drive.specs.Machine.{may_be};
-ghost use Rattle.dill_sound.specs.Laws.{is_timed};
+ghost use Rattle.laws_sound.specs.Laws.{is_timed};
 ghost use Rattle.dill_steps.specs.Timing.{first_of};
 ghost use Rattle.dill_world.specs.Store.{world_of};
 ghost use Rattle.dill_core.specs.CoreMachine.{core_machine};
@@ -15,11 +15,11 @@ ghost use Rattle.dill_core.specs.Holding.{kept_of};
 
 use dill_base::NoMemory;
 use dill_calls::Ran;
-use dill_debts::steps_keep_stable;
-use dill_kept::steps_keep_well;
 use dill_plain::PlainBody;
 use dill_steps::{expire_one, first_passed, passes_one_by_one, settle, turn};
 use dill_world::World;
+use laws_debt::steps_keep_stable;
+use laws_queue::steps_keep_well;
 use std::alloc::Global;
 use std::marker::Model;
 

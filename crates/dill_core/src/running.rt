@@ -11,16 +11,16 @@ ghost use Rattle.dill_core.specs.Begun.{has_begun, IsUntouched};
 use crate::Core;
 use dill_base::Sink;
 use dill_drive::{RunEnd, drive};
-use dill_kept::{follows_states, steps_keep_well};
 use dill_kernel::Kernel;
 use dill_plain::PlainBody;
+use laws_queue::{follows_states, steps_keep_well};
 use rand_core::Rng;
 use std::alloc::Global;
 
 /// Runs a program as `main`, over a kernel and a sink, until it has ended and its summary was written, and says how the run ended.
 /// Where memory for its core is refused nothing is asked or written.
 ///
-/// `turns` bounds turns and rounds together; at most 999,999,999,999,999,999. After a stop further turns, which are counted apart, go on until `main` has ended. `traced` adds each call, answer and note to the texts that are printed. Nothing is written after a failed write. The run draws no random word.
+/// `turns` bounds turns and rounds together; at most 999,999,999,999,999,999. After a stop further turns, which are counted apart, go on until `main` has ended. `traced` adds each call, answer and note to the texts that are printed. Nothing is written after a failed write. The run draws no random number.
 pub fn run<B: PlainBody, K: Kernel, W: Sink, R: Rng>(
     alloc: Global,
     first: B,

@@ -4,11 +4,11 @@ ghost use Rattle.dill_rules.specs.Waiting as waits;
 use crate::Core;
 use dill_base::Errno;
 use dill_calls::{Note, Ran, Word};
-use dill_debts::root_debt_falls;
 use dill_drive::Stepper;
 use dill_kernel::{Limit, ReadyList};
 use dill_plain::PlainBody;
 use dill_steps::{least_due, waiting};
+use laws_debt::root_debt_falls;
 use rand_core::Rng;
 
 /// Until a moment in milliseconds, or for ever where there is none.

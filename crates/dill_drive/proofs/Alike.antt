@@ -399,7 +399,7 @@ module _ {S T K : Type 0} (m : Machine S) (n : Machine T) (kernel_step : K → E
             asks = ap (λ (x : Playing T). x.asks) f.rest ∙ ap (λ (x : Playing S). x.asks) story.plays ∙ story.asks;
             shows = ap (λ (x : Playing T). x.bytes) f.rest ∙ ap (λ (x : Playing S). x.bytes) story.plays ∙ story.shows;
             ends = ap (λ (x : Playing T). x.config.status) f.rest ∙ ap (λ (d : Config T). d.status) config ∙ ap (λ (x : Playing S). x.config.status) story.plays ∙ story.ends;
-            words = ap (λ (x : Playing T). x.config.keys) f.rest ∙ ap (λ (d : Config T). d.keys) config ∙ ap (λ (x : Playing S). x.config.keys) story.plays ∙ story.words;
+            random = ap (λ (x : Playing T). x.config.keys) f.rest ∙ ap (λ (d : Config T). d.keys) config ∙ ap (λ (x : Playing S). x.config.keys) story.plays ∙ story.random;
             heard = ap (λ (x : Playing T). x.replies) f.rest ∙ ap (λ (x : Playing S). x.replies) story.plays ∙ story.heard;
             used = ap (λ (x : Playing T). x.lacks) f.rest ∙ all;
             met = ap (λ (x : Playing T). x.halt) f.rest ∙ ap (λ (x : Playing S). x.halt) story.plays ∙ story.met;

@@ -356,7 +356,7 @@ module _ {S K : Type 0} (m : Machine S) (kernel_step : K → Entry → K → Typ
       asks = refl;
       shows = refl;
       ends = refl;
-      words = refl;
+      random = refl;
       heard = refl;
       used = refl;
       met = refl;

@@ -15,8 +15,8 @@ use Rattle.dill_drive.specs.Prints.{View, printing, starting}
 use Rattle.dill_drive.specs.Play.{Lack, Playing, play, opening}
 
 -- words of a generator that draws none
-abbrev pub no_words : Stream
-no_words = record { u32_after = λ _. 0; u64_after = λ _. 0; bytes_after = λ _ _. [] }
+abbrev pub no_random : Stream
+no_random = record { u32_after = λ _. 0; u64_after = λ _. 0; bytes_after = λ _ _. [] }
 
 -- two prints
 abbrev pub two : View
@@ -45,7 +45,7 @@ waits_once bytes status = record { asks = Wait NoWait ∷ []; bytes = bytes; sta
 
 -- so many steps of the rules, from two prints on
 abbrev pub run : Bool → ℕ → List KernelReply → Option ℕ → Playing (State View)
-run traced most replies halt = play (machine_of printing) traced most 30 (opening (machine_of printing) traced most (opening_state two no_words) no_words replies [] halt)
+run traced most replies halt = play (machine_of printing) traced most 30 (opening (machine_of printing) traced most (opening_state two no_random) no_random replies [] halt)
 
 -- one wait that told the moment 0 and nothing ready
 abbrev pub woke_once : List KernelReply
@@ -53,7 +53,7 @@ woke_once = Woke 0 [] ∷ []
 
 -- the refusals that are left of a list at the end
 abbrev pub left_of : List Lack → List Lack
-left_of lacks = (play (machine_of printing) false 1000 30 (opening (machine_of printing) false 1000 (opening_state two no_words) no_words woke_once lacks None)).lacks
+left_of lacks = (play (machine_of printing) false 1000 30 (opening (machine_of printing) false 1000 (opening_state two no_random) no_random woke_once lacks None)).lacks
 
 pub record Rows : Type 0 where
   pub two_prints : seen (run false 1000 woke_once None) ≡ waits_once (hello_bye ++ summary) status.Well

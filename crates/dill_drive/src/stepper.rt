@@ -52,7 +52,7 @@ pub trait Stepper: Sized + Drop {
         ensures allowed { may_be means self.old result.lack ≡ true }
         ensures ran { result ≡ means.ran self.old result.lack }
         ensures after { self.new ≡ (means.turn self.old result.lack (R.stream keys.old)).0 }
-        ensures words { R.stream keys.new ≡ (means.turn self.old result.lack (R.stream keys.old)).1 }
+        ensures random { R.stream keys.new ≡ (means.turn self.old result.lack (R.stream keys.old)).1 }
         ensures closed { closed self.old → closed self.new }
         ensures fewer { closed self.old → owed self.new < owed self.old };
 

@@ -1,7 +1,7 @@
 -- Handles: a finite map from live numbers to things and owners, how many numbers are kept, and the last that was given.
 use Rattle.std.specs.Prelude.{ℕ, ◌+◌, ◌-◌, ◌==◌, List, [], ◌∷◌, ◌++◌, length, map, filter, find, Bool, not, ◌&&◌, Option, None, nat_le, nat_lt}
 use Rattle.std.specs.List.{last_or}
-use Rattle.dill_maps.specs.Maps.{change, without}
+use Rattle.dill_base.specs.Maps.{change, without}
 use Rattle.dill_handles.specs.declared.entry.Entry.{Entry}
 
 -- numbers are given from 1 on, each is the last one's successor, and none is given again

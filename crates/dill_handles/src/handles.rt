@@ -1,6 +1,6 @@
 ghost use Rattle.std.specs.Prelude.{◌≡◌, ◌+◌, ◌≤◌, ◌<◌, length, map, filter, find, not, nat_lt, vec_capacity, OnOk, OnErr, IfSome, IfNone, None, option_copied, option_map};
 ghost use Rattle.std.specs.List.{position_from, last_or};
-ghost use Rattle.dill_maps.specs.Maps.{if_some, change, without};
+ghost use Rattle.dill_base.specs.Maps.{if_some, change, without};
 ghost use Rattle.dill_handles.specs.Faults.{says_full, named, pointed};
 ghost use Rattle.dill_handles.specs.Handles as handles;
 

@@ -2,7 +2,7 @@
 use Rattle.std.specs.Prelude.{◌≡◌, ◌+◌, List, [], take, true, map, is_some}
 use Rattle.std.specs.List.{list_all}
 use Rattle.dill_base.specs.declared.deadline.Deadline.TheVariants.{Never}
-use Rattle.dill_calls.specs.CallTable.{is_built}
+use Rattle.dill_calls.specs.CallTable.{build_takes_memory}
 use Rattle.dill_calls.specs.declared.word.Word.{Word}
 use Rattle.dill_calls.specs.Program.{Begins}
 use Rattle.dill_script.specs.Contexts.{places}
@@ -37,7 +37,7 @@ some_value kinds.Role = First true
 
 -- the calls for whose building a script takes memory are those for which any program takes some
 abbrev pub LacksAlike : Type 0
-LacksAlike = (word : Word) → may_lack word ≡ is_built word
+LacksAlike = (word : Word) → may_lack word ≡ build_takes_memory word
 
 -- each word of the table makes its call of operands of its kinds
 abbrev pub MakesEachCall : Type 0

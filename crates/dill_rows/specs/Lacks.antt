@@ -7,7 +7,7 @@ use Rattle.std.specs.Prelude.{not, ◌||◌, Option, Some, None, bytes_eq}
 use Rattle.dill_calls.specs.declared.ran.LackPlace.{LackPlace}
 use Rattle.dill_calls.specs.declared.ran.LackPlace.TheVariants.{Build, Entry}
 use Rattle.dill_calls.specs.Program.{Program}
-use Rattle.dill_maps.specs.Maps.{if_some}
+use Rattle.dill_base.specs.Maps.{if_some}
 use Rattle.relay_trace.specs.Lines.{ran_bytes}
 use Rattle.dill_rules.specs.State.{State, opening_state, turned, ran, may_lack}
 use Rattle.dill_rows.specs.Play.{first_of}

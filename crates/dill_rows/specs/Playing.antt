@@ -18,7 +18,7 @@ plain count body = record { count = count; body = body; last = [] }
 abbrev pub nth : List ℕ → ℕ → ℕ
 nth xs n = get_or xs n 0
 
--- random words that are all 0
+-- random numbers that are all 0
 abbrev pub zeros : Stream
 zeros = record { u32_after = λ calls. 0; u64_after = λ calls. 0; bytes_after = λ calls n. replicate n 0 }
 

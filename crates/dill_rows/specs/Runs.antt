@@ -14,7 +14,7 @@ use Rattle.dill_kernel.specs.declared.replies.KernelReply.{KernelReply}
 use Rattle.dill_kernel.specs.declared.replies.KernelReply.TheVariants as replies
 use Rattle.relay_trace.specs.declared.summary.Summary.{Summary}
 use Rattle.relay_trace.specs.Lines.{line, sized, ran_bytes, note_line, waiting_line, summary_line}
-use Rattle.dill_maps.specs.Maps.{if_some}
+use Rattle.dill_base.specs.Maps.{if_some}
 use Rattle.dill_drive.specs.Story.{lacks_by}
 use Rattle.dill_rules.specs.Hearing.{fitting}
 use Rattle.dill_rules.specs.Trying.{Try, next_try}
@@ -192,7 +192,7 @@ module _ {V N : Type 0} (p : Program V) (outside : Outside N) (traced : Bool) (m
   run_within (suc k) r = run_within k (step r)
 
 abbrev pub begun : {V N : Type 0} → V → Stream → N → Run V N
-begun view words net = record { state = opening_state view words; net = net; phase = Round; status = status.Well; turns = 0; rounds = 0; closing = 0; lacks = 0; out = []; asks = [] }
+begun view random net = record { state = opening_state view random; net = net; phase = Round; status = status.Well; turns = 0; rounds = 0; closing = 0; lacks = 0; out = []; asks = [] }
 
 -- lines as one text
 abbrev pub text : List (List ℕ) → List ℕ

@@ -1,4 +1,4 @@
--- Worked runs in which each random word is another one: which frame of a WebSocket client takes which word.
+-- Worked runs in which each random number is another one: which frame of a WebSocket client takes which word.
 use Rattle.std.specs.Prelude.{◌≡◌, true, ℕ, zero, ◌+◌, ◌*◌, List, [], ◌∷◌, length, replicate, Bool, false, None, codes}
 use Rattle.rand_core.specs.Stream.{Stream}
 use Rattle.dill_base.specs.declared.deadline.Deadline.TheVariants.{Never, At}
@@ -15,7 +15,7 @@ use Rattle.dill_rows.specs.Play.{Does, Tries, Text, Play, playing, first_of}
 use Rattle.dill_rows.specs.Playing.{plain, nth, idle, place, connected}
 use Rattle.dill_rows.specs.Runs.{Run, listed, run_within, begun, does, text}
 
--- random words that count: all four bytes of the first are 1, of the second 2
+-- random numbers that count: all four bytes of the first are 1, of the second 2
 abbrev pub counting : Stream
 counting = record { u32_after = λ calls. (length calls + 1) * 16843009; u64_after = λ calls. 0; bytes_after = λ calls n. replicate n 0 }
 

@@ -249,12 +249,12 @@ pub fn websocket_server_session()
     ensures { WebsocketSession }
 {}
 
-/// A client's pong has used up its random word, also where the detach that queued it fails in the same look.
+/// A client's pong has used up its random number, also where the detach that queued it fails in the same look.
 pub fn failed_detach_uses_its_words()
     ensures { FailedDetachWords }
 {}
 
-/// A pong that takes an earlier one's place goes at that place, with a random word of its own.
+/// A pong that takes an earlier one's place goes at that place, with a random number of its own.
 pub fn replaced_pong_keeps_its_place()
     ensures { ReplacedPongs }
 {}
@@ -527,7 +527,7 @@ pub fn stories_over_the_network()
     ensures { NetworkStories }
 {}
 
-/// Which calls take a random word.
+/// Which calls take a random number.
 pub fn words_that_are_taken()
     ensures { WordsTaken }
 {}

@@ -5,7 +5,7 @@ use Rattle.dill_base.specs.declared.errno.Errno.{Errno}
 use Rattle.dill_base.specs.declared.errno.Errno.TheVariants.{Enomem}
 use Rattle.dill_calls.specs.declared.answer.Answer.TheVariants.{Fault}
 use Rattle.dill_calls.specs.CallTable.{word_of, takes_memory}
-use Rattle.dill_maps.specs.Maps.{if_some}
+use Rattle.dill_base.specs.Maps.{if_some}
 use Rattle.dill_scope.specs.declared.forest.Home.{Home}
 use Rattle.dill_scope.specs.declared.forest.Bundle.{Bundle}
 use Rattle.dill_scope.specs.Scopes.{opening_scopes}
@@ -35,7 +35,7 @@ opening_forest = record {
 }
 
 pub opening_is_sound : (V : Type 0) → OpeningIsSound V
-opening_is_sound V view words = record {
+opening_is_sound V view random = record {
   forest = opening_forest;
   owned = λ number x e. cc;
   given = λ number x e. cc;

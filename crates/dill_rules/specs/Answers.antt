@@ -14,7 +14,7 @@ use Rattle.dill_scope.specs.Scopes as scopes
 use Rattle.dill_chan.specs.declared.end.Want.{Want}
 use Rattle.dill_chan.specs.declared.end.Want.TheVariants.{Send, Recv}
 use Rattle.dill_chan.specs.Meetings.{has_ended}
-use Rattle.dill_maps.specs.Maps.{if_some}
+use Rattle.dill_base.specs.Maps.{if_some}
 use Rattle.dill_rules.specs.declared.thing.Thing.{Thing}
 use Rattle.dill_rules.specs.declared.thing.Thing.TheVariants as things
 use Rattle.dill_rules.specs.World.{World}

@@ -14,7 +14,7 @@ use Rattle.dill_chan.specs.declared.meeting.Meeting.{Meeting}
 use Rattle.dill_chan.specs.declared.meeting.Meeting.TheVariants.{Met, Ended, Waits}
 use Rattle.dill_chan.specs.Channels as channels
 use Rattle.dill_chan.specs.Meetings.{has_ended, meeting}
-use Rattle.dill_maps.specs.Maps.{if_some}
+use Rattle.dill_base.specs.Maps.{if_some}
 use Rattle.dill_rules.specs.declared.thing.Thing.TheVariants as things
 use Rattle.dill_rules.specs.World.{World, call_of, reply, pend}
 use Rattle.dill_rules.specs.Naming.{end_of_clause}

@@ -2,7 +2,7 @@
 use Rattle.std.specs.Prelude.{ℕ, ◌+◌, filter, sum_by, Bool, false, if◌then◌else◌, nat_lt}
 use Rattle.dill_calls.specs.Program.{Program}
 use Rattle.dill_scope.specs.Scopes.{is_inside}
-use Rattle.dill_maps.specs.Maps.{if_some}
+use Rattle.dill_base.specs.Maps.{if_some}
 use Rattle.dill_rules.specs.declared.coroutine.Coroutine.{Coroutine}
 use Rattle.dill_rules.specs.World.{is_ending}
 use Rattle.dill_rules.specs.State.{State, stamp_of}

@@ -12,7 +12,7 @@ use Rattle.dill_calls.specs.declared.word.Word.TheVariants as words
 use Rattle.dill_calls.specs.CallTable.{word_of, blocks, makes, gives_up, takes_memory, deadline_of}
 use Rattle.dill_calls.specs.Program.{Program}
 use Rattle.dill_handles.specs.Handles as handles
-use Rattle.dill_maps.specs.Maps.{if_some}
+use Rattle.dill_base.specs.Maps.{if_some}
 use Rattle.dill_rules.specs.World.{World, call_of, reply, pend}
 use Rattle.dill_rules.specs.Naming.{draws_of, links, uses_link}
 use Rattle.dill_rules.specs.Directions.{is_send, is_receive, is_handshake}

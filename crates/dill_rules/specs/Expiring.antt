@@ -4,7 +4,7 @@ use Rattle.dill_base.specs.declared.deadline.Deadline.{Deadline}
 use Rattle.dill_base.specs.declared.deadline.Deadline.TheVariants.{At}
 use Rattle.dill_calls.specs.declared.call.Call.{Call}
 use Rattle.dill_calls.specs.CallTable.{deadline_of}
-use Rattle.dill_maps.specs.Maps.{if_some}
+use Rattle.dill_base.specs.Maps.{if_some}
 use Rattle.dill_rules.specs.declared.coroutine.Coroutine.{Coroutine}
 use Rattle.dill_rules.specs.World.{World, call_of, pending_call}
 use Rattle.dill_rules.specs.Entering.{late_answer}

@@ -10,7 +10,7 @@ use Rattle.dill_calls.specs.declared.word.Word.TheVariants as words
 use Rattle.dill_calls.specs.CallTable.{word_of, gives_up, named_by}
 use Rattle.dill_handles.specs.Handles as handles
 use Rattle.dill_stack.specs.Interface.{Held, withdraw}
-use Rattle.dill_maps.specs.Maps.{if_some}
+use Rattle.dill_base.specs.Maps.{if_some}
 use Rattle.dill_rules.specs.Links as link
 use Rattle.dill_rules.specs.Links.{Link, connector, as_closing, with_stack}
 use Rattle.dill_rules.specs.World.{World, reply}
@@ -54,10 +54,10 @@ abbrev pub is_connecting_for : ℕ → Link → Bool
 is_connecting_for who x = not x.closing && if_some (connector x.sort) false (λ n. n == who)
 
 module _ {V : Type 0} where
-  -- the stack of a call after its look, and the random words that are left
+  -- the stack of a call after its look, and the random numbers that are left
   abbrev pub look_on : World V → Call → World V
   look_on w call =
-      if_some (named_by call) w (λ number. if_some (stack_of w call) w (λ s. put w number ((look_of call w.words s).stack, (look_of call w.words s).words)))
+      if_some (named_by call) w (λ number. if_some (stack_of w call) w (λ s. put w number ((look_of call w.random s).stack, (look_of call w.random s).random)))
 
   -- the answer of `hclose` of a bundle frees the bundle
   abbrev pub give_close : World V → ℕ → ℕ → Answer → World V

@@ -13,7 +13,7 @@ use Rattle.dill_kernel.specs.declared.replies.KernelReply.TheVariants as replies
 use Rattle.dill_kernel.specs.declared.ready.Ready.{Ready}
 use Rattle.dill_kernel.specs.Entry.{fits}
 use Rattle.dill_stack.specs.Interface.{came, ended, broke, took}
-use Rattle.dill_maps.specs.Maps.{if_some}
+use Rattle.dill_base.specs.Maps.{if_some}
 use Rattle.dill_rules.specs.declared.thing.Thing.{Thing}
 use Rattle.dill_rules.specs.declared.thing.Thing.TheVariants as things
 use Rattle.dill_rules.specs.Links as links

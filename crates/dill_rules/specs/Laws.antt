@@ -24,7 +24,7 @@ pub record IsSound {V : Type 0} (w : World V) : Type 0 where
 
 -- the opening world is sound
 abbrev pub OpeningIsSound : (V : Type 0) → Type 0
-OpeningIsSound V = (view : V) (words : Stream) → IsSound (opening view words)
+OpeningIsSound V = (view : V) (random : Stream) → IsSound (opening view random)
 
 -- A refusal at entry changes nothing but that the caller has its answer, whether memory is refused or not.
 abbrev pub RefusalChangesNothing : (V : Type 0) → Type 0

@@ -13,7 +13,7 @@ use Rattle.dill_http.specs.Lines.{crlf}
 use Rattle.dill_stack.specs.declared.layer.Layer.{Layer}
 use Rattle.dill_stack.specs.declared.parting.Parting.{Parting}
 use Rattle.dill_stack.specs.Interface.{Held, frame, line, done, attach, expect_greet, greet, parting_fault, detach_start, drop_unread}
-use Rattle.dill_maps.specs.Maps.{if_some}
+use Rattle.dill_base.specs.Maps.{if_some}
 use Rattle.dill_rules.specs.Links as links
 use Rattle.dill_rules.specs.Links.{heated, with_stack}
 use Rattle.dill_rules.specs.World.{World, reply, pend}
@@ -28,25 +28,25 @@ abbrev pub if_ok : {A B : Type 0} → Result A Errno → B → (A → B) → B
 if_ok (Ok x) d f = f x
 if_ok (Err e) d f = d
 
--- a stack with the random words, of which none was drawn
-abbrev pub with_words : Stream → Result Held Errno → Result (Held × Stream) Errno
-with_words words (Ok s) = Ok (s, words)
-with_words words (Err e) = Err e
+-- a stack with the random numbers, of which none was drawn
+abbrev pub with_random : Stream → Result Held Errno → Result (Held × Stream) Errno
+with_random random (Ok s) = Ok (s, random)
+with_random random (Err e) = Err e
 
 -- a client's head is queued, and a server waits for one
 abbrev pub greet_by : Call → Stream → Held → Result (Held × Stream) Errno
-greet_by (calls.WsAttachClient number text resource host deadline) words s = greet text resource host words s
-greet_by (calls.WsAttachServer number text deadline) words s = with_words words (expect_greet text s)
-greet_by call words s = Ok (s, words)
+greet_by (calls.WsAttachClient number text resource host deadline) random s = greet text resource host random s
+greet_by (calls.WsAttachServer number text deadline) random s = with_random random (expect_greet text s)
+greet_by call random s = Ok (s, random)
 
 module _ {V : Type 0} where
-  -- the stack and the random words that are left
+  -- the stack and the random numbers that are left
   abbrev pub put : World V → ℕ → Held × Stream → World V
-  put w number now = record (put_stack w number now.0) { words = now.1 }
+  put w number now = record (put_stack w number now.0) { random = now.1 }
 
   -- the stack does what is asked of it
   abbrev pub ask_stack : World V → Call → (Stream → Held → Result (Held × Stream) Errno) → World V
-  ask_stack w call f = if_some (named_by call) w (λ number. if_some (stack_of w call) w (λ s. if_ok (f w.words s) w (put w number)))
+  ask_stack w call f = if_some (named_by call) w (λ number. if_some (stack_of w call) w (λ s. if_ok (f w.random s) w (put w number)))
 
   -- these directions of the call's link are hot
   abbrev pub heat : World V → Call → (read write : Bool) → World V
@@ -54,11 +54,11 @@ module _ {V : Type 0} where
 
   -- a message is queued whole
   abbrev pub queue_message : World V → Call → List ℕ → World V
-  queue_message w call m = ask_stack w call (λ words s. frame m words s)
+  queue_message w call m = ask_stack w call (λ random s. frame m random s)
 
   -- a line is queued with its CRLF
   abbrev pub queue_line : World V → Call → Said → World V
-  queue_line w call said = ask_stack w call (λ words s. with_words words (line (is_first said) (line_of said ++ crlf) s))
+  queue_line w call said = ask_stack w call (λ random s. with_random random (line (is_first said) (line_of said ++ crlf) s))
 
   -- the sending direction ends
   abbrev pub queue_end : World V → Call → World V
@@ -82,7 +82,7 @@ module _ {V : Type 0} where
   -- a layer is attached, and the socket has a new number, which the caller owns
   abbrev pub attach_layer : World V → ℕ → Call → ℕ → Layer → World V
   attach_layer w who call number layer =
-      reply (move (ask_stack w call (λ words s. with_words words (attach layer s))) number who) who (word_of call) (Number (next_number w))
+      reply (move (ask_stack w call (λ random s. with_random random (attach layer s))) number who) who (word_of call) (Number (next_number w))
 
   abbrev pub enter_attach : World V → ℕ → Call → World V
   enter_attach w who call = if_some (named_by call) w (λ number. if_some (layer_of call) w (attach_layer w who call number))
@@ -98,7 +98,7 @@ module _ {V : Type 0} where
 
   -- a detach begins, and uses both directions where it may wait
   abbrev pub begin_detach : World V → ℕ → Call → Parting → World V
-  begin_detach w who call parting = pend (heat (ask_stack w call (λ words s. detach_start parting words s)) call (blocks (word_of call)) (blocks (word_of call))) who call
+  begin_detach w who call parting = pend (heat (ask_stack w call (λ random s. detach_start parting random s)) call (blocks (word_of call)) (blocks (word_of call))) who call
 
   -- a detach, or `tcp_close`, which begins nothing on the stack
   abbrev pub begin_giving_up : World V → ℕ → Call → World V

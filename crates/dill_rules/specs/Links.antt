@@ -1,6 +1,6 @@
 -- Links: what the kernel made, what stands on each, and what is still due of it.
 use Rattle.std.specs.Prelude.{ℕ, ◌+◌, ◌-◌, ◌==◌, List, [], ◌∷◌, ◌++◌, find, Bool, true, false, ◌||◌, Option, Some, None}
-use Rattle.dill_maps.specs.Maps.{change, without}
+use Rattle.dill_base.specs.Maps.{change, without}
 use Rattle.dill_stack.specs.Interface.{Held, opening, set_link}
 
 -- A link that listens, one whose `connect` isn't finished, with the coroutine whose call made it, or a stream.

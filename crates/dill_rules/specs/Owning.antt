@@ -5,7 +5,7 @@ use Rattle.dill_handles.specs.Handles as handles
 use Rattle.dill_handles.specs.declared.entry.Entry.{Entry}
 use Rattle.dill_scope.specs.Scopes as scopes
 use Rattle.dill_chan.specs.Channels as channels
-use Rattle.dill_maps.specs.Maps.{if_some, without}
+use Rattle.dill_base.specs.Maps.{if_some, without}
 use Rattle.dill_rules.specs.declared.coroutine.Closing.{Closing}
 use Rattle.dill_rules.specs.declared.thing.Thing.{Thing}
 use Rattle.dill_rules.specs.declared.thing.Thing.TheVariants as things

@@ -13,7 +13,7 @@ use Rattle.dill_calls.specs.CallTable.{word_of, blocks, makes, gives_up, named_b
 use Rattle.dill_calls.specs.Program.{Program}
 use Rattle.dill_handles.specs.Handles as handles
 use Rattle.dill_scope.specs.Scopes as scopes
-use Rattle.dill_maps.specs.Maps.{if_some}
+use Rattle.dill_base.specs.Maps.{if_some}
 use Rattle.dill_rules.specs.World.{World}
 use Rattle.dill_rules.specs.Naming.{gifts_of, draws_of, bears, links}
 use Rattle.dill_rules.specs.Directions.{is_send, is_receive}

@@ -1,5 +1,5 @@
 -- Settling: endings that can finish, and pending calls that can be answered, until neither is left.
-use Rattle.std.specs.Prelude.{ℕ, zero, suc, ◌==◌, List, [], ◌∷◌, reverse, length, fold, filter, find, Bool, false, not, ◌&&◌, Option, Some, None, if◌then◌else◌, nat_lt}
+use Rattle.std.specs.Prelude.{◌≡◌, ℕ, zero, suc, ◌==◌, List, [], ◌∷◌, reverse, length, fold, filter, find, Bool, false, not, ◌&&◌, Option, Some, None, if◌then◌else◌, nat_lt}
 use Rattle.std.specs.List.{list_all}
 use Rattle.dill_base.specs.declared.errno.Errno.{Errno}
 use Rattle.dill_calls.specs.declared.answer.Answer.{Answer}
@@ -8,7 +8,7 @@ use Rattle.dill_calls.specs.CallTable.{word_of}
 use Rattle.dill_handles.specs.Handles as handles
 use Rattle.dill_handles.specs.declared.entry.Entry.{Entry}
 use Rattle.dill_scope.specs.Scopes as scopes
-use Rattle.dill_maps.specs.Maps.{if_some, without, first_some}
+use Rattle.dill_base.specs.Maps.{if_some, without, first_some}
 use Rattle.dill_rules.specs.declared.coroutine.Closing.{Closing}
 use Rattle.dill_rules.specs.declared.coroutine.Coroutine.{Coroutine}
 use Rattle.dill_rules.specs.declared.coroutine.Mode.{Mode}
@@ -108,3 +108,8 @@ module _ {V : Type 0} where
   -- each time one coroutine fewer is pending or ending, until nothing is due
   abbrev pub settle : World V → World V
   settle w = pass_all (settle_within (length w.coroutines) w)
+
+-- nothing is due: no ending can finish, and no pending call can be answered
+pub record IsSettled {V : Type 0} (w : World V) : Type 0 where
+  pub endings : find (can_finish w) w.coroutines ≡ None
+  pub answers : first_some (answer_due w) w.coroutines ≡ None

@@ -8,7 +8,7 @@ use Rattle.dill_http.specs.Writing.{fault_of}
 use Rattle.dill_stack.specs.Interface.{Held, send_fault, line_fault, done_fault, read_fault, attach_fault, detach_fault}
 use Rattle.dill_stack.specs.Attaching.{greet_fault}
 use Rattle.dill_stack.specs.Greeting.{offer_fault}
-use Rattle.dill_maps.specs.Maps.{if_some}
+use Rattle.dill_base.specs.Maps.{if_some}
 use Rattle.dill_rules.specs.declared.thing.Thing.{Thing}
 use Rattle.dill_rules.specs.declared.thing.Thing.TheVariants as things
 use Rattle.dill_rules.specs.Links.{Link, look, change_link, with_stack}

@@ -8,7 +8,7 @@ use Rattle.dill_scope.specs.Scopes as scopes
 use Rattle.dill_kernel.specs.declared.ready.Ready.{Ready}
 use Rattle.dill_kernel.specs.declared.replies.KernelReply.{KernelReply}
 use Rattle.rand_core.specs.Stream.{Stream}
-use Rattle.dill_maps.specs.Maps.{if_some}
+use Rattle.dill_base.specs.Maps.{if_some}
 use Rattle.dill_rules.specs.declared.coroutine.Coroutine.{Coroutine}
 use Rattle.dill_rules.specs.declared.coroutine.Mode.{Mode}
 use Rattle.dill_rules.specs.declared.coroutine.Mode.TheVariants as modes
@@ -88,7 +88,7 @@ module _ {V : Type 0} where
 
   -- `main` has the first answer
   abbrev pub opening_state : V → Stream → State V
-  opening_state view words = record { world = opening view words; answers = record { of = 1; at = 0 } ∷ []; closings = []; next = 1 }
+  opening_state view random = record { world = opening view random; answers = record { of = 1; at = 0 } ∷ []; closings = []; next = 1 }
 
   -- whose turn it is: the coroutine whose answer came first
   abbrev pub next_turn : State V → Option ℕ

@@ -15,7 +15,7 @@ use Rattle.dill_stack.specs.declared.want.Want.{Want}
 use Rattle.dill_stack.specs.declared.want.Want.TheVariants as wants
 use Rattle.dill_stack.specs.Dropping.{drop_limit}
 use Rattle.dill_stack.specs.Interface.{Held, need, head_need, parting_need, closing_need}
-use Rattle.dill_maps.specs.Maps.{if_some}
+use Rattle.dill_base.specs.Maps.{if_some}
 use Rattle.dill_rules.specs.Links.{Link}
 use Rattle.dill_rules.specs.World.{World, coroutine_of, pending_call}
 use Rattle.dill_rules.specs.Directions.{asked, parting_of, is_handshake}
@@ -89,7 +89,7 @@ module _ {V : Type 0} where
   traced s known = record { state = s; traffic = map (watch_one s.world) (known ++ made_now s.world known) }
 
   abbrev pub opening_traced : V → Stream → Traced V
-  opening_traced view words = record { state = opening_state view words; traffic = [] }
+  opening_traced view random = record { state = opening_state view random; traffic = [] }
 
   -- the limit of a receive that is entered counts, whether it is answered at once or not
   abbrev pub count_entry : World V → Call → List Traffic → List Traffic

@@ -8,7 +8,7 @@ use Rattle.dill_calls.specs.CallTable.{word_of, named_by, gives_up}
 use Rattle.dill_kernel.specs.declared.replies.KernelAsk.{KernelAsk}
 use Rattle.dill_kernel.specs.declared.replies.KernelAsk.TheVariants as asks
 use Rattle.dill_stack.specs.Interface.{Held, needs_bytes, offered}
-use Rattle.dill_maps.specs.Maps.{if_some, first_some}
+use Rattle.dill_base.specs.Maps.{if_some, first_some}
 use Rattle.dill_scope.specs.Scopes.{is_bundle}
 use Rattle.dill_rules.specs.Links.{Link, is_listening, is_stream, connector}
 use Rattle.dill_rules.specs.World.{World, Place, pending_call}

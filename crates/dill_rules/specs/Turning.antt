@@ -9,9 +9,9 @@ use Rattle.dill_calls.specs.declared.ran.LackPlace.TheVariants.{Build, Entry}
 use Rattle.dill_calls.specs.declared.ran.Ran.{Ran}
 use Rattle.dill_calls.specs.declared.word.Word.{Word}
 use Rattle.dill_calls.specs.declared.word.Word.TheVariants as words
-use Rattle.dill_calls.specs.CallTable.{word_of, is_built}
+use Rattle.dill_calls.specs.CallTable.{word_of, build_takes_memory}
 use Rattle.dill_calls.specs.Program.{Program, Move, Calls, Ends}
-use Rattle.dill_maps.specs.Maps.{if_some, change}
+use Rattle.dill_base.specs.Maps.{if_some, change}
 use Rattle.dill_rules.specs.declared.coroutine.Coroutine.{Coroutine}
 use Rattle.dill_rules.specs.declared.coroutine.Mode.{Mode}
 use Rattle.dill_rules.specs.declared.coroutine.Mode.TheVariants as modes
@@ -39,7 +39,7 @@ end_of (Ends outcome) = Some outcome
 
 -- the program needs memory to build its next call
 abbrev pub may_lack_build : Move → Bool
-may_lack_build (Calls call) = is_built (word_of call)
+may_lack_build (Calls call) = build_takes_memory (word_of call)
 may_lack_build (Ends outcome) = false
 
 -- the answer that waits to be given, with the word of its call
@@ -65,7 +65,7 @@ module _ {V : Type 0} where
 
   -- the turn may be refused memory there
   abbrev pub may_lack_move : Program V → World V → ℕ → V × Move → LackPlace → Bool
-  may_lack_move p w who (view, Calls call) Build = is_built (word_of call)
+  may_lack_move p w who (view, Calls call) Build = build_takes_memory (word_of call)
   may_lack_move p w who (view, Calls call) Entry = may_lack_entry p (resume w who view) who view (entered w.moment call)
   may_lack_move p w who (view, Ends outcome) place = false
 

@@ -11,7 +11,7 @@ use Rattle.dill_handles.specs.Handles.{Handles, no_handles}
 use Rattle.dill_scope.specs.Scopes.{Scopes, opening_scopes}
 use Rattle.dill_chan.specs.Channels.{Channels, no_channels, leave}
 use Rattle.rand_core.specs.Stream.{Stream}
-use Rattle.dill_maps.specs.Maps.{if_some, change}
+use Rattle.dill_base.specs.Maps.{if_some, change}
 use Rattle.dill_rules.specs.Links.{Links, no_links}
 use Rattle.dill_rules.specs.declared.coroutine.Coroutine.{Coroutine}
 use Rattle.dill_rules.specs.declared.coroutine.Closing.{Closing}
@@ -28,7 +28,7 @@ pub record Place : Type 0 where
 abbrev pub at_start : Place
 at_start = record { kind = 0; number = 0 }
 
--- The coroutines by rising number, the bundles that are closing with the numbers that died, how the program of `main` ended once it has, and the notes of this step. `wrote` are the links that had a `write` in this round, and `words` the random words that are still to come.
+-- The coroutines by rising number, the bundles that are closing with the numbers that died, how the program of `main` ended once it has, and the notes of this step. `wrote` are the links that had a `write` in this round, and `words` the random numbers that are still to come.
 pub record World (V : Type 0) : Type 0 where
   pub coroutines : List (Coroutine V)
   pub handles : Handles Thing
@@ -38,7 +38,7 @@ pub record World (V : Type 0) : Type 0 where
   pub links : Links
   pub place : Place
   pub wrote : List ℕ
-  pub words : Stream
+  pub random : Stream
   pub moment : ℕ
   pub last_coroutine : ℕ
   pub last_bundle : ℕ
@@ -97,7 +97,7 @@ module _ {V : Type 0} where
 
   -- `main` has the answer of its start, and nothing else is there
   abbrev pub opening : V → Stream → World V
-  opening view words = record {
+  opening view random = record {
     coroutines = record { number = 1; body = view; mode = modes.Answered Start (Number 0) } ∷ [];
     handles = no_handles;
     scopes = opening_scopes;
@@ -106,7 +106,7 @@ module _ {V : Type 0} where
     links = no_links;
     place = at_start;
     wrote = [];
-    words = words;
+    random = random;
     moment = 0;
     last_coroutine = 1;
     last_bundle = 0;

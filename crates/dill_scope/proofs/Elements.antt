@@ -1,7 +1,7 @@
 -- The elements of a list whose first of a test is changed.
 use Rattle.std.proofs.Common.{◌≡◌, zero, suc, ◌⊎◌, inl, inr, Bool, true, false, List, [], ◌∷◌, refl, sym, cond, arith}
 use Rattle.std.specs.Prelude.{Contains}
-use Rattle.dill_maps.specs.Maps.{change}
+use Rattle.dill_base.specs.Maps.{change}
 
 module _ {X : Type 0} where
   pub contains_none : (y : X) → Contains [] y → ⊥

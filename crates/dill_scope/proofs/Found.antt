@@ -3,7 +3,7 @@ use Rattle.std.proofs.Common.{◌≡◌, ℕ, suc, ◌+◌, ◌<◌, Bool, true,
 use Rattle.std.proofs.Math.ListN.{set}
 use Rattle.std.specs.Prelude.{find}
 use Rattle.std.specs.List.{position_from, remove}
-use Rattle.dill_maps.specs.Maps.{change, without}
+use Rattle.dill_base.specs.Maps.{change, without}
 
 -- what is at a place k
 pub record Place {X : Type 0} (test : X → Bool) (f : X → X) (xs : List X) (k : ℕ) (d : X) : Type 0 where

@@ -1,7 +1,7 @@
 -- The beginning of a closing: the forest stays as it is, and who is cancelled by it.
 use Rattle.std.proofs.Common.{◌≡◌, ℕ, zero, suc, ◌==◌, Bool, true, false, ◌||◌, ◌⊎◌, inl, inr, refl, sym, ap, ◌∙◌, subst, length, Option, Some, None}
 use Rattle.std.specs.Prelude.{find, option_map, option_and_then, IsSome}
-use Rattle.dill_maps.specs.Maps.{if_some}
+use Rattle.dill_base.specs.Maps.{if_some}
 use Rattle.dill_scope.specs.declared.forest.Bundle.{Bundle}
 use Rattle.dill_scope.specs.Scopes.{Scopes, is_bundle, home_of, owner_of, parent, inside_within, as_closing, close}
 use Rattle.dill_scope.specs.Forest.{Inside, Cancelled}

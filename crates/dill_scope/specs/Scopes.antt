@@ -1,7 +1,7 @@
 -- Scopes: who lives in which bundle, who owns each bundle, and whether it is closing.
 use Rattle.std.specs.Prelude.{ℕ, ◌==◌, List, [], ◌∷◌, ◌++◌, length, map, filter, find, Bool, true, false, not, ◌&&◌, ◌||◌, Option, Some, None, option_map, option_and_then, nat_lt, zero, suc}
 use Rattle.std.specs.List.{list_any}
-use Rattle.dill_maps.specs.Maps.{if_some, change, without}
+use Rattle.dill_base.specs.Maps.{if_some, change, without}
 use Rattle.dill_scope.specs.declared.forest.Home.{Home}
 use Rattle.dill_scope.specs.declared.forest.Bundle.{Bundle}
 

@@ -1,6 +1,6 @@
 ghost use Rattle.std.specs.Prelude.{◌≡◌, ◌==◌, ◌<◌, IfSome, IsSome, Some, false, find, length, option_map};
 ghost use Rattle.std.specs.List.{list_any, position_from};
-ghost use Rattle.dill_maps.specs.Maps.{if_some, change, without};
+ghost use Rattle.dill_base.specs.Maps.{if_some, change, without};
 ghost use Rattle.dill_scope.specs.Scopes.{is_home, is_bundle, with_owner, as_closing};
 
 use crate::forest::{Bundle, Home};

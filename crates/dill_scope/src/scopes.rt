@@ -1,6 +1,6 @@
 ghost use Rattle.std.specs.Prelude.{◌≡◌, OnOk, OnErr, IfOk, IsSome, Some, false, filter, find, map, nat_lt, option_copied};
 ghost use Rattle.std.specs.List.{list_all};
-ghost use Rattle.dill_maps.specs.Maps.{if_some};
+ghost use Rattle.dill_base.specs.Maps.{if_some};
 ghost use Rattle.dill_scope.specs.Scopes as scopes;
 
 use crate::forest::{Bundle, Home};

@@ -13,10 +13,10 @@ use Rattle.dill_script.specs.Contexts.{Context, opening}
 use Rattle.dill_script.specs.Headings.{Heading, heading_of}
 use Rattle.dill_script.specs.Lines.{lines_of}
 use Rattle.dill_script.specs.Numbers.{only_if, number_up_to, errno_of}
-use Rattle.dill_script.specs.Operands.{word_in, name_of, register_in, number_register, bytes_register, num_of, bytes_of, operands_of}
+use Rattle.dill_script.specs.Operands.{plain_in, name_of, register_in, number_register, bytes_register, num_of, bytes_of, operands_of}
 use Rattle.dill_script.specs.Refusals.{is_some_with, is_unbuilt, is_version}
 use Rattle.dill_script.specs.Spelling.{spoken, says_built, ReadsBuilt}
-use Rattle.dill_script.specs.Statements.{Line, Opens, Ends, Says, both, set_at, with_two, with_none, params_fit, program_of, fail_of, loop_of, cond_of, dest_at, call_of_line, plain_line, worded_line, line_of}
+use Rattle.dill_script.specs.Statements.{Line, Opens, Ends, Says, both, set_at, with_two, with_none, params_fit, program_of, fail_of, loop_of, cond_of, dest_at, call_of_line, plain_line, keyword_line, line_of}
 use Rattle.dill_script.specs.Table.{kinds_of, rest_kind}
 use Rattle.dill_script.specs.Tokens.{Token, Plain}
 use Rattle.dill_script.proofs.Formed.{always, mapped}
@@ -51,7 +51,7 @@ module _ (built : Word → Bool) where
   paired {X} {Y} make o p h = if_both (λ (x : X). Unit {0}) (λ (y : Y). Unit {0}) (λ statement. says_built built statement ≡ true) make o p (λ x y e f. h x y) (always (λ x. Unit {0}) o (λ x. tt)) (always (λ y. Unit {0}) p (λ y. tt))
 
   fail_known : (tokens : List Token) → IfSome (fail_of tokens) (λ statement. says_built built statement ≡ true)
-  fail_known (token ∷ []) = mapped (λ statement. says_built built statement ≡ true) statements.Fail (option_and_then errno_of (word_in token)) (λ x. refl)
+  fail_known (token ∷ []) = mapped (λ statement. says_built built statement ≡ true) statements.Fail (option_and_then errno_of (plain_in token)) (λ x. refl)
   fail_known _ = tt
 
   loop_known : (tokens : List Token) → IfSome (loop_of tokens) (λ statement. says_built built statement ≡ true)
@@ -74,10 +74,10 @@ module _ (built : Word → Bool) where
   set_line_known tried target value = if_then (λ statement. says_built built statement ≡ true) (λ register. set_at tried register value) (register_in target) (always (λ register. IfSome (set_at tried register value) (λ statement. says_built built statement ≡ true)) (register_in target) (set_known tried value))
 
   program_known : (a b : Token) → IfSome (program_of a b) Known
-  program_known a b = if_then Known (λ name. option_and_then (λ count. only_if (params_fit name count) (Opens name count)) (option_and_then (number_up_to 16) (word_in b))) (name_of a)
-      (always (λ name. IfSome (option_and_then (λ count. only_if (params_fit name count) (Opens name count)) (option_and_then (number_up_to 16) (word_in b))) Known) (name_of a)
-      (λ name. if_then Known (λ count. only_if (params_fit name count) (Opens name count)) (option_and_then (number_up_to 16) (word_in b))
-      (always (λ count. IfSome (only_if (params_fit name count) (Opens name count)) Known) (option_and_then (number_up_to 16) (word_in b)) (λ count. if_only Known (params_fit name count) (Opens name count) (λ e. refl)))))
+  program_known a b = if_then Known (λ name. option_and_then (λ count. only_if (params_fit name count) (Opens name count)) (option_and_then (number_up_to 16) (plain_in b))) (name_of a)
+      (always (λ name. IfSome (option_and_then (λ count. only_if (params_fit name count) (Opens name count)) (option_and_then (number_up_to 16) (plain_in b))) Known) (name_of a)
+      (λ name. if_then Known (λ count. only_if (params_fit name count) (Opens name count)) (option_and_then (number_up_to 16) (plain_in b))
+      (always (λ count. IfSome (only_if (params_fit name count) (Opens name count)) Known) (option_and_then (number_up_to 16) (plain_in b)) (λ count. if_only Known (params_fit name count) (Opens name count) (λ e. refl)))))
 
   plain_known : (k : Keyword) (tokens : List Token) → IfSome (plain_line k tokens) Known
   plain_known keywords.Program tokens = two_is (λ list. Known) program_of tokens program_known
@@ -94,28 +94,28 @@ module _ (built : Word → Bool) where
   plain_known keywords.Fail tokens = says (fail_of tokens) (fail_known tokens)
   plain_known _ tokens = tt
 
-  worded_known : (tried : Bool) (targets : List Register) (k : Keyword) (tokens : List Token) → is_unbuilt built k ≡ false → IfSome (worded_line tried targets k tokens) Known
-  worded_known tried targets (keywords.Call word) tokens e = says (call_of_line tried word targets tokens) (call_known tried targets word tokens (not_false (built word) e))
-  worded_known tried [] keywords.Set tokens e = two_known (λ target value. option_and_then (λ register. set_at tried register value) (register_in target)) tokens (set_line_known tried)
-  worded_known tried [] keywords.Join tokens e = two_known (λ place value. both (statements.Join tried) (bytes_register place) (bytes_of value)) tokens (λ a b. paired (statements.Join tried) (bytes_register a) (bytes_of b) (λ x y. refl))
-  worded_known false [] k tokens e = plain_known k tokens
-  worded_known _ _ _ _ e = tt
+  keyword_line_known : (tried : Bool) (targets : List Register) (k : Keyword) (tokens : List Token) → is_unbuilt built k ≡ false → IfSome (keyword_line tried targets k tokens) Known
+  keyword_line_known tried targets (keywords.Call word) tokens e = says (call_of_line tried word targets tokens) (call_known tried targets word tokens (not_false (built word) e))
+  keyword_line_known tried [] keywords.Set tokens e = two_known (λ target value. option_and_then (λ register. set_at tried register value) (register_in target)) tokens (set_line_known tried)
+  keyword_line_known tried [] keywords.Join tokens e = two_known (λ place value. both (statements.Join tried) (bytes_register place) (bytes_of value)) tokens (λ a b. paired (statements.Join tried) (bytes_register a) (bytes_of b) (λ x y. refl))
+  keyword_line_known false [] k tokens e = plain_known k tokens
+  keyword_line_known _ _ _ _ e = tt
 
-  headed : (heading : Heading) (o : Option Keyword) → is_some_with (is_unbuilt built) o ≡ false → IfSome (option_and_then (λ k. worded_line heading.tried heading.targets k heading.operands) o) Known
+  headed : (heading : Heading) (o : Option Keyword) → is_some_with (is_unbuilt built) o ≡ false → IfSome (option_and_then (λ k. keyword_line heading.tried heading.targets k heading.operands) o) Known
   headed heading None e = tt
-  headed heading (Some k) e = worded_known heading.tried heading.targets k heading.operands e
+  headed heading (Some k) e = keyword_line_known heading.tried heading.targets k heading.operands e
 
   of_line : (o : Option Line) → IfSome o Known → says_well (says_built built) o ≡ true
   of_line None h = refl
   of_line (Some line) h = h
 
-  line_known : (list : List Token) → is_some_with (is_unbuilt built) (heading_of list).word ≡ false → line_says (says_built built) list ≡ true
-  line_known list e = of_line (line_of (heading_of list)) (headed (heading_of list) (heading_of list).word e)
+  line_known : (list : List Token) → is_some_with (is_unbuilt built) (heading_of list).keyword ≡ false → line_says (says_built built) list ≡ true
+  line_known list e = of_line (line_of (heading_of list)) (headed (heading_of list) (heading_of list).keyword e)
 
   lines_known : (context : Context) (lists : List (List Token)) (script : List Program) → context.begun ≡ true → Leads built context lists script → list_all (line_says (says_built built)) lists ≡ true
   lines_known context [] script b l = refl
   lines_known context (list ∷ rest) script b l =
-      let e : is_some_with (is_unbuilt built) (heading_of list).word ≡ false = subst (λ o. is_some_with (is_unbuilt built) (option_and_then (λ heading. heading.word) o) ≡ false) (said_some context list b) l.0.known in
+      let e : is_some_with (is_unbuilt built) (heading_of list).keyword ≡ false = subst (λ o. is_some_with (is_unbuilt built) (option_and_then (λ heading. heading.keyword) o) ≡ false) (said_some context list b) l.0.known in
       and_true (line_says (says_built built) list) (list_all (line_says (says_built built)) rest) (line_known list e) (lines_known (after_by context list) rest script refl l.1)
 
   -- the first line, `dill 1`, makes no call

@@ -6,7 +6,7 @@ use Rattle.dill_script.specs.Blocks.{is_empty}
 use Rattle.dill_script.specs.Lines.{is_line_byte, is_blank, has_tokens, longer, pieces, without_cr, lines_of}
 use Rattle.dill_script.specs.Printing.{hex_digit, byte_text, token_text, line_text, script_lines, canonical}
 use Rattle.dill_script.specs.Spelling.{tokens_in, spoken, Spells, CanonicalSpells, ReadsBack}
-use Rattle.dill_script.specs.Tokens.{Token, Plain, Text, Mark, Blank, Hash, Quote, Backslash, Other, InWord, InText, mark_of, put, tokens, tokens_from}
+use Rattle.dill_script.specs.Tokens.{Token, Plain, Text, Mark, Blank, Hash, Quote, Backslash, Other, InPlain, InText, mark_of, put, tokens, tokens_from}
 use Rattle.dill_script.proofs.Judging.{spoken_is}
 use Rattle.dill_script.proofs.Printed.{body, body_scanned, digit_is}
 use Rattle.dill_script.proofs.Scanned.{AreWordBytes, AreBytes, IsToken, AreTokens, InTexts, scans, tokens_are, between_by}
@@ -41,8 +41,8 @@ marked_some : (byte : ℕ) (bytes : List ℕ) (m : Mark) → (m ≡ Blank → �
 marked_some byte bytes Blank b h t = absurd (b refl)
 marked_some byte bytes Hash b h t = absurd (h refl)
 marked_some byte bytes Quote b h t = texts_some (tokens_from InText bytes) t
-marked_some byte bytes Backslash b h t = put_some byte (tokens_from InWord bytes)
-marked_some byte bytes Other b h t = put_some byte (tokens_from InWord bytes)
+marked_some byte bytes Backslash b h t = put_some byte (tokens_from InPlain bytes)
+marked_some byte bytes Other b h t = put_some byte (tokens_from InPlain bytes)
 
 no_blank : (a b c d : Bool) → a ≡ false → (if a then Blank else (if b then Hash else (if c then Quote else (if d then Backslash else Other)))) ≡ Blank → ⊥
 no_blank true b c d e f = cc

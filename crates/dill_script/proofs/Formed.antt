@@ -16,7 +16,7 @@ use Rattle.dill_script.specs.Fitting.{is_kind, is_rest, is_many, are_kinds, is_r
 use Rattle.dill_script.specs.Numbers.{each, joined, is_decimal, value_of, number_up_to}
 use Rattle.dill_script.specs.Operands.{operand_of, item_of, items_of, send_of, recv_of, args_of, clauses_of, rest_of, operands_of, dest_of, num_of, bytes_of, number_register}
 use Rattle.dill_script.specs.Statements.{dest_at}
-use Rattle.dill_script.specs.Tokens.{Token, is_word}
+use Rattle.dill_script.specs.Tokens.{Token, is_plain}
 use Rattle.dill_script.proofs.Somes.{if_map, if_or, if_then, if_test, if_only, if_joined, and_parts}
 
 pub always : {X : Type 0} (P : X → Type 0) (o : Option X) → ((x : X) → P x) → IfSome o P
@@ -45,12 +45,12 @@ kind_fits kinds.Mode token = mapped (λ operand. is_kind kinds.Mode operand ≡ 
 kind_fits kinds.Role token = mapped (λ operand. is_kind kinds.Role operand ≡ true) operands.Role _ (λ x. refl)
 
 -- operands that may stand behind those that a call always has
-abbrev Rests : Rest → List Operand → Type 0
-Rests rest list = list_all (is_rest rest) list ≡ true
+abbrev FitRest : Rest → List Operand → Type 0
+FitRest rest list = list_all (is_rest rest) list ≡ true
 
 -- one before others
-one_more : (rest : Rest) (o : Option Operand) (os : Option (List Operand)) → IfSome o (λ operand. is_rest rest operand ≡ true) → IfSome os (Rests rest) → IfSome (joined o os) (Rests rest)
-one_more rest o os h k = if_joined (λ operand. is_rest rest operand ≡ true) (Rests rest) (Rests rest) o os (λ operand list e f. and_true (is_rest rest operand) (list_all (is_rest rest) list) e f) h k
+one_more : (rest : Rest) (o : Option Operand) (os : Option (List Operand)) → IfSome o (λ operand. is_rest rest operand ≡ true) → IfSome os (FitRest rest) → IfSome (joined o os) (FitRest rest)
+one_more rest o os h k = if_joined (λ operand. is_rest rest operand ≡ true) (FitRest rest) (FitRest rest) o os (λ operand list e f. and_true (is_rest rest operand) (list_all (is_rest rest) list) e f) h k
 
 item_fits : (token : Token) → IfSome (item_of token) (λ operand. is_rest rests.Items operand ≡ true)
 item_fits token = if_or (λ operand. is_rest rests.Items operand ≡ true) (option_map operands.Bytes (bytes_of token)) (option_map (λ place. operands.Num (nums.Register place)) (number_register token))
@@ -80,10 +80,10 @@ items_fit tokens = if_test (Behind rests.Items) (nat_le 1 (length tokens) && nat
         same_many : (n m : ℕ) → n ≡ m → (nat_le 1 m && nat_le m 16) ≡ true → (nat_le 1 n && nat_le n 16) ≡ true
         same_many n m f g = rw f g
 
-args_fit : (tokens : List Token) → IfSome (args_of tokens) (Rests rests.Args)
+args_fit : (tokens : List Token) → IfSome (args_of tokens) (FitRest rests.Args)
 args_fit [] = refl
 args_fit (token ∷ []) = one_more rests.Args (option_map operands.Num (num_of token)) (Some []) (mapped (λ operand. is_rest rests.Args operand ≡ true) operands.Num (num_of token) (λ x. refl)) refl
-args_fit (token ∷ next ∷ rest) = if_test (Rests rests.Args) (is_word (codes "give") token) (joined (option_map operands.Give (number_register next)) (args_of rest)) (joined (option_map operands.Num (num_of token)) (args_of (next ∷ rest)))
+args_fit (token ∷ next ∷ rest) = if_test (FitRest rests.Args) (is_plain (codes "give") token) (joined (option_map operands.Give (number_register next)) (args_of rest)) (joined (option_map operands.Num (num_of token)) (args_of (next ∷ rest)))
     (λ e. one_more rests.Args (option_map operands.Give (number_register next)) (args_of rest) (mapped (λ operand. is_rest rests.Args operand ≡ true) operands.Give (number_register next) (λ x. refl)) (args_fit rest))
     (λ e. one_more rests.Args (option_map operands.Num (num_of token)) (args_of (next ∷ rest)) (mapped (λ operand. is_rest rests.Args operand ≡ true) operands.Num (num_of token) (λ x. refl)) (args_fit (next ∷ rest)))
 
@@ -93,16 +93,16 @@ send_fits end item = if_then (λ operand. is_rest rests.Clauses operand ≡ true
 recv_fits : (end size : Token) → IfSome (recv_of end size) (λ operand. is_rest rests.Clauses operand ≡ true)
 recv_fits end size = if_then (λ operand. is_rest rests.Clauses operand ≡ true) (λ place. option_map (operands.Recv place) (num_of size)) (num_of end) (always (λ place. IfSome (option_map (operands.Recv place) (num_of size)) (λ operand. is_rest rests.Clauses operand ≡ true)) (num_of end) (λ place. mapped (λ operand. is_rest rests.Clauses operand ≡ true) (operands.Recv place) (num_of size) (λ x. refl)))
 
-clauses_fit : (tokens : List Token) → IfSome (clauses_of tokens) (Rests rests.Clauses)
+clauses_fit : (tokens : List Token) → IfSome (clauses_of tokens) (FitRest rests.Clauses)
 clauses_fit [] = refl
-clauses_fit (token ∷ end ∷ what ∷ rest) = one_more rests.Clauses (if is_word (codes "send") token then send_of end what else (if is_word (codes "recv") token then recv_of end what else None)) (clauses_of rest)
-    (if_test (λ operand. is_rest rests.Clauses operand ≡ true) (is_word (codes "send") token) (send_of end what) (if is_word (codes "recv") token then recv_of end what else None) (λ e. send_fits end what)
-    (λ e. if_test (λ operand. is_rest rests.Clauses operand ≡ true) (is_word (codes "recv") token) (recv_of end what) None (λ f. recv_fits end what) (λ f. tt)))
+clauses_fit (token ∷ end ∷ what ∷ rest) = one_more rests.Clauses (if is_plain (codes "send") token then send_of end what else (if is_plain (codes "recv") token then recv_of end what else None)) (clauses_of rest)
+    (if_test (λ operand. is_rest rests.Clauses operand ≡ true) (is_plain (codes "send") token) (send_of end what) (if is_plain (codes "recv") token then recv_of end what else None) (λ e. send_fits end what)
+    (λ e. if_test (λ operand. is_rest rests.Clauses operand ≡ true) (is_plain (codes "recv") token) (recv_of end what) None (λ f. recv_fits end what) (λ f. tt)))
     (clauses_fit rest)
 clauses_fit _ = tt
 
 -- where any number may stand
-any_many : (rest : Rest) (o : Option (List Operand)) → ((list : List Operand) → is_many rest list ≡ true) → IfSome o (Rests rest) → IfSome o (Behind rest)
+any_many : (rest : Rest) (o : Option (List Operand)) → ((list : List Operand) → is_many rest list ≡ true) → IfSome o (FitRest rest) → IfSome o (Behind rest)
 any_many rest None m h = tt
 any_many rest (Some list) m h = and_true (list_all (is_rest rest) list) (is_many rest list) h (m list)
 

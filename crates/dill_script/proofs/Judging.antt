@@ -9,7 +9,7 @@ use Rattle.dill_script.specs.Blocks.{is_empty, may_stand}
 use Rattle.dill_script.specs.Contexts.{Context, said, after}
 use Rattle.dill_script.specs.Lines.{is_line_byte, has_tokens}
 use Rattle.dill_script.specs.Reading.{Reading, judged, refused_or}
-use Rattle.dill_script.specs.Refusals.{faults, first_reason, is_some_with, word_said, is_version, is_unbuilt, names_again, passes_limit}
+use Rattle.dill_script.specs.Refusals.{faults, first_reason, is_some_with, keyword_said, is_version, is_unbuilt, names_again, passes_limit}
 use Rattle.dill_script.specs.Spelling.{tokens_in, spoken}
 use Rattle.dill_script.specs.Statements.{line_of}
 use Rattle.dill_script.specs.Tokens.{Token, tokens}
@@ -58,7 +58,7 @@ leads_step built context line rest script true e p l = subst (λ list. Leads bui
 leads_step built context line rest script false e p l = subst (λ list. Leads built context list script) (sym (spoken_is line rest false e)) (subst (λ c. Leads built c (spoken rest) script) (after_none context line e) l)
 
 last_part : (built : Word → Bool) (context : Context) (last : Bool) (line : List ℕ) → Passes built context last line → (last && not (is_empty (after context line).open_blocks)) ≡ false
-last_part built context last line p = second_part (is_some_with (λ keyword. not (may_stand context.open_blocks keyword)) (word_said context line)) (last && not (is_empty (after context line).open_blocks)) p.blocks
+last_part built context last line p = second_part (is_some_with (λ keyword. not (may_stand context.open_blocks keyword)) (keyword_said context line)) (last && not (is_empty (after context line).open_blocks)) p.blocks
   where
     second_part : (a b : Bool) → (a || b) ≡ false → b ≡ false
     second_part true b e = cc
@@ -96,9 +96,9 @@ blank_passes built context last line e b t l m =
       version = blank_version (not context.begun) (has_tokens line) (not (is_version (tokens line))) e;
       bytes = rw b refl;
       texts = t;
-      word = subst (λ h. is_some_with (λ heading. is_none heading.word) h ≡ false) s refl;
-      known = subst (λ h. is_some_with (is_unbuilt built) (option_and_then (λ heading. heading.word) h) ≡ false) s refl;
-      blocks = or_parts (is_some_with (λ keyword. not (may_stand context.open_blocks keyword)) (word_said context line)) (last && not (is_empty (after context line).open_blocks)) (subst (λ h. is_some_with (λ keyword. not (may_stand context.open_blocks keyword)) (option_and_then (λ heading. heading.word) h) ≡ false) s refl) l;
+      word = subst (λ h. is_some_with (λ heading. is_none heading.keyword) h ≡ false) s refl;
+      known = subst (λ h. is_some_with (is_unbuilt built) (option_and_then (λ heading. heading.keyword) h) ≡ false) s refl;
+      blocks = or_parts (is_some_with (λ keyword. not (may_stand context.open_blocks keyword)) (keyword_said context line)) (last && not (is_empty (after context line).open_blocks)) (subst (λ h. is_some_with (λ keyword. not (may_stand context.open_blocks keyword)) (option_and_then (λ heading. heading.keyword) h) ≡ false) s refl) l;
       spells = subst (λ h. is_some_with (λ heading. is_none (line_of heading)) h ≡ false) s refl;
       name = subst (λ h. is_some_with (names_again context.whole) (option_and_then line_of h) ≡ false) s refl;
       limit = subst (λ c. passes_limit c ≡ false) (sym (after_none context line e)) m;

@@ -11,7 +11,7 @@ use Rattle.dill_script.specs.Reading.{Reading, judged, started_by, starts_none, 
 use Rattle.dill_script.specs.Refusals.{has_name, is_some_with}
 use Rattle.dill_script.specs.Spelling.{tokens_in, spoken}
 use Rattle.dill_script.specs.Statements.{line_of}
-use Rattle.dill_script.specs.Tokens.{Token, Mark, Blank, Hash, Quote, Backslash, Other, Between, InText, InWord, put, tokens, tokens_from}
+use Rattle.dill_script.specs.Tokens.{Token, Mark, Blank, Hash, Quote, Backslash, Other, Between, InText, InPlain, put, tokens, tokens_from}
 use Rattle.dill_script.proofs.Judging.{spoken_is}
 
 -- the line of these tokens starts a program that isn't there
@@ -22,11 +22,11 @@ blank_step : (byte : ℕ) (bytes : List ℕ) (b h : Bool) → is_blank byte ≡ 
 blank_step byte bytes true h e f g i = ap (λ m. by_mark m) (ap (λ b. if b then Blank else (if byte == 35 then Hash else (if byte == 34 then Quote else (if byte == 92 then Backslash else Other)))) e) ∙ i g
   where
     by_mark : Mark → Option (List Token)
-    by_mark m = elim m [ Blank ↦ tokens_from Between bytes | Hash ↦ Some [] | Quote ↦ tokens_from InText bytes | _ ↦ put byte (tokens_from InWord bytes) ]
+    by_mark m = elim m [ Blank ↦ tokens_from Between bytes | Hash ↦ Some [] | Quote ↦ tokens_from InText bytes | _ ↦ put byte (tokens_from InPlain bytes) ]
 blank_step byte bytes false true e f g i = ap (λ m. by_mark m) (ap (λ b. if b then Blank else (if byte == 35 then Hash else (if byte == 34 then Quote else (if byte == 92 then Backslash else Other)))) e ∙ ap (λ b. if b then Hash else (if byte == 34 then Quote else (if byte == 92 then Backslash else Other))) f)
   where
     by_mark : Mark → Option (List Token)
-    by_mark m = elim m [ Blank ↦ tokens_from Between bytes | Hash ↦ Some [] | Quote ↦ tokens_from InText bytes | _ ↦ put byte (tokens_from InWord bytes) ]
+    by_mark m = elim m [ Blank ↦ tokens_from Between bytes | Hash ↦ Some [] | Quote ↦ tokens_from InText bytes | _ ↦ put byte (tokens_from InPlain bytes) ]
 blank_step byte bytes false false e f g i = cc
 
 -- a line that has no tokens is read as none

@@ -12,9 +12,9 @@ use Rattle.dill_script.specs.Contexts.{Context, opening, adding, ending, behind}
 use Rattle.dill_script.specs.Headings.{Heading, heading_of}
 use Rattle.dill_script.specs.Lines.{lines_of}
 use Rattle.dill_script.specs.Numbers.{only_if, number_up_to}
-use Rattle.dill_script.specs.Operands.{word_in, name_of}
+use Rattle.dill_script.specs.Operands.{plain_in, name_of}
 use Rattle.dill_script.specs.Spelling.{spoken, takes_its, ReadsMains}
-use Rattle.dill_script.specs.Statements.{Line, Opens, Ends, Says, params_fit, program_of, worded_line, line_of}
+use Rattle.dill_script.specs.Statements.{Line, Opens, Ends, Says, params_fit, program_of, keyword_line, line_of}
 use Rattle.dill_script.specs.Tokens.{Token}
 use Rattle.dill_script.proofs.Formed.{always, number_small}
 use Rattle.dill_script.proofs.Judging.{leads_of}
@@ -23,7 +23,7 @@ use Rattle.dill_script.proofs.Linking.{IsRead, is_read}
 use Rattle.dill_script.proofs.Saying.{all_push}
 use Rattle.dill_script.proofs.Somes.{if_then, if_more, if_only}
 use Rattle.dill_script.proofs.Tokenwise.{Leads, after_by}
-use Rattle.dill_script.proofs.Written.{Matches, worded_matches}
+use Rattle.dill_script.proofs.Written.{Matches, keyword_line_matches}
 
 -- the program that a line opens may have so many parameters
 abbrev OpensWell : Line → Type 0
@@ -33,14 +33,14 @@ OpensWell _ = Unit {0}
 and_true : (a b : Bool) → a ≡ true → b ≡ true → (a && b) ≡ true
 and_true a b e f = rw e f
 
-count_small : (token : Token) → IfSome (option_and_then (number_up_to 16) (word_in token)) (λ count. nat_le count 16 ≡ true)
-count_small token = if_then (λ count. nat_le count 16 ≡ true) (number_up_to 16) (word_in token) (always (λ word. IfSome (number_up_to 16 word) (λ count. nat_le count 16 ≡ true)) (word_in token) (number_small 16))
+count_small : (token : Token) → IfSome (option_and_then (number_up_to 16) (plain_in token)) (λ count. nat_le count 16 ≡ true)
+count_small token = if_then (λ count. nat_le count 16 ≡ true) (number_up_to 16) (plain_in token) (always (λ word. IfSome (number_up_to 16 word) (λ count. nat_le count 16 ≡ true)) (plain_in token) (number_small 16))
 
 program_opens : (a b : Token) → IfSome (program_of a b) OpensWell
-program_opens a b = if_then OpensWell (λ name. option_and_then (λ count. only_if (params_fit name count) (Opens name count)) (option_and_then (number_up_to 16) (word_in b))) (name_of a)
-    (always (λ name. IfSome (option_and_then (λ count. only_if (params_fit name count) (Opens name count)) (option_and_then (number_up_to 16) (word_in b))) OpensWell) (name_of a)
-    (λ name. if_then OpensWell (λ count. only_if (params_fit name count) (Opens name count)) (option_and_then (number_up_to 16) (word_in b))
-    (if_more (λ count. nat_le count 16 ≡ true) (λ count. IfSome (only_if (params_fit name count) (Opens name count)) OpensWell) (option_and_then (number_up_to 16) (word_in b)) (λ count small. if_only OpensWell (params_fit name count) (Opens name count) (λ e. and_true (params_fit name count) (nat_le count 16) e small)) (count_small b))))
+program_opens a b = if_then OpensWell (λ name. option_and_then (λ count. only_if (params_fit name count) (Opens name count)) (option_and_then (number_up_to 16) (plain_in b))) (name_of a)
+    (always (λ name. IfSome (option_and_then (λ count. only_if (params_fit name count) (Opens name count)) (option_and_then (number_up_to 16) (plain_in b))) OpensWell) (name_of a)
+    (λ name. if_then OpensWell (λ count. only_if (params_fit name count) (Opens name count)) (option_and_then (number_up_to 16) (plain_in b))
+    (if_more (λ count. nat_le count 16 ≡ true) (λ count. IfSome (only_if (params_fit name count) (Opens name count)) OpensWell) (option_and_then (number_up_to 16) (plain_in b)) (λ count small. if_only OpensWell (params_fit name count) (Opens name count) (λ e. and_true (params_fit name count) (nat_le count 16) e small)) (count_small b))))
 
 -- a line of another word opens none
 abbrev is_program : Keyword → Bool
@@ -54,19 +54,19 @@ opens_none keywords.Program (Opens name params) e m = cc
 opens_none keywords.End (Opens name params) e m = absurd m
 opens_none _ (Opens name params) e m = absurd m
 
-other_opens : (tried : Bool) (targets : List Register) (k : Keyword) (tokens : List Token) → is_program k ≡ false → IfSome (worded_line tried targets k tokens) OpensWell
-other_opens tried targets k tokens e = if_more (Matches k) OpensWell (worded_line tried targets k tokens) (λ line m. opens_none k line e m) (worded_matches tried targets k tokens)
+other_opens : (tried : Bool) (targets : List Register) (k : Keyword) (tokens : List Token) → is_program k ≡ false → IfSome (keyword_line tried targets k tokens) OpensWell
+other_opens tried targets k tokens e = if_more (Matches k) OpensWell (keyword_line tried targets k tokens) (λ line m. opens_none k line e m) (keyword_line_matches tried targets k tokens)
 
-worded_opens : (tried : Bool) (targets : List Register) (k : Keyword) (tokens : List Token) → IfSome (worded_line tried targets k tokens) OpensWell
-worded_opens false [] keywords.Program tokens = two_is (λ list. OpensWell) program_of tokens program_opens
-worded_opens false (register ∷ targets) keywords.Program tokens = tt
-worded_opens true [] keywords.Program tokens = tt
-worded_opens true (register ∷ targets) keywords.Program tokens = tt
-worded_opens tried targets k tokens = other_opens tried targets k tokens refl
+keyword_line_opens : (tried : Bool) (targets : List Register) (k : Keyword) (tokens : List Token) → IfSome (keyword_line tried targets k tokens) OpensWell
+keyword_line_opens false [] keywords.Program tokens = two_is (λ list. OpensWell) program_of tokens program_opens
+keyword_line_opens false (register ∷ targets) keywords.Program tokens = tt
+keyword_line_opens true [] keywords.Program tokens = tt
+keyword_line_opens true (register ∷ targets) keywords.Program tokens = tt
+keyword_line_opens tried targets k tokens = other_opens tried targets k tokens refl
 
-line_opens : (heading : Heading) (o : Option Keyword) → IfSome (option_and_then (λ k. worded_line heading.tried heading.targets k heading.operands) o) OpensWell
+line_opens : (heading : Heading) (o : Option Keyword) → IfSome (option_and_then (λ k. keyword_line heading.tried heading.targets k heading.operands) o) OpensWell
 line_opens heading None = tt
-line_opens heading (Some k) = worded_opens heading.tried heading.targets k heading.operands
+line_opens heading (Some k) = keyword_line_opens heading.tried heading.targets k heading.operands
 
 -- the programs so far take what they may
 record AllTake (context : Context) : Type 0 where
@@ -87,7 +87,7 @@ adding_take context (Some (Says statement)) s h = record { whole = s.whole; curr
 
 step_take : (context : Context) (list : List Token) (begun : Bool) → AllTake context → AllTake (record (behind context (if begun then Some (heading_of list) else None)) { begun = true })
 step_take context list true s =
-    let a : AllTake (adding context (line_of (heading_of list))) = adding_take context (line_of (heading_of list)) s (line_opens (heading_of list) (heading_of list).word) in
+    let a : AllTake (adding context (line_of (heading_of list))) = adding_take context (line_of (heading_of list)) s (line_opens (heading_of list) (heading_of list).keyword) in
     record { whole = a.whole; current = a.current }
 step_take context list false s = record { whole = s.whole; current = s.current }
 

@@ -95,21 +95,21 @@ line_apart context k (Says s) n e m f a =
 line_apart context _ (Opens name params) n e m f a = absurd m
 line_apart context _ Ends n e m f a = absurd m
 
-head_apart : (context : Context) (h : Heading) (w : Option Keyword) (o : Option Line) → h.word ≡ w → line_of h ≡ o → is_none w ≡ false → is_none o ≡ false → is_some_with (λ keyword. not (may_stand context.open_blocks keyword)) w ≡ false → is_some_with (names_again context.whole) o ≡ false → Nested context.open_blocks → Apart context → Apart (record (record (adding context o) { open_blocks = open_behind context.open_blocks w }) { begun = true })
+head_apart : (context : Context) (h : Heading) (w : Option Keyword) (o : Option Line) → h.keyword ≡ w → line_of h ≡ o → is_none w ≡ false → is_none o ≡ false → is_some_with (λ keyword. not (may_stand context.open_blocks keyword)) w ≡ false → is_some_with (names_again context.whole) o ≡ false → Nested context.open_blocks → Apart context → Apart (record (record (adding context o) { open_blocks = open_behind context.open_blocks w }) { begun = true })
 head_apart context h None o e f g i m s n a = cc
 head_apart context h (Some k) None e f g i m s n a = cc
 head_apart context h (Some k) (Some line) e f g i m s n a =
-    let b : Apart (record (adding context (Some line)) { open_blocks = blocks_behind context.open_blocks k }) = line_apart context k line n (not_false (may_stand context.open_blocks k) m) (matches_of h h.word k line f e) s a in
+    let b : Apart (record (adding context (Some line)) { open_blocks = blocks_behind context.open_blocks k }) = line_apart context k line n (not_false (may_stand context.open_blocks k) m) (matches_of h h.keyword k line f e) s a in
     record { whole = b.whole; current = b.current }
 
 step_apart : (built : Word → Bool) (context : Context) (list : List Token) → context.begun ≡ true → Nested context.open_blocks → IsFine built context list → Apart context → Apart (after_by context list)
 step_apart built context list e n f a =
     let h : Heading = heading_of list in
     let s : said_by context list ≡ Some h = said_some context list e in
-    let b : Apart (record (behind context (Some h)) { begun = true }) = head_apart context h h.word (line_of h) refl refl
-    (subst (λ x. is_some_with (λ heading. is_none heading.word) x ≡ false) s f.word)
+    let b : Apart (record (behind context (Some h)) { begun = true }) = head_apart context h h.keyword (line_of h) refl refl
+    (subst (λ x. is_some_with (λ heading. is_none heading.keyword) x ≡ false) s f.word)
     (subst (λ x. is_some_with (λ heading. is_none (line_of heading)) x ≡ false) s f.spells)
-    (subst (λ x. is_some_with (λ keyword. not (may_stand context.open_blocks keyword)) (option_and_then (λ heading. heading.word) x) ≡ false) s f.stands)
+    (subst (λ x. is_some_with (λ keyword. not (may_stand context.open_blocks keyword)) (option_and_then (λ heading. heading.keyword) x) ≡ false) s f.stands)
     (subst (λ x. is_some_with (names_again context.whole) (option_and_then line_of x) ≡ false) s f.name) n a in
     subst (λ x. Apart (record (behind context x) { begun = true })) (sym s) b
 

@@ -4,8 +4,8 @@ use Rattle.std.proofs.lemmas.Bool.{eqb-true, eq-eqb}
 use Rattle.std.specs.List.{join_with_byte}
 use Rattle.dill_script.specs.Lines.{is_blank}
 use Rattle.dill_script.specs.Printing.{hex_digit, byte_text, token_text}
-use Rattle.dill_script.specs.Tokens.{Token, Plain, Text, Mark, Blank, Hash, Quote, Backslash, Other, Between, InWord, InText, BehindText, mark_of, is_hex, hex_value, put, before, tokens, tokens_from}
-use Rattle.dill_script.proofs.Scanned.{AreWordBytes, AreBytes, IsToken, AreTokens, between_by, word_by, text_by, hex_by, low_by}
+use Rattle.dill_script.specs.Tokens.{Token, Plain, Text, Mark, Blank, Hash, Quote, Backslash, Other, Between, InPlain, InText, BehindText, mark_of, is_hex, hex_value, put, before, tokens, tokens_from}
+use Rattle.dill_script.proofs.Scanned.{AreWordBytes, AreBytes, IsToken, AreTokens, between_by, keyword_by, text_by, hex_by, low_by}
 use Rattle.dill_script.proofs.Somes.{and_parts}
 
 -- bytes at the front of the first token
@@ -22,9 +22,9 @@ put_texts [] rest = refl
 put_texts (byte ∷ bytes) rest = ap (put byte) (put_texts bytes rest)
 
 -- the bytes of a word
-word_scanned : (bytes tail : List ℕ) → AreWordBytes bytes → tokens_from InWord (bytes ++ tail) ≡ put_all bytes (tokens_from InWord tail)
+word_scanned : (bytes tail : List ℕ) → AreWordBytes bytes → tokens_from InPlain (bytes ++ tail) ≡ put_all bytes (tokens_from InPlain tail)
 word_scanned [] tail w = refl
-word_scanned (byte ∷ bytes) tail w = ap (word_by byte (bytes ++ tail)) w.0.solid ∙ ap (put byte) (word_scanned bytes tail w.1)
+word_scanned (byte ∷ bytes) tail w = ap (keyword_by byte (bytes ++ tail)) w.0.solid ∙ ap (put byte) (word_scanned bytes tail w.1)
 
 -- each digit of base 16 is one, and means what it stands for
 abbrev hex_holds : ℕ → Bool
@@ -100,7 +100,7 @@ pub data Ending : List ℕ → List Token → Type 0 where
   over : Ending [] []
   goes : (bytes : List ℕ) (more : List Token) → tokens_from Between bytes ≡ Some more → Ending (32 ∷ bytes) more
 
-word_ending : (tail : List ℕ) (more : List Token) → Ending tail more → tokens_from InWord tail ≡ Some (Plain [] ∷ more)
+word_ending : (tail : List ℕ) (more : List Token) → Ending tail more → tokens_from InPlain tail ≡ Some (Plain [] ∷ more)
 word_ending _ _ over = refl
 word_ending _ _ (goes bytes more e) = ap (before (Plain [])) e
 
@@ -108,7 +108,7 @@ text_ending : (tail : List ℕ) (more : List Token) → Ending tail more → tok
 text_ending _ _ over = refl
 text_ending _ _ (goes bytes more e) = ap (before (Text [])) e
 
-first_marked : (byte : ℕ) (bytes : List ℕ) (a : Bool) (m : Mark) → is_blank byte ≡ a → a ≡ false → mark_of byte ≡ m → (m ≡ Blank → is_blank byte ≡ true) → (mark_of byte ≢ Hash) → (mark_of byte ≢ Quote) → between_by byte bytes m ≡ put byte (tokens_from InWord bytes)
+first_marked : (byte : ℕ) (bytes : List ℕ) (a : Bool) (m : Mark) → is_blank byte ≡ a → a ≡ false → mark_of byte ≡ m → (m ≡ Blank → is_blank byte ≡ true) → (mark_of byte ≢ Hash) → (mark_of byte ≢ Quote) → between_by byte bytes m ≡ put byte (tokens_from InPlain bytes)
 first_marked byte bytes a Blank e f g b h q = let x : is_blank byte ≡ true = b refl in cc
 first_marked byte bytes a Hash e f g b h q = absurd (h g)
 first_marked byte bytes a Quote e f g b h q = absurd (q g)

@@ -3,7 +3,7 @@ use Rattle.std.proofs.Common.{◌≡◌, ℕ, ◌+◌, ◌-◌, ◌*◌, ◌<◌
 use Rattle.std.proofs.lemmas.Bool.{eqb-true}
 use Rattle.std.specs.List.{list_all}
 use Rattle.dill_script.specs.Lines.{is_line_byte, is_blank}
-use Rattle.dill_script.specs.Tokens.{Token, Plain, Text, Mark, Blank, Hash, Quote, Backslash, Other, Place, Between, InWord, InText, InEscape, InHex, InHexOf, BehindText, mark_of, is_hex, hex_value, escaped, put, before, tokens, tokens_from}
+use Rattle.dill_script.specs.Tokens.{Token, Plain, Text, Mark, Blank, Hash, Quote, Backslash, Other, Place, Between, InPlain, InText, InEscape, InHex, InHexOf, BehindText, mark_of, is_hex, hex_value, escaped, put, before, tokens, tokens_from}
 use Rattle.dill_script.proofs.Somes.{and_parts}
 
 -- a byte of a word
@@ -33,10 +33,10 @@ AreTokens [] = Unit {0}
 AreTokens (token ∷ rest) = IsToken token × AreTokens rest
 
 -- tokens of which the first began before
-abbrev pub InWords : List Token → Type 0
-InWords [] = ⊥
-InWords (Plain word ∷ rest) = AreWordBytes word × AreTokens rest
-InWords (Text bytes ∷ rest) = ⊥
+abbrev pub InPlains : List Token → Type 0
+InPlains [] = ⊥
+InPlains (Plain word ∷ rest) = AreWordBytes word × AreTokens rest
+InPlains (Text bytes ∷ rest) = ⊥
 
 abbrev pub InTexts : List Token → Type 0
 InTexts [] = ⊥
@@ -45,7 +45,7 @@ InTexts (Text bytes ∷ rest) = AreBytes bytes × AreTokens rest
 
 abbrev From : Place → List Token → Type 0
 From Between list = AreTokens list
-From InWord list = InWords list
+From InPlain list = InPlains list
 From _ list = InTexts list
 
 put_text : (byte : ℕ) (o : Option (List Token)) → byte < 256 → IfSome o InTexts → IfSome (put byte o) InTexts
@@ -54,20 +54,20 @@ put_text byte (Some []) b h = absurd h
 put_text byte (Some (Plain word ∷ rest)) b h = absurd h
 put_text byte (Some (Text bytes ∷ rest)) b h = ((b, h.0), h.1)
 
-put_word : (byte : ℕ) (o : Option (List Token)) → IsWordByte byte → IfSome o InWords → IfSome (put byte o) InWords
+put_word : (byte : ℕ) (o : Option (List Token)) → IsWordByte byte → IfSome o InPlains → IfSome (put byte o) InPlains
 put_word byte None b h = tt
 put_word byte (Some []) b h = absurd h
 put_word byte (Some (Plain word ∷ rest)) b h = ((b, h.0), h.1)
 put_word byte (Some (Text bytes ∷ rest)) b h = absurd h
 
 -- the first byte of a word
-put_first : (byte : ℕ) (o : Option (List Token)) → (mark_of byte ≢ Hash) → (mark_of byte ≢ Quote) → IsWordByte byte → IfSome o InWords → IfSome (put byte o) AreTokens
+put_first : (byte : ℕ) (o : Option (List Token)) → (mark_of byte ≢ Hash) → (mark_of byte ≢ Quote) → IsWordByte byte → IfSome o InPlains → IfSome (put byte o) AreTokens
 put_first byte None n q b h = tt
 put_first byte (Some []) n q b h = absurd h
 put_first byte (Some (Plain word ∷ rest)) n q b h = ((n, q, b, h.0), h.1)
 put_first byte (Some (Text bytes ∷ rest)) n q b h = absurd h
 
-before_word : (o : Option (List Token)) → IfSome o AreTokens → IfSome (before (Plain []) o) InWords
+before_word : (o : Option (List Token)) → IfSome o AreTokens → IfSome (before (Plain []) o) InPlains
 before_word None h = tt
 before_word (Some list) h = (tt, h)
 
@@ -113,10 +113,10 @@ solid_mark byte m e n = blank_test (is_blank byte) (if byte == 35 then Hash else
 
 -- the tokens behind a byte between tokens, in a text and in an escape
 abbrev pub between_by : ℕ → List ℕ → Mark → Option (List Token)
-between_by byte bytes m = elim m [ Blank ↦ tokens_from Between bytes | Hash ↦ Some [] | Quote ↦ tokens_from InText bytes | _ ↦ put byte (tokens_from InWord bytes) ]
+between_by byte bytes m = elim m [ Blank ↦ tokens_from Between bytes | Hash ↦ Some [] | Quote ↦ tokens_from InText bytes | _ ↦ put byte (tokens_from InPlain bytes) ]
 
-abbrev pub word_by : ℕ → List ℕ → Bool → Option (List Token)
-word_by byte bytes b = elim b [ true ↦ before (Plain []) (tokens_from Between bytes) | false ↦ put byte (tokens_from InWord bytes) ]
+abbrev pub keyword_by : ℕ → List ℕ → Bool → Option (List Token)
+keyword_by byte bytes b = elim b [ true ↦ before (Plain []) (tokens_from Between bytes) | false ↦ put byte (tokens_from InPlain bytes) ]
 
 abbrev pub text_by : ℕ → List ℕ → Mark → Option (List Token)
 text_by byte bytes m = elim m [ Quote ↦ tokens_from BehindText bytes | Backslash ↦ tokens_from InEscape bytes | _ ↦ put byte (tokens_from InText bytes) ]
@@ -136,16 +136,16 @@ low_by high byte bytes b = elim b [ true ↦ put (16 * high + hex_value byte) (t
 abbrev behind_by : List ℕ → Bool → Option (List Token)
 behind_by bytes b = elim b [ true ↦ before (Text []) (tokens_from Between bytes) | false ↦ None ]
 
-between_is : (byte : ℕ) (bytes : List ℕ) (m : Mark) → mark_of byte ≡ m → is_line_byte byte ≡ true → IfSome (tokens_from Between bytes) AreTokens → IfSome (tokens_from InText bytes) InTexts → IfSome (tokens_from InWord bytes) InWords → IfSome (between_by byte bytes m) AreTokens
+between_is : (byte : ℕ) (bytes : List ℕ) (m : Mark) → mark_of byte ≡ m → is_line_byte byte ≡ true → IfSome (tokens_from Between bytes) AreTokens → IfSome (tokens_from InText bytes) InTexts → IfSome (tokens_from InPlain bytes) InPlains → IfSome (between_by byte bytes m) AreTokens
 between_is byte bytes Blank e l h t w = h
 between_is byte bytes Hash e l h t w = tt
 between_is byte bytes Quote e l h t w = text_tokens (tokens_from InText bytes) t
-between_is byte bytes Backslash e l h t w = put_first byte (tokens_from InWord bytes) (λ x. let y : Backslash ≡ Hash = sym e ∙ x in cc) (λ x. let y : Backslash ≡ Quote = sym e ∙ x in cc) (record { line = l; solid = solid_mark byte Backslash e (λ x. cc) }) w
-between_is byte bytes Other e l h t w = put_first byte (tokens_from InWord bytes) (λ x. let y : Other ≡ Hash = sym e ∙ x in cc) (λ x. let y : Other ≡ Quote = sym e ∙ x in cc) (record { line = l; solid = solid_mark byte Other e (λ x. cc) }) w
+between_is byte bytes Backslash e l h t w = put_first byte (tokens_from InPlain bytes) (λ x. let y : Backslash ≡ Hash = sym e ∙ x in cc) (λ x. let y : Backslash ≡ Quote = sym e ∙ x in cc) (record { line = l; solid = solid_mark byte Backslash e (λ x. cc) }) w
+between_is byte bytes Other e l h t w = put_first byte (tokens_from InPlain bytes) (λ x. let y : Other ≡ Hash = sym e ∙ x in cc) (λ x. let y : Other ≡ Quote = sym e ∙ x in cc) (record { line = l; solid = solid_mark byte Other e (λ x. cc) }) w
 
-word_is : (byte : ℕ) (bytes : List ℕ) (b : Bool) → is_blank byte ≡ b → is_line_byte byte ≡ true → IfSome (tokens_from Between bytes) AreTokens → IfSome (tokens_from InWord bytes) InWords → IfSome (word_by byte bytes b) InWords
+word_is : (byte : ℕ) (bytes : List ℕ) (b : Bool) → is_blank byte ≡ b → is_line_byte byte ≡ true → IfSome (tokens_from Between bytes) AreTokens → IfSome (tokens_from InPlain bytes) InPlains → IfSome (keyword_by byte bytes b) InPlains
 word_is byte bytes true e l h w = before_word (tokens_from Between bytes) h
-word_is byte bytes false e l h w = put_word byte (tokens_from InWord bytes) (record { line = l; solid = e }) w
+word_is byte bytes false e l h w = put_word byte (tokens_from InPlain bytes) (record { line = l; solid = e }) w
 
 text_is : (byte : ℕ) (bytes : List ℕ) (m : Mark) → byte < 256 → IfSome (tokens_from InText bytes) InTexts → IfSome (tokens_from InEscape bytes) InTexts → IfSome (tokens_from BehindText bytes) InTexts → IfSome (text_by byte bytes m) InTexts
 text_is byte bytes Quote l t x h = h
@@ -200,7 +200,7 @@ behind_is bytes false h = tt
 -- what is met on the way through a line, wherever it begins
 pub record Scans (bytes : List ℕ) : Type 0 where
   pub between : IfSome (tokens_from Between bytes) AreTokens
-  pub word : IfSome (tokens_from InWord bytes) InWords
+  pub word : IfSome (tokens_from InPlain bytes) InPlains
   pub text : IfSome (tokens_from InText bytes) InTexts
   pub escape : IfSome (tokens_from InEscape bytes) InTexts
   pub hex : IfSome (tokens_from InHex bytes) InTexts

@@ -9,7 +9,7 @@ use Rattle.dill_script.specs.Blocks.{is_empty, may_stand}
 use Rattle.dill_script.specs.Contexts.{Context, said, after, behind}
 use Rattle.dill_script.specs.Headings.{Heading, heading_of}
 use Rattle.dill_script.specs.Lines.{is_line_byte, has_tokens}
-use Rattle.dill_script.specs.Refusals.{faults, first_reason, lacks_version, is_version, has_unknown_word, word_said, is_unbuilt, breaks_blocks, misspells, repeats_name, names_again, passes_limit, is_some_with}
+use Rattle.dill_script.specs.Refusals.{faults, first_reason, lacks_version, is_version, has_unknown_word, keyword_said, is_unbuilt, breaks_blocks, misspells, repeats_name, names_again, passes_limit, is_some_with}
 use Rattle.dill_script.specs.Spelling.{tokens_in}
 use Rattle.dill_script.specs.Statements.{line_of}
 use Rattle.dill_script.specs.Tokens.{Token, tokens}
@@ -21,15 +21,15 @@ said_by context list = if context.begun then Some (heading_of list) else None
 abbrev pub after_by : Context → List Token → Context
 after_by context list = record (behind context (said_by context list)) { begun = true }
 
-abbrev pub word_by : Context → List Token → Option Keyword
-word_by context list = option_and_then (λ heading. heading.word) (said_by context list)
+abbrev pub keyword_by : Context → List Token → Option Keyword
+keyword_by context list = option_and_then (λ heading. heading.keyword) (said_by context list)
 
 -- nothing is wrong with a line of these tokens, whatever follows it
 pub record IsFine (built : Word → Bool) (context : Context) (list : List Token) : Type 0 where
   pub version : (not context.begun && not (is_version (Some list))) ≡ false
-  pub word : is_some_with (λ heading. is_none heading.word) (said_by context list) ≡ false
-  pub known : is_some_with (is_unbuilt built) (word_by context list) ≡ false
-  pub stands : is_some_with (λ keyword. not (may_stand context.open_blocks keyword)) (word_by context list) ≡ false
+  pub word : is_some_with (λ heading. is_none heading.keyword) (said_by context list) ≡ false
+  pub known : is_some_with (is_unbuilt built) (keyword_by context list) ≡ false
+  pub stands : is_some_with (λ keyword. not (may_stand context.open_blocks keyword)) (keyword_by context list) ≡ false
   pub spells : is_some_with (λ heading. is_none (line_of heading)) (said_by context list) ≡ false
   pub name : is_some_with (names_again context.whole) (option_and_then line_of (said_by context list)) ≡ false
   pub limit : passes_limit (after_by context list) ≡ false
@@ -81,7 +81,7 @@ pub record Passes (built : Word → Bool) (context : Context) (last : Bool) (lin
   pub bytes : not (list_all is_line_byte line) ≡ false
   pub texts : is_none (tokens line) ≡ false
   pub word : has_unknown_word context line ≡ false
-  pub known : is_some_with (is_unbuilt built) (word_said context line) ≡ false
+  pub known : is_some_with (is_unbuilt built) (keyword_said context line) ≡ false
   pub blocks : breaks_blocks context last line ≡ false
   pub spells : misspells context line ≡ false
   pub name : repeats_name context line ≡ false
@@ -102,11 +102,11 @@ nine_parts false false false false false false false false true x = cc
 
 pub passes : (built : Word → Bool) (context : Context) (last : Bool) (line : List ℕ) → first_reason (faults built context last line) ≡ None → Passes built context last line
 passes built context last line x =
-    let p = nine_parts (lacks_version context line) (not (list_all is_line_byte line)) (is_none (tokens line)) (has_unknown_word context line) (is_some_with (is_unbuilt built) (word_said context line)) (breaks_blocks context last line) (misspells context line) (repeats_name context line) (passes_limit (after context line)) x in
+    let p = nine_parts (lacks_version context line) (not (list_all is_line_byte line)) (is_none (tokens line)) (has_unknown_word context line) (is_some_with (is_unbuilt built) (keyword_said context line)) (breaks_blocks context last line) (misspells context line) (repeats_name context line) (passes_limit (after context line)) x in
     record { version = p.0; bytes = p.1; texts = p.2; word = p.3; known = p.4; blocks = p.5; spells = p.6; name = p.7; limit = p.8 }
 
 pub no_reason : (built : Word → Bool) (context : Context) (last : Bool) (line : List ℕ) → Passes built context last line → first_reason (faults built context last line) ≡ None
-no_reason built context last line p = nine (lacks_version context line) (not (list_all is_line_byte line)) (is_none (tokens line)) (has_unknown_word context line) (is_some_with (is_unbuilt built) (word_said context line)) (breaks_blocks context last line) (misspells context line) (repeats_name context line) (passes_limit (after context line)) p.version p.bytes p.texts p.word p.known p.blocks p.spells p.name p.limit
+no_reason built context last line p = nine (lacks_version context line) (not (list_all is_line_byte line)) (is_none (tokens line)) (has_unknown_word context line) (is_some_with (is_unbuilt built) (keyword_said context line)) (breaks_blocks context last line) (misspells context line) (repeats_name context line) (passes_limit (after context line)) p.version p.bytes p.texts p.word p.known p.blocks p.spells p.name p.limit
 
 -- tests of a line with tokens are tests of its tokens
 parts_or : (a b : Bool) → (a || b) ≡ false → (a ≡ false) × (b ≡ false)
@@ -127,12 +127,12 @@ version_by begun t o p e f = rw e (rw f refl)
 pub fine_of : (built : Word → Bool) (context : Context) (last : Bool) (line : List ℕ) → has_tokens line ≡ true → Passes built context last line → IsFine built context (tokens_in line)
 fine_of built context last line e p =
     let s : said context line ≡ said_by context (tokens_in line) = said_is context line e in
-    let b = parts_or (is_some_with (λ keyword. not (may_stand context.open_blocks keyword)) (word_said context line)) (last && not (is_empty (after context line).open_blocks)) p.blocks in
+    let b = parts_or (is_some_with (λ keyword. not (may_stand context.open_blocks keyword)) (keyword_said context line)) (last && not (is_empty (after context line).open_blocks)) p.blocks in
     record {
       version = sym (version_by context.begun (has_tokens line) (tokens line) (Some (tokens_in line)) e (some_tokens (tokens line) p.texts)) ∙ p.version;
-      word = subst (λ h. is_some_with (λ heading. is_none heading.word) h ≡ false) s p.word;
-      known = subst (λ h. is_some_with (is_unbuilt built) (option_and_then (λ heading. heading.word) h) ≡ false) s p.known;
-      stands = subst (λ h. is_some_with (λ keyword. not (may_stand context.open_blocks keyword)) (option_and_then (λ heading. heading.word) h) ≡ false) s b.0;
+      word = subst (λ h. is_some_with (λ heading. is_none heading.keyword) h ≡ false) s p.word;
+      known = subst (λ h. is_some_with (is_unbuilt built) (option_and_then (λ heading. heading.keyword) h) ≡ false) s p.known;
+      stands = subst (λ h. is_some_with (λ keyword. not (may_stand context.open_blocks keyword)) (option_and_then (λ heading. heading.keyword) h) ≡ false) s b.0;
       spells = subst (λ h. is_some_with (λ heading. is_none (line_of heading)) h ≡ false) s p.spells;
       name = subst (λ h. is_some_with (names_again context.whole) (option_and_then line_of h) ≡ false) s p.name;
       limit = subst (λ c. passes_limit c ≡ false) (after_is context line e) p.limit;
@@ -146,9 +146,9 @@ passes_of built context last line e b t l f =
       version = version_by context.begun (has_tokens line) (tokens line) (Some (tokens_in line)) e (some_tokens (tokens line) t) ∙ f.version;
       bytes = rw b refl;
       texts = t;
-      word = subst (λ h. is_some_with (λ heading. is_none heading.word) h ≡ false) s f.word;
-      known = subst (λ h. is_some_with (is_unbuilt built) (option_and_then (λ heading. heading.word) h) ≡ false) s f.known;
-      blocks = or_parts (is_some_with (λ keyword. not (may_stand context.open_blocks keyword)) (word_said context line)) (last && not (is_empty (after context line).open_blocks)) (subst (λ h. is_some_with (λ keyword. not (may_stand context.open_blocks keyword)) (option_and_then (λ heading. heading.word) h) ≡ false) s f.stands) l;
+      word = subst (λ h. is_some_with (λ heading. is_none heading.keyword) h ≡ false) s f.word;
+      known = subst (λ h. is_some_with (is_unbuilt built) (option_and_then (λ heading. heading.keyword) h) ≡ false) s f.known;
+      blocks = or_parts (is_some_with (λ keyword. not (may_stand context.open_blocks keyword)) (keyword_said context line)) (last && not (is_empty (after context line).open_blocks)) (subst (λ h. is_some_with (λ keyword. not (may_stand context.open_blocks keyword)) (option_and_then (λ heading. heading.keyword) h) ≡ false) s f.stands) l;
       spells = subst (λ h. is_some_with (λ heading. is_none (line_of heading)) h ≡ false) s f.spells;
       name = subst (λ h. is_some_with (names_again context.whole) (option_and_then line_of h) ≡ false) s f.name;
       limit = subst (λ c. passes_limit c ≡ false) (sym (after_is context line e)) f.limit;

@@ -9,7 +9,7 @@ use Rattle.dill_script.specs.declared.line.Register.{Register}
 use Rattle.dill_script.specs.declared.line.Register.TheVariants as registers
 use Rattle.dill_script.specs.declared.operand.Num.TheVariants as nums
 use Rattle.dill_script.specs.Numbers.{named, is_digit, is_decimal, value_of, number_up_to, number_of, register_of}
-use Rattle.dill_script.specs.Operands.{number_place, bytes_place, num_of_word}
+use Rattle.dill_script.specs.Operands.{number_place, bytes_place, num_of_plain}
 use Rattle.dill_script.specs.Printing.{number_register_text, bytes_register_text, num_text}
 use Rattle.dill_script.proofs.Somes.{if_map, if_or, if_then, if_more, if_test, if_only, and_parts}
 
@@ -114,7 +114,7 @@ pub bytes_register_is : (word : List ℕ) → IfSome (option_and_then bytes_plac
 bytes_register_is word = if_then (λ p. bytes_register_text p ≡ word) bytes_place (register_of word) (if_more (λ r. register_text r ≡ word) (λ r. IfSome (bytes_place r) (λ p. bytes_register_text p ≡ word)) (register_of word) (λ r e. bytes_place_of word r e) (register_is word))
 
 -- NUM is written as it was read
-pub num_is : (word : List ℕ) → IfSome (num_of_word word) (λ n. num_text n ≡ word)
+pub num_is : (word : List ℕ) → IfSome (num_of_plain word) (λ n. num_text n ≡ word)
 num_is word = if_or (λ n. num_text n ≡ word) (option_map nums.Literal (number_of word)) (option_map nums.Register (option_and_then number_place (register_of word)))
     (if_map (λ n. num_text n ≡ word) nums.Literal (number_of word) (number_is 9223372036854775807 word (omega arith)))
     (if_map (λ n. num_text n ≡ word) nums.Register (option_and_then number_place (register_of word)) (number_register_is word))

@@ -14,9 +14,9 @@ use Rattle.dill_script.specs.declared.statement.Statement.TheVariants as stateme
 use Rattle.dill_script.specs.Blocks.{is_empty, is_loop, is_finally, is_in_if, is_in_program, may_stand, outside, blocks_behind}
 use Rattle.dill_script.specs.Contexts.{Context, bare, saying, ended, ending, adding}
 use Rattle.dill_script.specs.Numbers.{only_if, number_up_to}
-use Rattle.dill_script.specs.Operands.{word_in, name_of, number_register, bytes_register, num_of, register_in, bytes_of}
+use Rattle.dill_script.specs.Operands.{plain_in, name_of, number_register, bytes_register, num_of, register_in, bytes_of}
 use Rattle.dill_script.specs.Printing.{statement_tokens, program_lines}
-use Rattle.dill_script.specs.Statements.{Line, Opens, Ends, Says, both, set_at, with_two, program_of, params_fit, plain_line, worded_line, cond_of, loop_of, fail_of, call_of_line}
+use Rattle.dill_script.specs.Statements.{Line, Opens, Ends, Says, both, set_at, with_two, program_of, params_fit, plain_line, keyword_line, cond_of, loop_of, fail_of, call_of_line}
 use Rattle.dill_script.specs.Tokens.{Token, Plain}
 use Rattle.dill_script.proofs.LineWords.{spelled, two_is, none_is}
 use Rattle.dill_script.proofs.Somes.{if_map, if_then, if_only}
@@ -54,10 +54,10 @@ any_some P None h = tt
 any_some P (Some x) h = h x
 
 program_matches : (a b : Token) → IfSome (program_of a b) (Matches keywords.Program)
-program_matches a b = if_then (Matches keywords.Program) (λ opened. option_and_then (λ count. only_if (params_fit opened count) (Opens opened count)) (option_and_then (number_up_to 16) (word_in b))) (name_of a)
-    (any_some (λ opened. IfSome (option_and_then (λ count. only_if (params_fit opened count) (Opens opened count)) (option_and_then (number_up_to 16) (word_in b))) (Matches keywords.Program)) (name_of a)
-    (λ opened. if_then (Matches keywords.Program) (λ count. only_if (params_fit opened count) (Opens opened count)) (option_and_then (number_up_to 16) (word_in b))
-    (any_some (λ count. IfSome (only_if (params_fit opened count) (Opens opened count)) (Matches keywords.Program)) (option_and_then (number_up_to 16) (word_in b)) (λ count. if_only (Matches keywords.Program) (params_fit opened count) (Opens opened count) (λ e. tt)))))
+program_matches a b = if_then (Matches keywords.Program) (λ opened. option_and_then (λ count. only_if (params_fit opened count) (Opens opened count)) (option_and_then (number_up_to 16) (plain_in b))) (name_of a)
+    (any_some (λ opened. IfSome (option_and_then (λ count. only_if (params_fit opened count) (Opens opened count)) (option_and_then (number_up_to 16) (plain_in b))) (Matches keywords.Program)) (name_of a)
+    (λ opened. if_then (Matches keywords.Program) (λ count. only_if (params_fit opened count) (Opens opened count)) (option_and_then (number_up_to 16) (plain_in b))
+    (any_some (λ count. IfSome (only_if (params_fit opened count) (Opens opened count)) (Matches keywords.Program)) (option_and_then (number_up_to 16) (plain_in b)) (λ count. if_only (Matches keywords.Program) (params_fit opened count) (Opens opened count) (λ e. tt)))))
 
 -- a line that holds a statement
 says_matches : (k : Keyword) (o : Option Statement) → ((s : Statement) → Matches k (Says s)) → IfSome (option_map Says o) (Matches k)
@@ -78,12 +78,12 @@ plain_matches keywords.Return tokens = none_is (λ list. Matches keywords.Return
 plain_matches keywords.Fail tokens = says_matches keywords.Fail (fail_of tokens) (λ s. tt)
 plain_matches _ tokens = tt
 
-pub worded_matches : (tried : Bool) (targets : List Register) (k : Keyword) (tokens : List Token) → IfSome (worded_line tried targets k tokens) (Matches k)
-worded_matches tried targets (keywords.Call word) tokens = says_matches (keywords.Call word) (call_of_line tried word targets tokens) (λ s. tt)
-worded_matches tried [] keywords.Set tokens = says_matches keywords.Set (with_two (λ target value. option_and_then (λ register. set_at tried register value) (register_in target)) tokens) (λ s. tt)
-worded_matches tried [] keywords.Join tokens = says_matches keywords.Join (with_two (λ place value. both (statements.Join tried) (bytes_register place) (bytes_of value)) tokens) (λ s. tt)
-worded_matches false [] k tokens = plain_matches k tokens
-worded_matches _ _ _ _ = tt
+pub keyword_line_matches : (tried : Bool) (targets : List Register) (k : Keyword) (tokens : List Token) → IfSome (keyword_line tried targets k tokens) (Matches k)
+keyword_line_matches tried targets (keywords.Call word) tokens = says_matches (keywords.Call word) (call_of_line tried word targets tokens) (λ s. tt)
+keyword_line_matches tried [] keywords.Set tokens = says_matches keywords.Set (with_two (λ target value. option_and_then (λ register. set_at tried register value) (register_in target)) tokens) (λ s. tt)
+keyword_line_matches tried [] keywords.Join tokens = says_matches keywords.Join (with_two (λ place value. both (statements.Join tried) (bytes_register place) (bytes_of value)) tokens) (λ s. tt)
+keyword_line_matches false [] k tokens = plain_matches k tokens
+keyword_line_matches _ _ _ _ = tt
 
 -- blocks stay nested, and some are open before and behind each line but the first and last of a program
 pub record StaysOpen (open_blocks behind_them : List Block) : Type 0 where

@@ -81,7 +81,7 @@ said context line = if context.begun && has_tokens line then Some (head_of line)
 -- the context behind a line of this head
 abbrev pub behind : Context → Option Heading → Context
 behind context None = context
-behind context (Some heading) = record (adding context (line_of heading)) { open_blocks = open_behind context.open_blocks heading.word }
+behind context (Some heading) = record (adding context (line_of heading)) { open_blocks = open_behind context.open_blocks heading.keyword }
 
 -- the context behind a line
 abbrev pub after : Context → List ℕ → Context

@@ -25,16 +25,16 @@ use Rattle.dill_script.specs.declared.operand.Mode.TheVariants as modes
 use Rattle.dill_script.specs.declared.operand.Role.{Role}
 use Rattle.dill_script.specs.declared.operand.Role.TheVariants as roles
 use Rattle.dill_script.specs.Numbers.{named, only_if, number_of, register_of, is_name, address_of, each, joined}
-use Rattle.dill_script.specs.Tokens.{Token, Plain, Text, is_word}
+use Rattle.dill_script.specs.Tokens.{Token, Plain, Text, is_plain}
 
 -- the token as a word, where it is no text
-abbrev pub word_in : Token → Option (List ℕ)
-word_in (Plain word) = Some word
-word_in (Text literal) = None
+abbrev pub plain_in : Token → Option (List ℕ)
+plain_in (Plain word) = Some word
+plain_in (Text literal) = None
 
 -- the register that a token is
 abbrev pub register_in : Token → Option Register
-register_in token = option_and_then register_of (word_in token)
+register_in token = option_and_then register_of (plain_in token)
 
 -- the place of a number register
 abbrev pub number_place : Register → Option ℕ
@@ -55,12 +55,12 @@ abbrev pub bytes_register : Token → Option ℕ
 bytes_register token = option_and_then bytes_place (register_in token)
 
 -- NUM: a number or a number register
-abbrev pub num_of_word : List ℕ → Option Num
-num_of_word word = option_or (option_map nums.Literal (number_of word)) (option_map nums.Register (option_and_then number_place (register_of word)))
+abbrev pub num_of_plain : List ℕ → Option Num
+num_of_plain word = option_or (option_map nums.Literal (number_of word)) (option_map nums.Register (option_and_then number_place (register_of word)))
 
 -- a token that is NUM
 abbrev pub num_of : Token → Option Num
-num_of token = option_and_then num_of_word (word_in token)
+num_of token = option_and_then num_of_plain (plain_in token)
 
 -- BYTES: a text or a byte register
 abbrev pub bytes_of : Token → Option Bytes
@@ -68,13 +68,13 @@ bytes_of (Text literal) = Some (bytes.Literal literal)
 bytes_of (Plain word) = option_map bytes.Register (option_and_then bytes_place (register_of word))
 
 -- DL: `-1`, NUM, or `+` directly followed by NUM
-abbrev pub wait_of_word : List ℕ → Option Wait
-wait_of_word [] = None
-wait_of_word (first ∷ rest) = if bytes_eq (first ∷ rest) (codes "-1") then Some waits.Never else (if first == 43 then option_map waits.After (num_of_word rest) else option_map waits.At (num_of_word (first ∷ rest)))
+abbrev pub wait_of_plain : List ℕ → Option Wait
+wait_of_plain [] = None
+wait_of_plain (first ∷ rest) = if bytes_eq (first ∷ rest) (codes "-1") then Some waits.Never else (if first == 43 then option_map waits.After (num_of_plain rest) else option_map waits.At (num_of_plain (first ∷ rest)))
 
 -- a token that is DL
 abbrev pub wait_of : Token → Option Wait
-wait_of token = option_and_then wait_of_word (word_in token)
+wait_of token = option_and_then wait_of_plain (plain_in token)
 
 -- `big` or `little`
 abbrev pub order_text : Order → List ℕ
@@ -93,18 +93,18 @@ role_text roles.Server = codes "server"
 
 -- a name, where the token is one
 abbrev pub name_of : Token → Option (List ℕ)
-name_of token = option_and_then (λ word. only_if (is_name word) word) (word_in token)
+name_of token = option_and_then (λ word. only_if (is_name word) word) (plain_in token)
 
 -- an operand of this kind
 abbrev pub operand_of : Kind → Token → Option Operand
 operand_of kinds.Num token = option_map operands.Num (num_of token)
 operand_of kinds.Bytes token = option_map operands.Bytes (bytes_of token)
 operand_of kinds.Wait token = option_map operands.Wait (wait_of token)
-operand_of kinds.Address token = option_map operands.Address (option_and_then address_of (word_in token))
+operand_of kinds.Address token = option_map operands.Address (option_and_then address_of (plain_in token))
 operand_of kinds.Program token = option_map operands.Program (name_of token)
-operand_of kinds.Order token = option_map operands.Order (option_and_then (named order_text (orders.Big ∷ orders.Little ∷ [])) (word_in token))
-operand_of kinds.Mode token = option_map operands.Mode (option_and_then (named mode_text (modes.Text ∷ modes.Binary ∷ [])) (word_in token))
-operand_of kinds.Role token = option_map operands.Role (option_and_then (named role_text (roles.Client ∷ roles.Server ∷ [])) (word_in token))
+operand_of kinds.Order token = option_map operands.Order (option_and_then (named order_text (orders.Big ∷ orders.Little ∷ [])) (plain_in token))
+operand_of kinds.Mode token = option_map operands.Mode (option_and_then (named mode_text (modes.Text ∷ modes.Binary ∷ [])) (plain_in token))
+operand_of kinds.Role token = option_map operands.Role (option_and_then (named role_text (roles.Client ∷ roles.Server ∷ [])) (plain_in token))
 
 -- ITEM: BYTES or a number register
 abbrev pub item_of : Token → Option Operand
@@ -126,12 +126,12 @@ recv_of end size = option_and_then (λ place. option_map (operands.Recv place) (
 abbrev pub args_of : List Token → Option (List Operand)
 args_of [] = Some []
 args_of (token ∷ []) = joined (option_map operands.Num (num_of token)) (Some [])
-args_of (token ∷ next ∷ rest) = if is_word (codes "give") token then joined (option_map operands.Give (number_register next)) (args_of rest) else joined (option_map operands.Num (num_of token)) (args_of (next ∷ rest))
+args_of (token ∷ next ∷ rest) = if is_plain (codes "give") token then joined (option_map operands.Give (number_register next)) (args_of rest) else joined (option_map operands.Num (num_of token)) (args_of (next ∷ rest))
 
 -- clauses: `send`, an end and BYTES, or `recv`, an end and NUM
 abbrev pub clauses_of : List Token → Option (List Operand)
 clauses_of [] = Some []
-clauses_of (token ∷ end ∷ what ∷ rest) = joined (if is_word (codes "send") token then send_of end what else (if is_word (codes "recv") token then recv_of end what else None)) (clauses_of rest)
+clauses_of (token ∷ end ∷ what ∷ rest) = joined (if is_plain (codes "send") token then send_of end what else (if is_plain (codes "recv") token then recv_of end what else None)) (clauses_of rest)
 clauses_of _ = None
 
 -- what stands behind the operands that a call always has

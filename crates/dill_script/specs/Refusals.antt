@@ -11,11 +11,11 @@ use Rattle.dill_script.specs.Blocks.{is_empty, may_stand, loops}
 use Rattle.dill_script.specs.Contexts.{Context, said, after, places}
 use Rattle.dill_script.specs.Lines.{is_line_byte, has_tokens}
 use Rattle.dill_script.specs.Statements.{Line, Opens, line_of}
-use Rattle.dill_script.specs.Tokens.{Token, tokens, is_word}
+use Rattle.dill_script.specs.Tokens.{Token, tokens, is_plain}
 
 -- the tokens `dill` and `1`
 abbrev pub is_version : Option (List Token) → Bool
-is_version (Some (first ∷ second ∷ [])) = is_word (codes "dill") first && is_word (codes "1") second
+is_version (Some (first ∷ second ∷ [])) = is_plain (codes "dill") first && is_plain (codes "1") second
 is_version _ = false
 
 -- the line is the first with tokens, and they aren't `dill 1`
@@ -28,12 +28,12 @@ is_some_with test None = false
 is_some_with test (Some x) = test x
 
 -- the word of a line that belongs to programs
-abbrev pub word_said : Context → List ℕ → Option Keyword
-word_said context line = option_and_then (λ heading. heading.word) (said context line)
+abbrev pub keyword_said : Context → List ℕ → Option Keyword
+keyword_said context line = option_and_then (λ heading. heading.keyword) (said context line)
 
 -- the line belongs to programs, and its word is none
 abbrev pub has_unknown_word : Context → List ℕ → Bool
-has_unknown_word context line = is_some_with (λ heading. is_none heading.word) (said context line)
+has_unknown_word context line = is_some_with (λ heading. is_none heading.keyword) (said context line)
 
 -- the call isn't built yet
 abbrev pub is_unbuilt : (Word → Bool) → Keyword → Bool
@@ -42,7 +42,7 @@ is_unbuilt built _ = false
 
 -- the line may not stand where it stands, or no line follows and a block is still open behind it
 abbrev pub breaks_blocks : Context → Bool → List ℕ → Bool
-breaks_blocks context last line = is_some_with (λ keyword. not (may_stand context.open_blocks keyword)) (word_said context line) || (last && not (is_empty (after context line).open_blocks))
+breaks_blocks context last line = is_some_with (λ keyword. not (may_stand context.open_blocks keyword)) (keyword_said context line) || (last && not (is_empty (after context line).open_blocks))
 
 -- the line belongs to programs, and spells nothing
 abbrev pub misspells : Context → List ℕ → Bool
@@ -75,7 +75,7 @@ faults built context last line = (lacks_version context line, NoVersion)
     ∷ (not (list_all is_line_byte line), BadByte)
     ∷ (is_none (tokens line), BadText)
     ∷ (has_unknown_word context line, UnknownWord)
-    ∷ (is_some_with (is_unbuilt built) (word_said context line), NotBuilt)
+    ∷ (is_some_with (is_unbuilt built) (keyword_said context line), NotBuilt)
     ∷ (breaks_blocks context last line, BadBlock)
     ∷ (misspells context line, BadOperand)
     ∷ (repeats_name context line, RepeatedName)

@@ -16,9 +16,9 @@ use Rattle.dill_script.specs.declared.statement.Statement.{Statement}
 use Rattle.dill_script.specs.declared.statement.Statement.TheVariants as statements
 use Rattle.dill_script.specs.Headings.{Heading}
 use Rattle.dill_script.specs.Numbers.{named, number_up_to, only_if, errno_of}
-use Rattle.dill_script.specs.Operands.{word_in, name_of, register_in, number_register, bytes_register, num_of, bytes_of, operands_of, dest_of}
+use Rattle.dill_script.specs.Operands.{plain_in, name_of, register_in, number_register, bytes_register, num_of, bytes_of, operands_of, dest_of}
 use Rattle.dill_script.specs.Table.{kinds_of, rest_kind}
-use Rattle.dill_script.specs.Tokens.{Token, is_word}
+use Rattle.dill_script.specs.Tokens.{Token, is_plain}
 
 -- what a line spells
 pub data Line : Type 0 where
@@ -38,7 +38,7 @@ relation_text AtLeast = codes ">="
 
 -- the sign that a token is
 abbrev pub relation_of : Token → Option Relation
-relation_of token = option_and_then (named relation_text (Equal ∷ Unequal ∷ Less ∷ AtMost ∷ Greater ∷ AtLeast ∷ [])) (word_in token)
+relation_of token = option_and_then (named relation_text (Equal ∷ Unequal ∷ Less ∷ AtMost ∷ Greater ∷ AtLeast ∷ [])) (plain_in token)
 
 -- both, where there are both
 abbrev pub both : {X Y Z : Type 0} → (X → Y → Z) → Option X → Option Y → Option Z
@@ -51,16 +51,16 @@ number_cond left sign right = option_and_then (λ place. both (conds.Number plac
 
 -- a condition on a byte register
 abbrev pub bytes_cond : Token → Token → Token → Option Cond
-bytes_cond left sign right = if is_word (codes "=") sign then both conds.Same (bytes_register left) (bytes_of right) else (if is_word (codes "!=") sign then both conds.Differs (bytes_register left) (bytes_of right) else None)
+bytes_cond left sign right = if is_plain (codes "=") sign then both conds.Same (bytes_register left) (bytes_of right) else (if is_plain (codes "!=") sign then both conds.Differs (bytes_register left) (bytes_of right) else None)
 
 -- an errno or `none`
 abbrev pub err_of : Token → Option Cond
-err_of token = if is_word (codes "none") token then Some (conds.Err None) else option_map (λ errno. conds.Err (Some errno)) (option_and_then errno_of (word_in token))
+err_of token = if is_plain (codes "none") token then Some (conds.Err None) else option_map (λ errno. conds.Err (Some errno)) (option_and_then errno_of (plain_in token))
 
 -- COND: `nK OP NUM`, `bK = BYTES`, `bK != BYTES`, `err ERR` or `err none`
 abbrev pub cond_of : List Token → Option Cond
 cond_of (left ∷ sign ∷ right ∷ []) = option_or (number_cond left sign right) (bytes_cond left sign right)
-cond_of (first ∷ second ∷ []) = if is_word (codes "err") first then err_of second else None
+cond_of (first ∷ second ∷ []) = if is_plain (codes "err") first then err_of second else None
 cond_of _ = None
 
 -- `set` of a number register, which makes no call and so has no `try`, or of a byte register
@@ -80,7 +80,7 @@ with_none x (token ∷ rest) = None
 
 -- `fail` and an errno
 abbrev pub fail_of : List Token → Option Statement
-fail_of (token ∷ []) = option_map statements.Fail (option_and_then errno_of (word_in token))
+fail_of (token ∷ []) = option_map statements.Fail (option_and_then errno_of (plain_in token))
 fail_of _ = None
 
 -- `loop` without end, or with its rounds
@@ -95,7 +95,7 @@ params_fit name params = not (bytes_eq name (codes "main")) || (params == 0)
 
 -- the first line of a program
 abbrev pub program_of : Token → Token → Option Line
-program_of name params = option_and_then (λ opened. option_and_then (λ count. only_if (params_fit opened count) (Opens opened count)) (option_and_then (number_up_to 16) (word_in params))) (name_of name)
+program_of name params = option_and_then (λ opened. option_and_then (λ count. only_if (params_fit opened count) (Opens opened count)) (option_and_then (number_up_to 16) (plain_in params))) (name_of name)
 
 -- where the answer of a call goes: nowhere, or into registers that fit its form
 abbrev pub dest_at : Word → List Register → Option (Option Dest)
@@ -123,13 +123,13 @@ plain_line keywords.Fail tokens = option_map Says (fail_of tokens)
 plain_line _ tokens = None
 
 -- a line by its word: calls may have both `try` and registers, `set` of bytes and `join` may have `try`, and no other line has either
-abbrev pub worded_line : Bool → List Register → Keyword → List Token → Option Line
-worded_line tried targets (keywords.Call word) tokens = option_map Says (call_of_line tried word targets tokens)
-worded_line tried [] keywords.Set tokens = option_map Says (with_two (λ target value. option_and_then (λ register. set_at tried register value) (register_in target)) tokens)
-worded_line tried [] keywords.Join tokens = option_map Says (with_two (λ place value. both (statements.Join tried) (bytes_register place) (bytes_of value)) tokens)
-worded_line false [] keyword tokens = plain_line keyword tokens
-worded_line _ _ _ _ = None
+abbrev pub keyword_line : Bool → List Register → Keyword → List Token → Option Line
+keyword_line tried targets (keywords.Call word) tokens = option_map Says (call_of_line tried word targets tokens)
+keyword_line tried [] keywords.Set tokens = option_map Says (with_two (λ target value. option_and_then (λ register. set_at tried register value) (register_in target)) tokens)
+keyword_line tried [] keywords.Join tokens = option_map Says (with_two (λ place value. both (statements.Join tried) (bytes_register place) (bytes_of value)) tokens)
+keyword_line false [] keyword tokens = plain_line keyword tokens
+keyword_line _ _ _ _ = None
 
 -- what a line spells; none where its word is unknown or its operands don't fit
 abbrev pub line_of : Heading → Option Line
-line_of heading = option_and_then (λ keyword. worded_line heading.tried heading.targets keyword heading.operands) heading.word
+line_of heading = option_and_then (λ keyword. keyword_line heading.tried heading.targets keyword heading.operands) heading.keyword

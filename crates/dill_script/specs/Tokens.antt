@@ -45,7 +45,7 @@ before token rest = option_map (λ tokens. token ∷ tokens) rest
 -- where in a line a byte stands: between tokens, in a word, in a text, behind its `\`, behind its `\x`, behind the first digit there, or behind the `"` that ends it
 pub data Place : Type 0 where
   Between : Place
-  InWord : Place
+  InPlain : Place
   InText : Place
   InEscape : Place
   InHex : Place
@@ -55,18 +55,18 @@ pub data Place : Type 0 where
 -- the tokens from a place on, of which the first may have begun before it; none where a text has no end, another escape, or something else than a blank behind it
 abbrev pub tokens_from : Place → List ℕ → Option (List Token)
 tokens_from Between [] = Some []
-tokens_from InWord [] = Some (Plain [] ∷ [])
+tokens_from InPlain [] = Some (Plain [] ∷ [])
 tokens_from BehindText [] = Some (Text [] ∷ [])
 tokens_from _ [] = None
 tokens_from Between (byte ∷ bytes) = elim (mark_of byte) [
   | Blank ↦ tokens_from Between bytes
   | Hash ↦ Some []
   | Quote ↦ tokens_from InText bytes
-  | _ ↦ put byte (tokens_from InWord bytes)
+  | _ ↦ put byte (tokens_from InPlain bytes)
 ]
-tokens_from InWord (byte ∷ bytes) = elim (is_blank byte) [
+tokens_from InPlain (byte ∷ bytes) = elim (is_blank byte) [
   | true ↦ before (Plain []) (tokens_from Between bytes)
-  | false ↦ put byte (tokens_from InWord bytes)
+  | false ↦ put byte (tokens_from InPlain bytes)
 ]
 tokens_from InText (byte ∷ bytes) = elim (mark_of byte) [
   | Quote ↦ tokens_from BehindText bytes
@@ -98,6 +98,6 @@ abbrev pub tokens : List ℕ → Option (List Token)
 tokens line = tokens_from Between line
 
 -- the token is this word
-abbrev pub is_word : List ℕ → Token → Bool
-is_word word (Plain bytes) = bytes_eq bytes word
-is_word word (Text bytes) = false
+abbrev pub is_plain : List ℕ → Token → Bool
+is_plain word (Plain bytes) = bytes_eq bytes word
+is_plain word (Text bytes) = false

@@ -7,11 +7,11 @@ use Rattle.std.proofs.lemmas.List.{length-map}
 use Rattle.dill_slots.specs.declared.slot.Slot.{Slot}
 use Rattle.dill_slots.specs.declared.slot.Timer.{Timer}
 use Rattle.dill_slots.specs.Pairs.{each_pair, has, differ, Roomy, roomy}
-use Rattle.dill_slots.specs.Slots.{IsSound, most_slots, is_earlier, is_timer_of, placed, is_slot, is_other, with_value, is_timed}
+use Rattle.dill_slots.specs.Slots.{IsConsistent, most_slots, is_earlier, is_timer_of, placed, is_slot, is_other, with_value, is_timed}
 use Rattle.dill_slots.specs.Whole.{slots_of, AreSpare, IsWhole, Grows, FitsOneMore, next_number}
 use Rattle.dill_slots.proofs.Keeping.{all_none, all_weaker, any_weaker, all_added, none_added, pair_added, all_filtered, none_filtered, none_left, all_both, all_mapped}
 use Rattle.dill_slots.proofs.Room.{no_more}
-use Rattle.dill_slots.proofs.Sound.{sound_none, sound_inserted, sound_removed, sound_pushed, sound_timed, sound_changed, slot_same, any_same}
+use Rattle.dill_slots.proofs.Consistent.{consistent_none, consistent_inserted, consistent_removed, consistent_pushed, consistent_timed, consistent_changed, slot_same, any_same}
 
 length_placed : (t : Timer) (xs : List Timer) → length (placed t xs) ≡ length xs + 1
 length_placed t [] = refl
@@ -94,7 +94,7 @@ module _ {T : Type 0} where
 
   pub whole_none : IsWhole {T = T} [] (roomy [] 0) (roomy [] 0) (roomy [] 0)
   whole_none = record {
-    sound = sound_none;
+    consistent = consistent_none;
     spare = record { once = refl; dead = refl; free_below = refl; live_below = refl; few = omega arith };
     free_room = omega arith;
     ready_room = omega arith;
@@ -104,7 +104,7 @@ module _ {T : Type 0} where
   -- more room
   pub whole_grown : (live grown : List (Slot T)) (free free' ready ready' : Roomy ℕ) (timers timers' : Roomy Timer) → IsWhole live free ready timers → grown ≡ live → Grows free free' → Grows ready ready' → Grows timers timers' → IsWhole grown free' ready' timers'
   whole_grown live grown free free' ready ready' timers timers' h same f r t = rw same (record {
-    sound = rw (r.same, t.same) h.sound;
+    consistent = rw (r.same, t.same) h.consistent;
     spare = rw f.same h.spare;
     free_room = omega (arith, h.free_room, f.more, ap length f.same);
     ready_room = omega (arith, h.ready_room, r.more);
@@ -117,7 +117,7 @@ module _ {T : Type 0} where
   whole_inserted live free ready timers x h fits is above room =
       let dead : list_any (is_slot x.slot) live ≡ false = subst (λ (m : ℕ). list_any (is_slot m) live ≡ false) (sym is) (next_dead live free.items h.spare) in
       record {
-        sound = sound_inserted (slots_of live ready timers) x.slot x.id x.value h.sound above dead room;
+        consistent = consistent_inserted (slots_of live ready timers) x.slot x.id x.value h.consistent above dead room;
         spare = spare_taken live free.items x h.spare is room;
         free_room = omega (arith, fits.free_room, length-append live (x ∷ []), length-drop 1 free.items);
         ready_room = omega (arith, fits.ready_room, length-append live (x ∷ []));
@@ -146,7 +146,7 @@ module _ {T : Type 0} where
   whole_removed live left free free' ready timers slot h some unready untimed is fewer freed =
       let less : length (filter (is_other slot) live) + 1 ≡ length live = subst (λ (l : List (Slot T)). length l + 1 ≡ length live) is fewer in
       rw (is, freed) (record {
-        sound = sound_removed (slots_of live ready timers) slot h.sound unready untimed;
+        consistent = consistent_removed (slots_of live ready timers) slot h.consistent unready untimed;
         spare = spare_removed live free.items slot h.spare some less;
         free_room = omega (arith, h.free_room, less, length-append free.items (slot ∷ []));
         ready_room = omega (arith, h.ready_room, less);
@@ -154,19 +154,19 @@ module _ {T : Type 0} where
       })
 
   -- another ready queue
-  pub whole_readied : (live : List (Slot T)) (free ready ready' : Roomy ℕ) (timers : Roomy Timer) → IsWhole live free ready timers → ready'.room ≡ ready.room → IsSound (slots_of live ready' timers) → IsWhole live free ready' timers
-  whole_readied live free ready ready' timers h room sound = record { sound = sound; spare = h.spare; free_room = h.free_room; ready_room = omega (arith, room, h.ready_room); timer_room = h.timer_room }
+  pub whole_readied : (live : List (Slot T)) (free ready ready' : Roomy ℕ) (timers : Roomy Timer) → IsWhole live free ready timers → ready'.room ≡ ready.room → IsConsistent (slots_of live ready' timers) → IsWhole live free ready' timers
+  whole_readied live free ready ready' timers h room consistent = record { consistent = consistent; spare = h.spare; free_room = h.free_room; ready_room = omega (arith, room, h.ready_room); timer_room = h.timer_room }
 
   -- other timers
-  pub whole_timed : (live : List (Slot T)) (free ready : Roomy ℕ) (timers timers' : Roomy Timer) → IsWhole live free ready timers → timers'.room ≡ timers.room → IsSound (slots_of live ready timers') → IsWhole live free ready timers'
-  whole_timed live free ready timers timers' h room sound = record { sound = sound; spare = h.spare; free_room = h.free_room; ready_room = h.ready_room; timer_room = omega (arith, room, h.timer_room) }
+  pub whole_timed : (live : List (Slot T)) (free ready : Roomy ℕ) (timers timers' : Roomy Timer) → IsWhole live free ready timers → timers'.room ≡ timers.room → IsConsistent (slots_of live ready timers') → IsWhole live free ready timers'
+  whole_timed live free ready timers timers' h room consistent = record { consistent = consistent; spare = h.spare; free_room = h.free_room; ready_room = h.ready_room; timer_room = omega (arith, room, h.timer_room) }
 
   -- another value
   pub whole_changed : (live : List (Slot T)) (free ready : Roomy ℕ) (timers : Roomy Timer) (slot : ℕ) (value : T) → IsWhole live free ready timers → IsWhole (map (with_value slot value) live) free ready timers
   whole_changed live free ready timers slot value h =
       let same : length (map (with_value slot value) live) ≡ length live = length-map live (with_value slot value) in
       record {
-        sound = sound_changed (slots_of live ready timers) slot value h.sound;
+        consistent = consistent_changed (slots_of live ready timers) slot value h.consistent;
         spare = spare_changed live free.items slot value h.spare;
         free_room = omega (arith, same, h.free_room);
         ready_room = omega (arith, same, h.ready_room);
@@ -176,14 +176,14 @@ module _ {T : Type 0} where
   -- there is room for a live slot that isn't ready
   pub ready_fits : (live : List (Slot T)) (free ready : Roomy ℕ) (timers : Roomy Timer) (slot : ℕ) → IsWhole live free ready timers → list_any (is_slot slot) live ≡ true → has ready.items slot ≡ false → length ready.items < ready.room
   ready_fits live free ready timers slot h some unready =
-      let pushed = sound_pushed (slots_of live ready timers) slot h.sound some unready in
+      let pushed = consistent_pushed (slots_of live ready timers) slot h.consistent some unready in
       let few = no_more (λ (n : ℕ). n) (λ (x : Slot T). x.slot) (ready.items ++ slot ∷ []) live pushed.once_ready pushed.ready_live in
       omega (arith, few, h.ready_room, length-append ready.items (slot ∷ []))
 
   -- there is room for a timer of a live slot that has none
   pub timer_fits : (live : List (Slot T)) (free ready : Roomy ℕ) (timers : Roomy Timer) (t : Timer) → IsWhole live free ready timers → is_timed live t ≡ true → list_any (is_timer_of t.slot) timers.items ≡ false → length timers.items < timers.room
   timer_fits live free ready timers t h timed untimed =
-      let put = sound_timed (slots_of live ready timers) t h.sound timed untimed in
+      let put = consistent_timed (slots_of live ready timers) t h.consistent timed untimed in
       let live_all = all_weaker (is_timed live) (λ (x : Timer). list_any (is_slot x.slot) live) (λ x some. any_weaker (λ (y : Slot T). (y.slot == x.slot) && (y.id == x.id)) (is_slot x.slot) (λ y both. (and_parts (y.slot == x.slot) (y.id == x.id) both).0) live some) (placed t timers.items) put.timed_live in
       let few = no_more (λ (x : Timer). x.slot) (λ (x : Slot T). x.slot) (placed t timers.items) live put.once_timed live_all in
       omega (arith, few, h.timer_room, length_placed t timers.items)

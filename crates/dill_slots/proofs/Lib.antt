@@ -3,4 +3,4 @@ pub mod Keeping
 pub mod Kept
 pub mod Located
 pub mod Room
-pub mod Sound
+pub mod Consistent

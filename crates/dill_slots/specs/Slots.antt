@@ -146,7 +146,7 @@ module _ {T : Type 0} where
   is_timed live x = list_any (λ y. (y.slot == x.slot) && (y.id == x.id)) live
 
   -- what holds of slots: ids rise, a number is live once, ready once and has one timer, what is ready or has a timer is live, and the timers are in order
-  pub record IsSound (s : Slots T) : Type 0 where
+  pub record IsConsistent (s : Slots T) : Type 0 where
     pub rising : each_pair has_lower_id s.live ≡ true
     pub once_live : each_pair are_two s.live ≡ true
     pub few : length s.live ≤ most_slots

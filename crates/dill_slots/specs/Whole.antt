@@ -2,7 +2,7 @@
 use Rattle.std.specs.Prelude.{◌≡◌, ℕ, ◌+◌, ◌<◌, ◌≤◌, List, length, slice_get, unwrap_or, true, not, nat_lt}
 use Rattle.std.specs.List.{list_all, list_any}
 use Rattle.dill_slots.specs.Pairs.{each_pair, differ, Roomy}
-use Rattle.dill_slots.specs.Slots.{Slots, IsSound, is_slot, most_slots}
+use Rattle.dill_slots.specs.Slots.{Slots, IsConsistent, is_slot, most_slots}
 use Rattle.dill_slots.specs.declared.slot.Slot.{Slot}
 use Rattle.dill_slots.specs.declared.slot.Timer.{Timer}
 
@@ -34,9 +34,9 @@ module _ {T : Type 0} where
     pub live_below : list_all (λ x. nat_lt x.slot (length live + length free)) live ≡ true
     pub few : length live + length free ≤ most_slots
 
-  -- the parts are sound, and there is room for what may be put
+  -- the parts are consistent, and there is room for what may be put
   pub record IsWhole (live : List (Slot T)) (free ready : Roomy ℕ) (timers : Roomy Timer) : Type 0 where
-    pub sound : IsSound (slots_of live ready timers)
+    pub consistent : IsConsistent (slots_of live ready timers)
     pub spare : AreSpare live free.items
     pub free_room : length live + length free.items ≤ free.room
     pub ready_room : length live ≤ ready.room

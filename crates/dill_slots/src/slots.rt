@@ -1,6 +1,6 @@
 ghost use Rattle.std.specs.Prelude.{◌≡◌, ◌+◌, ◌<◌, ◌≤◌, length, true, false, slice_get, Some, option_map, IfOk, IfErr, OnOk, OnErr, IfSome, vec_len, vec_capacity};
 ghost use Rattle.std.specs.Borrow.{sem};
-ghost use Rattle.dill_slots.specs.Slots.{no_slots, most_slots, is_new_id, is_live, is_ready, has_timer, value_at, insert as inserted, remove as removed, push_ready, pop_ready, set_timer as timed, clear_timer as cleared, expire as expired, first_passed, IsSound, Refuses};
+ghost use Rattle.dill_slots.specs.Slots.{no_slots, most_slots, is_new_id, is_live, is_ready, has_timer, value_at, insert as inserted, remove as removed, push_ready, pop_ready, set_timer as timed, clear_timer as cleared, expire as expired, first_passed, IsConsistent, Refuses};
 ghost use Rattle.dill_slots.specs.Whole.{Grows, FitsOneMore};
 
 use crate::place::place_of;
@@ -78,7 +78,7 @@ impl<T> Slots<T> {
 
     /// What holds of all slots at any time.
     pub fn known(&self)
-        ensures { IsSound self.now }
+        ensures { IsConsistent self.now }
     {
         let _ = &self.live;
     }

@@ -17,7 +17,7 @@ use Rattle.dill_ws.specs.Frames.{Frame, HasKeyOf, may_follow}
 use Rattle.dill_stack.specs.Layers.{Placed, Prefix, Suffix, Term, Http, Ws, WsLayer, IsStanding}
 use Rattle.dill_stack.specs.Formed.{IsFormed}
 use Rattle.dill_stack.specs.Held.{Held}
-use Rattle.dill_stack.specs.Composed.{composed, spelled, with_words, words_after, drawn_key, and_then, data_frame, key_of, is_refused_with, is_any, is_refused, is_too_long, is_invalid, message_limit}
+use Rattle.dill_stack.specs.Composed.{composed, spelled, with_random, random_after, drawn_key, and_then, data_frame, key_of, is_refused_with, is_any, is_refused, is_too_long, is_invalid, message_limit}
 use Rattle.dill_stack.specs.Refusals.{send_fault, first_fault, is_done}
 use Rattle.dill_stack.specs.Spelling.{SpelledBy}
 
@@ -83,14 +83,14 @@ by_layers : (a : Bool) (r : Result (List ℕ × Stream) Errno) (x : List ℕ × 
 by_layers true r x e = cc
 by_layers false r x e = e
 
-pub framing_taken : (s : Held) (m : List ℕ) (words : Stream) → IsStanding s.layers → send_fault m false s ≡ None → (w : List ℕ) × (composed s.layers m words ≡ Ok (w, words_after s.layers words))
+pub framing_taken : (s : Held) (m : List ℕ) (random : Stream) → IsStanding s.layers → send_fault m false s ≡ None → (w : List ℕ) × (composed s.layers m random ≡ Ok (w, random_after s.layers random))
 unfolding send_fault composed is_too_long is_refused
-framing_taken s m words i e =
+framing_taken s m random i e =
     let none : is_too_long s.layers m ≡ false = long_none (is_invalid s.layers m) false (is_done s) s.sending.broken (is_too_long s.layers m) e in
     let fine : is_refused_with is_any (spelled [] s.layers m) ≡ false = right_false (nat_lt message_limit (length m)) (is_refused_with is_any (spelled [] s.layers m)) none in
     let short : nat_lt message_limit (length m) ≡ false = left_false (nat_lt message_limit (length m)) (is_refused_with is_any (spelled [] s.layers m)) none in
-    let k : Taken (drawn_key words).0 s.layers m = taken_any (drawn_key words).0 s.layers m i fine in
-    (k.0, within_limit (nat_lt message_limit (length m)) (not (is_invalid s.layers m)) (with_words (words_after s.layers words) (spelled (drawn_key words).0 s.layers m)) short ∙ ap (with_words (words_after s.layers words)) k.1)
+    let k : Taken (drawn_key random).0 s.layers m = taken_any (drawn_key random).0 s.layers m i fine in
+    (k.0, within_limit (nat_lt message_limit (length m)) (not (is_invalid s.layers m)) (with_random (random_after s.layers random) (spelled (drawn_key random).0 s.layers m)) short ∙ ap (with_random (random_after s.layers random)) k.1)
 
 ok_bottom : (key : List ℕ) (r : Result (List ℕ) Errno) (w : List ℕ) → and_then r (spelled key []) ≡ Ok w → r ≡ Ok w
 ok_bottom key (Ok v) w e = e
@@ -135,13 +135,13 @@ spelled_by p s key (Http http ∷ below) m w k i f l e = cc
 spelled_by p s key (Ws ws ∷ []) m w k i f l e = ws_spelled key ws m w k l (ws.text && not (is_utf8 m)) refl e
 spelled_by p s key (Ws ws ∷ x ∷ below) m w k i f l e = cc
 
-ok_words : (words rest : Stream) (r : Result (List ℕ) Errno) (w : List ℕ) → with_words words r ≡ Ok (w, rest) → r ≡ Ok w
-ok_words words rest (Ok v) w e =
-    let same : (v, words) ≡ (w, rest) = cc in
+ok_random : (random rest : Stream) (r : Result (List ℕ) Errno) (w : List ℕ) → with_random random r ≡ Ok (w, rest) → r ≡ Ok w
+ok_random random rest (Ok v) w e =
+    let same : (v, random) ≡ (w, rest) = cc in
     ap (λ (x : List ℕ × Stream). Ok x.0) same
-ok_words words rest (Err x) w e = cc
+ok_random random rest (Err x) w e = cc
 
-pub framing_spelled : (p : PrefixLaws) (s : SuffixLaws) (layers : List Placed) (m w : List ℕ) (words rest : Stream) → IsStanding layers → IsFormed layers → length m ≤ message_limit → composed layers m words ≡ Ok (w, rest) → SpelledBy layers m w
+pub framing_spelled : (p : PrefixLaws) (s : SuffixLaws) (layers : List Placed) (m w : List ℕ) (random rest : Stream) → IsStanding layers → IsFormed layers → length m ≤ message_limit → composed layers m random ≡ Ok (w, rest) → SpelledBy layers m w
 unfolding composed
-framing_spelled p s layers m w words rest i f l e =
-    spelled_by p s (drawn_key words).0 layers m w refl i f l (ok_words (words_after layers words) rest (spelled (drawn_key words).0 layers m) w (by_layers (nat_lt message_limit (length m) && not (is_invalid layers m)) (with_words (words_after layers words) (spelled (drawn_key words).0 layers m)) (w, rest) e))
+framing_spelled p s layers m w random rest i f l e =
+    spelled_by p s (drawn_key random).0 layers m w refl i f l (ok_random (random_after layers random) rest (spelled (drawn_key random).0 layers m) w (by_layers (nat_lt message_limit (length m) && not (is_invalid layers m)) (with_random (random_after layers random) (spelled (drawn_key random).0 layers m)) (w, rest) e))

@@ -54,18 +54,18 @@ abbrev pub is_masking : Placed → Bool
 is_masking (Ws ws) = masks ws.side
 is_masking _ = false
 
--- the masking key that the next random word makes, big-endian, and the words that are left
+-- the masking key that the next random number makes, big-endian, and the words that are left
 abbrev pub drawn_key : Stream → List ℕ × Stream
-drawn_key words = (to_be_bytes w32 (next_u32 words).0, (next_u32 words).1)
+drawn_key random = (to_be_bytes w32 (next_u32 random).0, (next_u32 random).1)
 
 -- At most one layer of a stack masks: it takes one word for a frame.
-abbrev pub words_after : List Placed → Stream → Stream
-words_after layers words = if list_any is_masking layers then (drawn_key words).1 else words
+abbrev pub random_after : List Placed → Stream → Stream
+random_after layers random = if list_any is_masking layers then (drawn_key random).1 else random
 
 -- what was spelled, and the words that are left
-abbrev pub with_words : Stream → Result (List ℕ) Errno → Result (List ℕ × Stream) Errno
-with_words words (Ok w) = Ok (w, words)
-with_words words (Err e) = Err e
+abbrev pub with_random : Stream → Result (List ℕ) Errno → Result (List ℕ × Stream) Errno
+with_random random (Ok w) = Ok (w, random)
+with_random random (Err e) = Err e
 
 -- refused, with an errno that passes the test
 abbrev pub is_refused_with : (Errno → Bool) → {A : Type 0} → Result A Errno → Bool
@@ -85,9 +85,9 @@ is_any e = true
 unfoldable pub is_invalid : List Placed → List ℕ → Bool
 is_invalid layers m = is_refused_with is_einval (spelled [] layers m)
 
--- The spelling of a message by all layers, with the random words that are left, or its refusal: that of a layer, and EMSGSIZE for a message over the limit that no layer refuses with EINVAL.
+-- The spelling of a message by all layers, with the random numbers that are left, or its refusal: that of a layer, and EMSGSIZE for a message over the limit that no layer refuses with EINVAL.
 unfoldable pub composed : List Placed → List ℕ → Stream → Result (List ℕ × Stream) Errno
-composed layers m words = if nat_lt message_limit (length m) && not (is_invalid layers m) then Err Emsgsize else with_words (words_after layers words) (spelled (drawn_key words).0 layers m)
+composed layers m random = if nat_lt message_limit (length m) && not (is_invalid layers m) then Err Emsgsize else with_random (random_after layers random) (spelled (drawn_key random).0 layers m)
 
 -- some layer refuses the message
 unfoldable pub is_refused : List Placed → List ℕ → Bool

@@ -12,7 +12,7 @@ use Rattle.dill_stack.specs.Held.{Held, came, ended}
 use Rattle.dill_stack.specs.Receiving.{read}
 use Rattle.dill_stack.specs.Greeting.{greeted}
 use Rattle.dill_http.specs.Lines.{crlf}
-use Rattle.dill_stack.specs.RowWords.{words, attached, big2, with_end_behind}
+use Rattle.dill_stack.specs.RowWords.{random, attached, big2, with_end_behind}
 use Rattle.dill_stack.specs.HandshakeRows.{chat_head, chat_answer, expecting_end, greeting_sent}
 
 -- the numbers below n
@@ -28,7 +28,7 @@ or_next out again s = out
 -- the last answer of these receives
 abbrev pub last_said : List Want → Held → ReadOut
 last_said [] s = Need
-last_said (want ∷ wants) s = or_next (read want words s).said (last_said wants) (read want words s).stack
+last_said (want ∷ wants) s = or_next (read want random s).said (last_said wants) (read want random s).stack
 
 -- the answers behind each proper first part of the item
 abbrev pub cuts : (List ℕ → ReadOut) → List ℕ → List ReadOut

@@ -25,10 +25,10 @@ use Rattle.dill_stack.specs.Attaching.{greet_fault}
 abbrev pub offer_fault : (resource host : List ℕ) → Held → Option Errno
 offer_fault resource host s = greet_fault (not (is_resource resource && is_resource host)) (are_too_long (client_lines resource host any_key)) s
 
--- sixteen bytes of four random words, and the words that are left
+-- sixteen bytes of four random numbers, and the words that are left
 abbrev pub nonce : Stream → List ℕ × Stream
-nonce words =
-    let a = drawn_key words in
+nonce random =
+    let a = drawn_key random in
     let b = drawn_key a.1 in
     let c = drawn_key b.1 in
     let d = drawn_key c.1 in
@@ -36,7 +36,7 @@ nonce words =
 
 -- the text of a key
 abbrev pub key_text : Stream → List ℕ
-key_text words = encode_of standard (nonce words).0
+key_text random = encode_of standard (nonce random).0
 
 -- A client's layer stands on top from now on, its head is queued, and the server's is waited for.
 abbrev pub greeting : Bool → (resource host key : List ℕ) → Held → Held
@@ -45,9 +45,9 @@ greeting text resource host key s =
 
 -- the handshake of a client begins
 unfoldable pub greet : Bool → (resource host : List ℕ) → Stream → Held → Result (Held × Stream) Errno
-greet text resource host words s =
+greet text resource host random s =
     unless (offer_fault resource host s)
-    (Ok (greeting text resource host (key_text words) s, (nonce words).1))
+    (Ok (greeting text resource host (key_text random) s, (nonce random).1))
 
 -- a stack after a look at its handshake, and what was answered
 pub record Heard : Type 0 where

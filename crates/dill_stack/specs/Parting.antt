@@ -11,7 +11,7 @@ use Rattle.dill_stack.specs.declared.parting.Parting.TheVariants as parting
 use Rattle.dill_stack.specs.declared.want.ReadOut.TheVariants.{Need}
 use Rattle.dill_stack.specs.Layers.{Placed, Prefix, Suffix, Term, Http, Ws, WsLayer}
 use Rattle.dill_stack.specs.Held.{Held, Plain, Idle, Leaves, is_broken}
-use Rattle.dill_stack.specs.Composed.{key_of, drawn_key, words_after}
+use Rattle.dill_stack.specs.Composed.{key_of, drawn_key, random_after}
 use Rattle.dill_stack.specs.Refusals.{is_done_layer}
 use Rattle.dill_stack.specs.Sending.{unless, is_sent, queued, with_end}
 use Rattle.dill_stack.specs.Dropping.{is_given, dropped}
@@ -44,22 +44,22 @@ close_payload (parting.Close code reason) = if code == 0 && length reason == 0 t
 
 -- A close frame is queued, and no pong is queued behind it.
 abbrev pub with_close : Parting → WsLayer → List Placed → Stream → Held → Held × Stream
-with_close p ws below words s = (
-  record (queued Plain (frame_bytes true 8 (key_of ws.side (drawn_key words).0) (close_payload p)) s) { layers = Ws (record ws { closed = true }) ∷ below },
-  words_after (Ws ws ∷ below) words,
+with_close p ws below random s = (
+  record (queued Plain (frame_bytes true 8 (key_of ws.side (drawn_key random).0) (close_payload p)) s) { layers = Ws (record ws { closed = true }) ∷ below },
+  random_after (Ws ws ∷ below) random,
 )
 
 -- The end that is still to be sent is queued.
 abbrev pub with_parting : Parting → List Placed → Stream → Held → Result (Held × Stream) Errno
-with_parting p [] words s = Ok (s, words)
-with_parting p (Prefix form ∷ below) words s = Ok (s, words)
-with_parting p (Suffix end ∷ below) words s = Ok (s, words)
-with_parting p (Ws ws ∷ below) words s = Ok (with_close p ws below words s)
-with_parting p (layer ∷ below) words s = if has_end_to_send layer then with_end (layer ∷ below) words s else Ok (s, words)
+with_parting p [] random s = Ok (s, random)
+with_parting p (Prefix form ∷ below) random s = Ok (s, random)
+with_parting p (Suffix end ∷ below) random s = Ok (s, random)
+with_parting p (Ws ws ∷ below) random s = Ok (with_close p ws below random s)
+with_parting p (layer ∷ below) random s = if has_end_to_send layer then with_end (layer ∷ below) random s else Ok (s, random)
 
 -- A detach begins.
 unfoldable pub detach_start : Parting → Stream → Held → Result (Held × Stream) Errno
-detach_start p words s = unless (parting_fault s) (with_parting p s.layers words (record s { task = Leaves }))
+detach_start p random s = unless (parting_fault s) (with_parting p s.layers random (record s { task = Leaves }))
 
 -- A detach that was answered is over.
 abbrev pub left_over : Looked → Looked
@@ -67,6 +67,6 @@ left_over l = if is_given l.said then record l { stack = record l.stack { task =
 
 -- A detach goes on: once all that it sends has gone, it drops what is there, and is answered when it has met the peer's end.
 unfoldable pub detach_finish : Stream → Held → Looked
-detach_finish words s =
-    if is_sent s then left_over (looked_over (dropped s.layers s.unread s.receiving.done) words s)
-    else record { stack = s; said = Need; words = words }
+detach_finish random s =
+    if is_sent s then left_over (looked_over (dropped s.layers s.unread s.receiving.done) random s)
+    else record { stack = s; said = Need; random = random }

@@ -15,11 +15,11 @@ use Rattle.dill_stack.specs.Composed.{drawn_key}
 use Rattle.dill_stack.specs.Sending.{is_pong}
 use Rattle.dill_stack.specs.Read.{Outcome, read_list}
 
--- a stack after a look, what was answered, and the random words that are left
+-- a stack after a look, what was answered, and the random numbers that are left
 pub record Looked : Type 0 where
   pub stack : Held
   pub said : ReadOut
-  pub words : Stream
+  pub random : Stream
 
 -- the WebSocket layer of a stack, which is the one on the link
 abbrev pub ws_of : List Placed → Option WsLayer
@@ -41,8 +41,8 @@ with_pong w queue = if list_any is_waiting_pong queue then map (replaced w) queu
 
 -- the pong of a side, and the words that are left; a client masks it
 abbrev pub pong_of : Side → List ℕ → Stream → List ℕ × Stream
-pong_of Client payload words = (frame_bytes true 10 (Some (drawn_key words).0) payload, (drawn_key words).1)
-pong_of Server payload words = (frame_bytes true 10 None payload, words)
+pong_of Client payload random = (frame_bytes true 10 (Some (drawn_key random).0) payload, (drawn_key random).1)
+pong_of Server payload random = (frame_bytes true 10 None payload, random)
 
 -- a queue and the words that are left
 abbrev pub ponged : Side → List (List ℕ) → List Item × Stream → List Item × Stream
@@ -55,16 +55,16 @@ answers_pings ws s = not ws.closed && not s.sending.broken && not s.sending.done
 
 -- a stack that has queued the pongs, and the words that are left
 abbrev pub with_pongs_of : Option WsLayer → List (List ℕ) → Stream → Held → Held × Stream
-with_pongs_of None pings words s = (s, words)
-with_pongs_of (Some ws) pings words s =
-    if answers_pings ws s then (record s { queue = (ponged ws.side pings (s.queue, words)).0 }, (ponged ws.side pings (s.queue, words)).1)
-    else (s, words)
+with_pongs_of None pings random s = (s, random)
+with_pongs_of (Some ws) pings random s =
+    if answers_pings ws s then (record s { queue = (ponged ws.side pings (s.queue, random)).0 }, (ponged ws.side pings (s.queue, random)).1)
+    else (s, random)
 
 -- the layers and the unread list after an outcome, with its pongs
 abbrev pub looked_over : Outcome → Stream → Held → Looked
-looked_over o words s =
-    let now = with_pongs_of (ws_of s.layers) o.pings words (record s { layers = o.layers; unread = drop o.used s.unread }) in
-    record { stack = now.0; said = o.said; words = now.1 }
+looked_over o random s =
+    let now = with_pongs_of (ws_of s.layers) o.pings random (record s { layers = o.layers; unread = drop o.used s.unread }) in
+    record { stack = now.0; said = o.said; random = now.1 }
 
 -- a refusal that breaks the receiving direction
 abbrev pub breaks : ReadOut → Bool
@@ -86,4 +86,4 @@ settled l = record l { stack = broken_by l.said l.stack }
 
 -- a look of a receive at the unread list
 unfoldable pub read : Want → Stream → Held → Looked
-read want words s = settled (looked_over (read_of want s) words s)
+read want random s = settled (looked_over (read_of want s) random s)

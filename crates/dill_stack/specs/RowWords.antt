@@ -16,8 +16,8 @@ use Rattle.dill_stack.specs.Receiving.{read}
 use Rattle.dill_stack.specs.Parting.{detach_start, detach_finish}
 
 -- a generator whose every word is 37 fa 21 3d
-abbrev pub words : Stream
-words = record { u32_after = λ calls. 939139389; u64_after = λ calls. 0; bytes_after = λ calls n. [] }
+abbrev pub random : Stream
+random = record { u32_after = λ calls. 939139389; u64_after = λ calls. 0; bytes_after = λ calls n. [] }
 
 -- the stack after a call, or the same where it was refused
 abbrev pub or_same : Held → Result Held Errno → Held
@@ -35,7 +35,7 @@ attached l s = or_same s (attach l s)
 
 -- a message is queued
 abbrev pub sends : List ℕ → Held → Held
-sends m s = or_same_drawn s (frame m words s)
+sends m s = or_same_drawn s (frame m random s)
 
 -- a line is queued
 abbrev pub sends_line : Bool → List ℕ → Held → Held
@@ -43,27 +43,27 @@ sends_line first w s = or_same s (line first w s)
 
 -- the end of the top layer is queued
 abbrev pub ends : Held → Held
-ends s = or_same_drawn s (done words s)
+ends s = or_same_drawn s (done random s)
 
 -- a detach begins
 abbrev pub leaves : Parting → Held → Held
-leaves p s = or_same_drawn s (detach_start p words s)
+leaves p s = or_same_drawn s (detach_start p random s)
 
 -- a receive has looked
 abbrev pub reads : Want → Held → Held
-reads want s = (read want words s).stack
+reads want s = (read want random s).stack
 
 -- what a receive answers
 abbrev pub said : Want → Held → ReadOut
-said want s = (read want words s).said
+said want s = (read want random s).said
 
 -- a detach has looked
 abbrev pub left : Held → Held
-left s = (detach_finish words s).stack
+left s = (detach_finish random s).stack
 
 -- what a detach answers
 abbrev pub left_said : Held → ReadOut
-left_said s = (detach_finish words s).said
+left_said s = (detach_finish random s).said
 
 -- an answer of bytes
 abbrev pub bytes : List ℕ → ReadOut

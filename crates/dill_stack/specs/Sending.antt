@@ -60,7 +60,7 @@ unless (Some e) due = Err e
 
 -- A message is queued in the framing of all layers.
 unfoldable pub frame : List ℕ → Stream → Held → Result (Held × Stream) Errno
-frame m words s = unless (send_fault m false s) (and_then (composed s.layers m words) (λ w. Ok (queued Plain w.0 s, w.1)))
+frame m random s = unless (send_fault m false s) (and_then (composed s.layers m random) (λ w. Ok (queued Plain w.0 s, w.1)))
 
 -- where the sending direction of a head stands
 abbrev pub sending_place : List Placed → Place
@@ -82,18 +82,18 @@ line first w s = unless (line_fault first false s) (Ok (with_line AmongFields w 
 
 -- A terminal message is queued in the framing of the layers below.
 abbrev pub with_ending : List Placed → Stream → Held → Result (Held × Stream) Errno
-with_ending (Term term ∷ below) words s = and_then (composed below term.terminal words) (λ w. Ok (record (queued Ending w.0 s) { layers = Term (record term { done = true }) ∷ below }, w.1))
-with_ending layers words s = Ok (s, words)
+with_ending (Term term ∷ below) random s = and_then (composed below term.terminal random) (λ w. Ok (record (queued Ending w.0 s) { layers = Term (record term { done = true }) ∷ below }, w.1))
+with_ending layers random s = Ok (s, random)
 
 -- The end of the top layer is queued: a terminal message or an empty line. Without layers nothing is queued, and the link's direction is done.
 abbrev pub with_end : List Placed → Stream → Held → Result (Held × Stream) Errno
-with_end [] words s = Ok (record s { sending = record s.sending { done = true } }, words)
-with_end (Http http ∷ below) words s = Ok (with_line BehindEmpty crlf s, words)
-with_end layers words s = with_ending layers words s
+with_end [] random s = Ok (record s { sending = record s.sending { done = true } }, random)
+with_end (Http http ∷ below) random s = Ok (with_line BehindEmpty crlf s, random)
+with_end layers random s = with_ending layers random s
 
 -- the end of the top layer, or of the link's direction
 unfoldable pub done : Stream → Held → Result (Held × Stream) Errno
-done words s = unless (done_fault false s) (with_end s.layers words s)
+done random s = unless (done_fault false s) (with_end s.layers random s)
 
 -- the pending send's item
 abbrev pub pending_item : Held → Option Item

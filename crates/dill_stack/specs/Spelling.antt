@@ -9,7 +9,7 @@ use Rattle.dill_stack.specs.declared.layer.Layer.{Layer}
 use Rattle.dill_stack.specs.Layers.{Placed, Prefix, Suffix, Term, Http, Ws, IsStanding}
 use Rattle.dill_stack.specs.Formed.{IsFormed}
 use Rattle.dill_stack.specs.Held.{Held, is_broken}
-use Rattle.dill_stack.specs.Composed.{message_limit, composed, words_after}
+use Rattle.dill_stack.specs.Composed.{message_limit, composed, random_after}
 use Rattle.dill_stack.specs.Refusals.{send_fault, is_done}
 use Rattle.dill_stack.specs.Attaching.{attach}
 use Rattle.dill_stack.specs.Greeting.{offer_fault}
@@ -30,6 +30,6 @@ pub record FramingLaws : Type 0 where
   -- an attach that isn't refused keeps the layers formed
   pub formed : (l : Layer) (s t : Held) → attach l s ≡ Ok t → IsFormed s.layers → IsFormed t.layers
   -- a message that isn't refused has a composed framing, which takes the words that its layers draw
-  pub taken : (s : Held) (m : List ℕ) (words : Stream) → IsStanding s.layers → send_fault m false s ≡ None → (w : List ℕ) × (composed s.layers m words ≡ Ok (w, words_after s.layers words))
+  pub taken : (s : Held) (m : List ℕ) (random : Stream) → IsStanding s.layers → send_fault m false s ≡ None → (w : List ℕ) × (composed s.layers m random ≡ Ok (w, random_after s.layers random))
   -- what is composed is the spelling
-  pub spelled : (layers : List Placed) (m w : List ℕ) (words rest : Stream) → IsStanding layers → IsFormed layers → length m ≤ message_limit → composed layers m words ≡ Ok (w, rest) → SpelledBy layers m w
+  pub spelled : (layers : List Placed) (m w : List ℕ) (random rest : Stream) → IsStanding layers → IsFormed layers → length m ≤ message_limit → composed layers m random ≡ Ok (w, rest) → SpelledBy layers m w

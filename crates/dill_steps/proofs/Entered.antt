@@ -7,7 +7,7 @@ use Rattle.dill_calls.specs.declared.call.Call.{Call}
 use Rattle.dill_calls.specs.declared.call.Call.TheVariants as calls
 use Rattle.dill_calls.specs.CallTable.{word_of, takes_memory}
 use Rattle.dill_calls.specs.Program.{Program}
-use Rattle.dill_maps.specs.Maps.{if_some}
+use Rattle.dill_base.specs.Maps.{if_some}
 use Rattle.dill_plain.specs.Plain.{is_plain}
 use Rattle.dill_rules.specs.World.{World, reply}
 use Rattle.dill_rules.specs.Entering.{enter, done, keep_for, may_lack_entry}

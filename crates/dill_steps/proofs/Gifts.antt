@@ -3,7 +3,7 @@ use Rattle.std.proofs.Common.{◌≡◌, ◌∙◌, ◌+◌, ℕ, List, [], ◌�
 use Rattle.dill_calls.specs.declared.ran.Note.TheVariants.{Moved}
 use Rattle.dill_handles.specs.Handles as handles
 use Rattle.dill_handles.specs.declared.entry.Entry.{Entry}
-use Rattle.dill_maps.specs.Maps.{if_some}
+use Rattle.dill_base.specs.Maps.{if_some}
 use Rattle.dill_rules.specs.declared.thing.Thing.{Thing}
 use Rattle.dill_rules.specs.declared.thing.Thing.TheVariants as things
 use Rattle.dill_rules.specs.World.{World, note, reply}

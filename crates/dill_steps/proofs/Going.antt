@@ -4,7 +4,7 @@ use Rattle.dill_calls.specs.declared.body.Next.TheVariants as nexts
 use Rattle.dill_calls.specs.declared.call.Call.{Call}
 use Rattle.dill_calls.specs.declared.call.Call.TheVariants as calls
 use Rattle.dill_calls.specs.Program.{Program, Calls}
-use Rattle.dill_maps.specs.Maps.{change}
+use Rattle.dill_base.specs.Maps.{change}
 use Rattle.dill_rules.specs.declared.coroutine.Coroutine.{Coroutine}
 use Rattle.dill_rules.specs.World.{World, is_coroutine, coroutine_of}
 use Rattle.dill_rules.specs.Entering.{entered, enter, may_lack_entry}

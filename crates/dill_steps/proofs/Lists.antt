@@ -2,7 +2,7 @@
 use Rattle.std.proofs.Common.{◌≡◌, ◌∙◌, ℕ, List, [], ◌∷◌, map, filter_map, Bool, true, false, cond, Option, Some, None, option_map, refl, sym, ap, suc, ◌<◌, length, get_or, drop, drop-cons}
 use Rattle.std.specs.List.{cons_option}
 use Rattle.dill_calls.specs.declared.call.Call.{Call}
-use Rattle.dill_maps.specs.Maps.{if_some}
+use Rattle.dill_base.specs.Maps.{if_some}
 use Rattle.dill_rules.specs.declared.coroutine.Coroutine.{Coroutine}
 use Rattle.dill_rules.specs.World.{pending_call}
 use Rattle.dill_rules.specs.Expiring as expiring

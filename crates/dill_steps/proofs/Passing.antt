@@ -6,8 +6,7 @@ use Rattle.dill_rules.specs.declared.coroutine.Coroutine.{Coroutine}
 use Rattle.dill_rules.specs.declared.coroutine.Mode.{Mode}
 use Rattle.dill_rules.specs.declared.coroutine.Mode.TheVariants as modes
 use Rattle.dill_rules.specs.World.{World}
-use Rattle.dill_rules.specs.Settling.{pass_one, pass_all, settle_one, settle_within, settle}
-use Rattle.dill_steps.specs.Endings.{Rests}
+use Rattle.dill_rules.specs.Settling.{pass_one, pass_all, settle_one, settle_within, settle, IsSettled}
 use Rattle.dill_world.specs.Store.{Store, world_of, is_plain_mode, is_plain_row, ArePlain}
 
 both : (a b : Bool) → (a && b) ≡ true → (a ≡ true) × (b ≡ true)
@@ -38,14 +37,14 @@ module _ {V : Type 0} where
   pub settled : (k m : Store V) → ArePlain m.coroutines → settle_within (length k.coroutines) (world_of k) ≡ world_of m → world_of m ≡ settle (world_of k)
   settled k m plain e = sym (ap pass_all e ∙ pass_plain m plain)
 
-  rests_one : (w : World V) → Rests w → settle_one w ≡ w
+  rests_one : (w : World V) → IsSettled w → settle_one w ≡ w
   rests_one w r = rw r.endings (rw r.answers refl)
 
   -- where nothing is due, no step changes anything
-  pub rests_within : (n : ℕ) (w : World V) → Rests w → settle_within n w ≡ w
+  pub rests_within : (n : ℕ) (w : World V) → IsSettled w → settle_within n w ≡ w
   rests_within zero w r = refl
   rests_within (suc n) w r = ap (settle_within n) (rests_one w r) ∙ rests_within n w r
 
   -- so settling is over at the first step that finds nothing due
-  pub over : (k l m : Store V) (n : ℕ) → ArePlain m.coroutines → settle_within (length k.coroutines) (world_of k) ≡ settle_within n (world_of l) → Rests (world_of l) → world_of m ≡ settle_one (world_of l) → world_of m ≡ settle (world_of k)
+  pub over : (k l m : Store V) (n : ℕ) → ArePlain m.coroutines → settle_within (length k.coroutines) (world_of k) ≡ settle_within n (world_of l) → IsSettled (world_of l) → world_of m ≡ settle_one (world_of l) → world_of m ≡ settle (world_of k)
   over k l m n plain e r one = settled k m plain (e ∙ rests_within n (world_of l) r ∙ sym (one ∙ rests_one (world_of l) r))

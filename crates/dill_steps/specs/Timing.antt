@@ -1,6 +1,6 @@
 -- Which passed deadline comes first, and what a list of the passed ones begins with.
 use Rattle.std.specs.Prelude.{◌≡◌, ℕ, ◌<◌, List, [], ◌∷◌, Option, Some, None, option_map, if◌then◌else◌, nat_le}
-use Rattle.dill_maps.specs.Maps.{if_some}
+use Rattle.dill_base.specs.Maps.{if_some}
 use Rattle.dill_rules.specs.declared.coroutine.Coroutine.{Coroutine}
 use Rattle.dill_rules.specs.Expiring.{Timer, is_earlier, timer_of, due_of, passed, expire_one}
 use Rattle.dill_rules.specs.World.{pending_call}

@@ -7,7 +7,7 @@ use Rattle.dill_calls.specs.declared.call.Call.{Call}
 use Rattle.dill_calls.specs.declared.call.Call.TheVariants as calls
 use Rattle.dill_calls.specs.declared.ran.LackPlace.{LackPlace}
 use Rattle.dill_calls.specs.declared.ran.LackPlace.TheVariants.{Build, Entry}
-use Rattle.dill_calls.specs.CallTable.{is_built}
+use Rattle.dill_calls.specs.CallTable.{build_takes_memory}
 use Rattle.dill_calls.specs.Program.{Program, Move, Calls, Ends, moved_word}
 use Rattle.dill_plain.specs.Plain.{is_plain}
 use Rattle.dill_rules.specs.declared.coroutine.Coroutine.{Coroutine}
@@ -19,7 +19,7 @@ use Rattle.dill_steps.specs.declared.turning.Went.{Went}
 -- what a program went on to, by what its code has
 abbrev pub MovesAs : Next → Move → Type 0
 MovesAs (nexts.Call call) move = move ≡ Calls call
-MovesAs (nexts.Lack word) move = (is_built word ≡ true) × (moved_word move ≡ Some word)
+MovesAs (nexts.Lack word) move = (build_takes_memory word ≡ true) × (moved_word move ≡ Some word)
 MovesAs (nexts.End outcome) move = move ≡ Ends outcome
 
 -- memory for its call was refused

@@ -1,6 +1,6 @@
 ghost use Rattle.std.specs.Prelude.{◌≡◌, ◌≤◌, length, filter_map, find, option_map, min, nat_lt, true};
 ghost use Rattle.std.specs.List.{reduce};
-ghost use Rattle.dill_maps.specs.Maps.{if_some};
+ghost use Rattle.dill_base.specs.Maps.{if_some};
 ghost use Rattle.dill_rules.specs.World as worlds;
 ghost use Rattle.dill_rules.specs.Expiring as expiring;
 ghost use Rattle.dill_rules.specs.Waiting as waiting;

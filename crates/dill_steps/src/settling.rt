@@ -1,9 +1,10 @@
 ghost use Rattle.std.specs.Prelude.{◌≡◌, ◌≤◌, length, find, option_copied, option_map, true, false, None, IfSome};
-ghost use Rattle.dill_maps.specs.Maps.{first_some};
+ghost use Rattle.dill_base.specs.Maps.{first_some};
 ghost use Rattle.dill_rules.specs.World as worlds;
 ghost use Rattle.dill_rules.specs.Giving as giving;
 ghost use Rattle.dill_rules.specs.Settling as settling;
-ghost use Rattle.dill_steps.specs.Endings.{ending_of, Rests};
+ghost use Rattle.dill_rules.specs.Settling.{IsSettled};
+ghost use Rattle.dill_steps.specs.Endings.{ending_of};
 ghost use Rattle.dill_world.specs.Store.{world_of, may_wait, is_plain_mode, is_plain_row, is_short_answer, ArePlain};
 
 use dill_base::Errno;
@@ -150,7 +151,7 @@ fn give_first<B: Drop>(world: &mut World<B>) -> bool
 /// An ending finishes, or else an answer is given. It answers whether either was due; where neither was, nothing changes.
 pub fn settle_one<B: Drop>(world: &mut World<B>) -> bool
     ensures settled { world_of world.new ≡ settling.settle_one (world_of world.old) }
-    ensures rests { result ≡ false → Rests (world_of world.old) }
+    ensures rests { result ≡ false → IsSettled (world_of world.old) }
     ensures few { length world.new.coroutines ≤ length world.old.coroutines }
 {
     match next_ending(world) {

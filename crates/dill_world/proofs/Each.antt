@@ -1,7 +1,7 @@
 -- A test that each element of a list passes: it is still passed once one is changed or gone, and by one that is found.
 use Rattle.std.proofs.Common.{◌≡◌, Bool, true, false, ◌&&◌, List, [], ◌∷◌, Option, Some, find, cond, refl}
 use Rattle.std.specs.List.{list_all}
-use Rattle.dill_maps.specs.Maps.{change, without}
+use Rattle.dill_base.specs.Maps.{change, without}
 
 both : (a b : Bool) → (a && b) ≡ true → (a ≡ true) × (b ≡ true)
 both true true h = (refl, refl)

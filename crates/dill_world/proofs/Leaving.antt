@@ -1,6 +1,6 @@
 -- Who isn't at home leaves nothing behind.
 use Rattle.std.proofs.Common.{◌≡◌, ℕ, Bool, true, false, Option, Some, None, List, [], ◌∷◌, cond, find, option_map, refl, ap}
-use Rattle.dill_maps.specs.Maps.{without}
+use Rattle.dill_base.specs.Maps.{without}
 use Rattle.dill_scope.specs.Scopes.{Scopes, home_of, ended, is_home}
 
 module _ {X : Type 0} (test : X → Bool) where

@@ -6,7 +6,7 @@ use Rattle.dill_base.specs.declared.errno.Errno.TheVariants as errnos
 use Rattle.dill_calls.specs.declared.call.Call.{Call}
 use Rattle.dill_calls.specs.CallTable.{named_by}
 use Rattle.dill_calls.specs.Program.{Program}
-use Rattle.dill_maps.specs.Maps.{if_some}
+use Rattle.dill_base.specs.Maps.{if_some}
 use Rattle.dill_rules.specs.Links.{no_links, look}
 use Rattle.dill_rules.specs.Sockets.{stack_of, link_named, link_number, faults_by}
 use Rattle.dill_rules.specs.Refusals.{holds, holds_of_itself, is_called_off, is_refused_by_stack, is_in_use, is_same, order, giving_order}

@@ -4,7 +4,7 @@ use Rattle.std.specs.List.{position_from}
 use Rattle.dill_calls.specs.declared.answer.Answer.{Answer}
 use Rattle.dill_calls.specs.declared.body.Next.{Next}
 use Rattle.dill_calls.specs.Program.{Program, Turns}
-use Rattle.dill_maps.specs.Maps.{change}
+use Rattle.dill_base.specs.Maps.{change}
 use Rattle.dill_rules.specs.declared.coroutine.Coroutine.{Coroutine}
 use Rattle.dill_rules.specs.World.{is_coroutine}
 use Rattle.dill_rules.specs.Turning.{as_running}

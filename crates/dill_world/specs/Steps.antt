@@ -5,7 +5,7 @@ use Rattle.dill_calls.specs.declared.answer.Answer.{Answer}
 use Rattle.dill_calls.specs.declared.body.Next.{Next}
 use Rattle.dill_calls.specs.Program.{Program, Turns}
 use Rattle.dill_scope.specs.Scopes as scopes
-use Rattle.dill_maps.specs.Maps.{change, without}
+use Rattle.dill_base.specs.Maps.{change, without}
 use Rattle.dill_rules.specs.World.{World, is_coroutine, coroutine_of, from_start}
 use Rattle.dill_rules.specs.declared.coroutine.Coroutine.{Coroutine}
 use Rattle.dill_rules.specs.Effects.{bear, add_bundle}

@@ -19,9 +19,9 @@ use Rattle.dill_rules.specs.declared.coroutine.Mode.{Mode}
 use Rattle.dill_rules.specs.declared.coroutine.Mode.TheVariants as modes
 use Rattle.dill_rules.specs.declared.thing.Thing.{Thing}
 
--- random words of which none is drawn
-abbrev pub no_words : Stream
-no_words = record { u32_after = λ cs. 0; u64_after = λ cs. 0; bytes_after = λ cs n. [] }
+-- random numbers of which none is drawn
+abbrev pub no_random : Stream
+no_random = record { u32_after = λ cs. 0; u64_after = λ cs. 0; bytes_after = λ cs n. [] }
 
 -- all of a world but its channels and its links
 pub record Store (V : Type 0) : Type 0 where
@@ -46,7 +46,7 @@ world_of k = record {
   links = no_links;
   place = at_start;
   wrote = [];
-  words = no_words;
+  random = no_random;
   moment = k.moment;
   last_coroutine = k.last_coroutine;
   last_bundle = k.last_bundle;

@@ -5,7 +5,7 @@ use Rattle.dill_calls.specs.CallTable.{word_of}
 use Rattle.dill_calls.specs.declared.word.Word.{Word}
 use Rattle.dill_rules.specs.Directions.{is_send, is_receive}
 use Rattle.dill_rules.specs.Refusals.{is_accept}
-use Rattle.dill_maps.specs.Maps.{if_some}
+use Rattle.dill_base.specs.Maps.{if_some}
 use Rattle.dill_rules.specs.declared.coroutine.Coroutine.{Coroutine}
 use Rattle.dill_rules.specs.Taking.{is_on}
 use Rattle.dill_rules.specs.World.{pending_call}

@@ -1,6 +1,6 @@
 ghost use Rattle.std.specs.Prelude.{◌≡◌, ◌+◌, ◌<◌, ◌≤◌, List, ◌∷◌, ◌++◌, length, vec_capacity, find};
 ghost use Rattle.std.specs.Option.{option_to_list};
-ghost use Rattle.dill_maps.specs.Maps.{if_some};
+ghost use Rattle.dill_base.specs.Maps.{if_some};
 ghost use Rattle.dill_rules.specs.Owning as owning;
 ghost use Rattle.dill_rules.specs.Settling as settling;
 ghost use Rattle.dill_rules.specs.Settling.{placed};

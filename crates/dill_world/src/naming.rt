@@ -1,6 +1,6 @@
 ghost use Rattle.std.specs.Prelude.{◌≡◌, ◌+◌, ◌<◌, ◌≤◌, ◌^◌, ◌==◌, ◌∷◌, [], length, map, is_some, IfOk};
 ghost use Rattle.std.specs.List.{list_any};
-ghost use Rattle.dill_maps.specs.Maps.{if_some};
+ghost use Rattle.dill_base.specs.Maps.{if_some};
 ghost use Rattle.dill_rules.specs.Naming.{gifts_of, gifts, chosen, end_of_clause, taken_by, draws_of, bears};
 ghost use Rattle.dill_rules.specs.Effects.{told};
 ghost use Rattle.dill_rules.specs.Directions.{is_send, is_receive, needs_top};

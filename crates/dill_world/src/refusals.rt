@@ -1,7 +1,7 @@
 ghost use Rattle.std.specs.Prelude.{◌≡◌, ◌&&◌, ◌||◌, false, not, length, find};
 ghost use Rattle.std.specs.List.{list_any};
 ghost use Rattle.dill_calls.specs.CallTable.{word_of};
-ghost use Rattle.dill_maps.specs.Maps.{if_some};
+ghost use Rattle.dill_base.specs.Maps.{if_some};
 ghost use Rattle.dill_rules.specs.Naming.{gifts_of};
 ghost use Rattle.dill_rules.specs.Refusals as refusals;
 ghost use Rattle.dill_rules.specs.Taking.{is_on};

@@ -1,6 +1,6 @@
 ghost use Rattle.std.specs.Prelude.{◌≡◌, ◌+◌, ◌≤◌, ◌<◌, length, find, vec_capacity, is_some, true, IfSome, option_copied};
 ghost use Rattle.std.specs.List.{position_from};
-ghost use Rattle.dill_maps.specs.Maps.{change, without};
+ghost use Rattle.dill_base.specs.Maps.{change, without};
 ghost use Rattle.dill_rules.specs.World.{is_coroutine, with_mode};
 ghost use Rattle.dill_rules.specs.Owning.{is_closing_of, is_dead_as};
 ghost use Rattle.dill_world.specs.Store.{is_plain_mode, ArePlain};

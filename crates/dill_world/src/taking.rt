@@ -1,6 +1,6 @@
 ghost use Rattle.std.specs.Prelude.{◌≡◌, false, true, map, IfSome, option_copied};
 ghost use Rattle.std.specs.List.{list_any};
-ghost use Rattle.dill_maps.specs.Maps.{if_some};
+ghost use Rattle.dill_base.specs.Maps.{if_some};
 ghost use Rattle.dill_rules.specs.World as worlds;
 ghost use Rattle.dill_rules.specs.Naming.{gifts_of, end_of_clause, taken_by};
 ghost use Rattle.dill_rules.specs.Taking as taking;

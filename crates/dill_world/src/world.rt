@@ -1,7 +1,7 @@
 ghost use Rattle.std.specs.Prelude.{◌≡◌, ◌≤◌, true, find, IfOk, IfSome};
 ghost use Rattle.dill_rules.specs.World as worlds;
 ghost use Rattle.dill_scope.specs.Scopes as scopes;
-ghost use Rattle.dill_world.specs.Store.{world_of, no_words, may_wait, is_plain_mode, is_short_answer, ArePlain};
+ghost use Rattle.dill_world.specs.Store.{world_of, no_random, may_wait, is_plain_mode, is_short_answer, ArePlain};
 ghost use Rattle.dill_calls.specs.Program.{Turns};
 ghost use Rattle.dill_rules.specs.Turning as turning;
 ghost use Rattle.dill_world.specs.Steps.{left, RunsOn, Resumed};
@@ -85,7 +85,7 @@ impl<B> World<B> {
     pub fn new(alloc: Global, body: B) -> Result<World<B>, NoMemory>
     where
         B: Drop,
-        ensures { IfOk result (λ w. world_of w ≡ worlds.opening body no_words) }
+        ensures { IfOk result (λ w. world_of w ≡ worlds.opening body no_random) }
     {
         let scopes = Scopes::new(alloc)?;
         let mut coroutines = Vec::new(alloc);

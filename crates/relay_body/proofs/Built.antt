@@ -9,9 +9,10 @@ use Rattle.dill_script.specs.Fitting.{is_form}
 use Rattle.dill_meaning.specs.Calls.{call_of}
 use Rattle.dill_meaning.specs.Values.{values_of}
 use Rattle.dill_meaning.specs.Views.{ScriptView}
-use Rattle.relay_body.specs.Building.{is_plain_word, plain_call}
+use Rattle.relay_body.specs.Building.{plain_call}
+use Rattle.dill_calls.specs.CallTable.{is_built}
 
-built : (view : ScriptView) (word : Word) (list : List Operand) → is_form (record { word = word; operands = list }) ≡ true → is_plain_word word ≡ true → call_of word (values_of view list) ≡ Some (plain_call view word list)
+built : (view : ScriptView) (word : Word) (list : List Operand) → is_form (record { word = word; operands = list }) ≡ true → is_built word ≡ true → call_of word (values_of view list) ≡ Some (plain_call view word list)
 built view words.Print list f p = refl
 built view words.Now [] f p = refl
 built view words.Yield [] f p = refl
@@ -27,5 +28,5 @@ built view words.BundleWait (operands.Num a ∷ operands.Wait b ∷ []) f p = re
 built view _ _ f p = cc
 
 -- so it is with a form
-pub form_built : (view : ScriptView) (form : Form) → is_form form ≡ true → is_plain_word form.word ≡ true → call_of form.word (values_of view form.operands) ≡ Some (plain_call view form.word form.operands)
+pub form_built : (view : ScriptView) (form : Form) → is_form form ≡ true → is_built form.word ≡ true → call_of form.word (values_of view form.operands) ≡ Some (plain_call view form.word form.operands)
 form_built view form f p = built view form.word form.operands f p

@@ -1,4 +1,5 @@
 pub mod Built
+pub mod CanRun
 pub mod Counted
 pub mod Drafting
 pub mod Joining

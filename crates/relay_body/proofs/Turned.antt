@@ -1,4 +1,4 @@
--- A turn of what is held is a turn of its program, and leaves it sound.
+-- A turn of what is held is a turn of its program, and leaves it consistent.
 use Rattle.std.proofs.Common.{◌≡◌, ◌≤◌, ℕ, List, Bool, true, false, Option, Some, None, refl, sym, ap, ◌∙◌, subst, arith}
 use Rattle.dill_base.specs.declared.errno.Errno.{Errno}
 use Rattle.dill_calls.specs.declared.answer.Answer.{Answer}
@@ -19,7 +19,7 @@ use Rattle.relay_body.specs.declared.mode.Mode.{Mode}
 use Rattle.relay_body.specs.Running.{loops_in, has_open, is_runnable, is_running, running}
 use Rattle.relay_body.specs.Seen.{seen}
 use Rattle.relay_body.specs.Steps.{Goes, answered}
-use Rattle.relay_body.specs.Stopping.{Sound, made_at, WalksTo, MakesOne}
+use Rattle.relay_body.specs.Stopping.{Consistent, made_at, WalksTo, MakesOne}
 use Rattle.relay_body.specs.Answered.{given_opens}
 use Rattle.relay_body.specs.Bools.{and_right}
 use Rattle.relay_body.specs.Lawful.{running_on, kept_running}
@@ -29,8 +29,8 @@ record Same (old new : ScriptView) : Type 0 where
   running : is_running new ≡ true
   statements : statements_of new ≡ statements_of old
 
-same_sound : (old new : Held) (view : ScriptView) → Sound old → Same (seen old) view → seen new ≡ view → new.rounds.slots ≡ old.rounds.slots → Sound new
-same_sound old new view s k v e = record {
+same_consistent : (old new : Held) (view : ScriptView) → Consistent old → Same (seen old) view → seen new ≡ view → new.rounds.slots ≡ old.rounds.slots → Consistent new
+same_consistent old new view s k v e = record {
   running = subst (λ w. is_running w ≡ true) (sym v) k.running;
   slots = few (loops_in (statements_of (seen new))) (loops_in (statements_of (seen old))) old.rounds.slots new.rounds.slots (ap (λ w. loops_in (statements_of w)) v ∙ ap loops_in k.statements) s.slots e;
 }
@@ -48,9 +48,9 @@ given_same view answer r =
       statements = statements_kept view gone.1 g.script g.program;
     }
 
--- what is held is sound where its answer was taken
-pub sound_given : (old new : Held) (mode : Mode) (answer : Answer) → Sound old → Goes old new mode (answered (seen old) answer) → Sound new
-sound_given old new mode answer s g = same_sound old new (answered (seen old) answer).1 s (given_same (seen old) answer s.running) g.view g.slots
+-- what is held is consistent where its answer was taken
+pub consistent_given : (old new : Held) (mode : Mode) (answer : Answer) → Consistent old → Goes old new mode (answered (seen old) answer) → Consistent new
+consistent_given old new mode answer s g = same_consistent old new (answered (seen old) answer).1 s (given_same (seen old) answer s.running) g.view g.slots
 
 appended_same : (view : ScriptView) (place : ℕ) (more : List ℕ) (fault : Option Errno) → statements_of (appended view place more fault) ≡ statements_of view
 appended_same view place more None = refl
@@ -66,10 +66,10 @@ moved_same view None r = record { running = r; statements = refl }
 moved_same view (Some (statement, call)) r = record { running = kept_running view statement r; statements = kept_statements view statement }
 
 -- and where its call was made
-pub sound_made : (old new : Held) (next : Next) → Sound old → MakesOne old new next → Sound new
-sound_made old new (nexts.Call call) s m = same_sound old new (moved (seen old) (made_at (seen old) true)).0 s (moved_same (seen old) (made_at (seen old) true) s.running) (sym (ap (λ p. p.0) m.0)) m.1
-sound_made old new (nexts.Lack word) s m = subst (λ held. Sound held) (sym m.2) s
-sound_made old new (nexts.End outcome) s m = absurd m
+pub consistent_made : (old new : Held) (next : Next) → Consistent old → MakesOne old new next → Consistent new
+consistent_made old new (nexts.Call call) s m = same_consistent old new (moved (seen old) (made_at (seen old) true)).0 s (moved_same (seen old) (made_at (seen old) true) s.running) (sym (ap (λ p. p.0) m.0)) m.1
+consistent_made old new (nexts.Lack word) s m = subst (λ held. Consistent held) (sym m.2) s
+consistent_made old new (nexts.End outcome) s m = absurd m
 
 -- where a turn stops
 pub stops_at : (old taken there : Held) (mode : Mode) (answer : Answer) (stopped : Bool) → Goes old taken mode (answered (seen old) answer) → WalksTo taken there mode stopped → stop_of (seen old) answer ≡ record { view = seen there; made = made_at (seen there) stopped }

@@ -13,22 +13,6 @@ use Rattle.dill_meaning.specs.Calls.{item_text, arg_of}
 use Rattle.dill_meaning.specs.Values.{num_value, deadline_value, values_of}
 use Rattle.dill_meaning.specs.Views.{ScriptView, number_of_name}
 
--- the words whose calls are plain
-abbrev pub is_plain_word : Word → Bool
-is_plain_word words.Print = true
-is_plain_word words.Now = true
-is_plain_word words.Yield = true
-is_plain_word words.Msleep = true
-is_plain_word words.Hmake = true
-is_plain_word words.Hquery = true
-is_plain_word words.Hown = true
-is_plain_word words.Hclose = true
-is_plain_word words.Bundle = true
-is_plain_word words.Go = true
-is_plain_word words.BundleGo = true
-is_plain_word words.BundleWait = true
-is_plain_word _ = false
-
 -- a number, or 0 where the operand is of another kind
 abbrev pub num_of : ScriptView → Option Operand → ℕ
 num_of view (Some (operands.Num value)) = num_value view value

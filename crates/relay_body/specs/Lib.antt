@@ -1,4 +1,5 @@
 pub mod Answered
+pub mod Beginning
 pub mod Bools
 pub mod Building
 pub mod Lawful

@@ -14,32 +14,15 @@ use Rattle.dill_meaning.specs.Values.{bytes_value, values_of}
 use Rattle.dill_meaning.specs.Views.{ScriptView}
 use Rattle.dill_meaning.specs.Walks.{call_at, join_fault}
 use Rattle.dill_meaning.proofs.Table.{Fits, call_fits}
-use Rattle.relay_body.specs.Building.{is_plain_word}
+use Rattle.dill_calls.specs.CallTable.{is_built}
 use Rattle.relay_body.specs.Running.{says_plain}
 
--- a call of a plain word
-word_plain : (call : Call) → is_plain_word (word_of call) ≡ true → is_plain call ≡ true
-word_plain (calls.Print text) e = refl
-word_plain calls.Now e = refl
-word_plain calls.Yield e = refl
-word_plain (calls.Msleep wait) e = refl
-word_plain (calls.Hmake kind value) e = refl
-word_plain (calls.Hquery h kind) e = refl
-word_plain (calls.Hown h) e = refl
-word_plain (calls.Hclose h) e = refl
-word_plain calls.Bundle e = refl
-word_plain (calls.Go program args) e = refl
-word_plain (calls.BundleGo h program args) e = refl
-word_plain (calls.BundleWait h wait) e = refl
-word_plain (calls.Pass word fault) e = refl
-word_plain _ e = cc
-
-form_plain : (word : Word) (found : Option Call) (call : Call) → is_plain_word word ≡ true → Fits word found → found ≡ Some call → is_plain call ≡ true
+form_plain : (word : Word) (found : Option Call) (call : Call) → is_built word ≡ true → Fits word found → found ≡ Some call → is_plain call ≡ true
 form_plain word None call p f e = cc
 form_plain word (Some made) call p f e =
     let same : made ≡ call = cc in
-    let w : is_plain_word (word_of made) ≡ true = subst (λ w. is_plain_word w ≡ true) (sym f.0) p in
-    subst (λ c. is_plain c ≡ true) same (word_plain made w)
+    let w : is_built (word_of made) ≡ true = subst (λ w. is_built w ≡ true) (sym f.0) p in
+    subst (λ c. is_plain c ≡ true) same w
 
 plain_some : (made call : Call) → Some made ≡ Some call → is_plain made ≡ true → is_plain call ≡ true
 plain_some made call e p = let same : made ≡ call = cc in subst (λ c. is_plain c ≡ true) same p

@@ -9,11 +9,11 @@ use Rattle.dill_script.specs.Fitting.{is_formed, all_say}
 use Rattle.dill_script.specs.Spelling.{is_sized, takes_its}
 use Rattle.dill_meaning.specs.Meaning.{next, short, said, left, most, knows, child}
 use Rattle.dill_meaning.specs.Views.{ScriptView, Round, statements_of, last_of}
-use Rattle.relay_body.specs.Building.{is_plain_word}
+use Rattle.dill_calls.specs.CallTable.{is_built}
 
 -- a statement whose call, if it is written as one, is plain
 abbrev pub says_plain : Statement → Bool
-says_plain (statements.Call tried dest form) = is_plain_word form.word
+says_plain (statements.Call tried dest form) = is_built form.word
 says_plain _ = true
 
 -- a script within its limits, whose calls are formed and plain

@@ -1,7 +1,7 @@
 -- Where a coroutine stops, and what it makes there.
 use Rattle.std.specs.Prelude.{◌≡◌, ℕ, ◌<◌, ◌≤◌, ◌⊎◌, ◌++◌, List, length, Bool, true, false, Option, Some, None, Result, Ok, Err}
 use Rattle.dill_base.specs.declared.errno.NoMemory.{NoMemory}
-use Rattle.dill_calls.specs.CallTable.{is_built}
+use Rattle.dill_calls.specs.CallTable.{build_takes_memory}
 use Rattle.dill_calls.specs.declared.body.Next.{Next}
 use Rattle.dill_calls.specs.declared.body.Next.TheVariants as nexts
 use Rattle.dill_calls.specs.declared.call.Call.{Call}
@@ -20,7 +20,7 @@ use Rattle.relay_body.specs.Running.{is_running, loops_in}
 use Rattle.relay_body.specs.Seen.{seen}
 
 -- what is held between two statements: a view that is running, and a slot for each loop that is written
-pub record Sound (held : Held) : Type 0 where
+pub record Consistent (held : Held) : Type 0 where
   pub running : is_running (seen held) ≡ true
   pub slots : loops_in (statements_of (seen held)) ≤ held.rounds.slots
 
@@ -68,7 +68,7 @@ pub record WalksTo (old new : Held) (mode : Mode) (stopped : Bool) : Type 0 wher
 -- a call is made, or memory for it was refused
 abbrev pub MakesOne : Held → Held → Next → Type 0
 MakesOne old new (nexts.Call call) = (moved (seen old) (made_at (seen old) true) ≡ (seen new, Calls call)) × (new.rounds.slots ≡ old.rounds.slots)
-MakesOne old new (nexts.Lack word) = (is_built word ≡ true) × (moved_word (moved (seen old) (made_at (seen old) true)).1 ≡ Some word) × (new ≡ old)
+MakesOne old new (nexts.Lack word) = (build_takes_memory word ≡ true) × (moved_word (moved (seen old) (made_at (seen old) true)).1 ≡ Some word) × (new ≡ old)
 MakesOne old new (nexts.End outcome) = ⊥
 
 -- a copy of bytes was put in a register, or there was no memory for it

@@ -25,13 +25,13 @@ pub struct ScriptBody {
 impl Model for ScriptBody {
     ghost use Rattle.dill_meaning.specs.Views.{ScriptView};
     ghost use Rattle.relay_body.specs.Seen.{seen};
-    ghost use Rattle.relay_body.specs.Stopping.{Sound};
+    ghost use Rattle.relay_body.specs.Stopping.{Consistent};
 
     ghost Value = { ScriptView };
 
     ghost view = { λ b. seen b.held };
 
-    ghost invariant = { λ b. Sound b.held };
+    ghost invariant = { λ b. Consistent b.held };
 }
 
 /// Whether a statement makes a call.

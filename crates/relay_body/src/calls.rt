@@ -1,6 +1,6 @@
 ghost use Rattle.std.specs.Prelude.{◌≡◌, ◌≤◌, ◌<◌, ◌++◌, ◌∷◌, [], length, drop, slice_get, flat_map, filter_map, option_to_list, position, IfSome, IfOk, OnOk, OnErr, true};
 ghost use Rattle.std.specs.Rc.{rc_value};
-ghost use Rattle.dill_calls.specs.CallTable.{is_built};
+ghost use Rattle.dill_calls.specs.CallTable.{build_takes_memory};
 ghost use Rattle.dill_script.specs.Refusals.{has_name};
 ghost use Rattle.dill_meaning.specs.Calls.{item_text, arg_of};
 ghost use Rattle.dill_meaning.specs.Values.{value_of, values_of};
@@ -130,7 +130,7 @@ impl Held {
     pub(crate) fn form_call(&self, form: &Form) -> Result<Call, NoMemory>
         requires { length (rc_value self.now.script) ≤ 256 }
         ensures ok { IfOk result (λ call. call ≡ plain_call (seen self.now) form.now.word form.now.operands) }
-        ensures err { OnErr result (is_built form.now.word ≡ true) }
+        ensures err { OnErr result (build_takes_memory form.now.word ≡ true) }
     {
         let list = form.operands.as_slice();
         Ok(match form.word {

@@ -6,6 +6,7 @@ mod body;
 mod calls;
 mod given;
 mod held;
+mod laws;
 mod mode;
 mod rounds;
 mod run;
@@ -16,3 +17,4 @@ mod turn;
 mod values;
 
 pub use body::ScriptBody;
+pub use laws::scripts_begin;

@@ -3,7 +3,7 @@ ghost use Rattle.std.specs.List.{list_all};
 ghost use Rattle.dill_script.specs.Fitting.{is_formed};
 ghost use Rattle.dill_script.specs.declared.operand.Bytes.TheVariants as bytes_of;
 ghost use Rattle.dill_script.specs.declared.statement.Statement.TheVariants as statements;
-ghost use Rattle.relay_body.specs.Building.{is_plain_word};
+ghost use Rattle.dill_calls.specs.CallTable.{is_built};
 ghost use Rattle.relay_body.specs.Running.{says_plain};
 
 use crate::ScriptBody;
@@ -69,7 +69,7 @@ impl Draft {
         list: [Operand; N],
     )
         requires formed { is_formed (statements.Call tried dest (record { word = word; operands = list })) ≡ true }
-        requires plain { is_plain_word word ≡ true }
+        requires plain { is_built word ≡ true }
     {
         match operands_of(self.alloc, list) {
             Ok(operands) => self.say(Statement::Call {

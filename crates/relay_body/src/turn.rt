@@ -6,7 +6,7 @@ ghost use Rattle.relay_body.specs.Modes.{meant, depth_of};
 ghost use Rattle.relay_body.specs.Running.{is_running, running};
 ghost use Rattle.relay_body.specs.Seen.{seen};
 ghost use Rattle.relay_body.specs.Steps.{HasSlot};
-ghost use Rattle.relay_body.specs.Stopping.{Sound, Passes, behind_at, made_at, made_in, WalksTo, MakesOne, Keeps, Joins};
+ghost use Rattle.relay_body.specs.Stopping.{Consistent, Passes, behind_at, made_at, made_in, WalksTo, MakesOne, Keeps, Joins};
 
 use crate::held::Held;
 use crate::mode::Mode;
@@ -75,11 +75,11 @@ impl Held {
 
     /// Walks on to the next statement that makes a call, or to the end, and answers whether there is such a statement.
     fn walk(&mut self, mode: Mode) -> bool
-        requires sound { Sound self.old }
+        requires consistent { Consistent self.old }
         requires depth { depth_of mode ≤ self.old.passed }
         ensures walk { WalksTo self.old self.new mode result }
         ensures calls { result ≡ is_some (made_at (seen self.new) result) }
-        ensures sound { Sound self.new }
+        ensures consistent { Consistent self.new }
     {
         let mut mode = mode;
         while self.pass() {
@@ -171,9 +171,9 @@ impl Held {
 
     /// Takes an answer and goes on to the next call or the end.
     pub(crate) fn turn(&mut self, given: Answer) -> Next
-        requires { Sound self.old }
+        requires { Consistent self.old }
         ensures turns { Turns running (seen self.old) given (seen self.new) result }
-        ensures sound { Sound self.new }
+        ensures consistent { Consistent self.new }
     {
         let mode = self.receive(given);
         if self.walk(mode) {

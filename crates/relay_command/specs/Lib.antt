@@ -1,3 +1,3 @@
-pub mod Words
+pub mod Arguments
 pub mod Told
 pub mod Founds

@@ -1,5 +1,5 @@
 ghost use Rattle.std.specs.Prelude.{◌≡◌};
-ghost use Rattle.relay_command.specs.Words.{number_within};
+ghost use Rattle.relay_command.specs.Arguments.{number_within};
 
 use crate::value::number_within;
 

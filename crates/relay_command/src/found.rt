@@ -1,5 +1,5 @@
 ghost use Rattle.std.specs.Prelude.{◌≡◌, [], map, Some, option_map, string_bytes};
-ghost use Rattle.relay_command.specs.Words.{Free, settled_as};
+ghost use Rattle.relay_command.specs.Arguments.{Free, settled_as};
 ghost use Rattle.relay_command.specs.Told.{told};
 ghost use Rattle.relay_command.specs.Founds.{once, with_value, with_piece, command_after};
 
@@ -7,16 +7,16 @@ use crate::piece::{Flag, Piece};
 use crate::value::{mode_of, net_of, number_within};
 use crate::{Command, Mode, Net};
 
-/// The greatest number of turns and rounds that words may name.
+/// The greatest number of turns and rounds that arguments may name.
 const MOST_TURNS: u64 = 999_999_999_999_999_999;
 
-/// How many turns and rounds there are at most where no word says it.
+/// How many turns and rounds there are at most where no argument says it.
 const TURNS: u64 = 1_000_000_000;
 
-/// How many bytes a read of the network in memory gives at most, where no word says less.
+/// How many bytes a read of the network in memory gives at most, where no argument says less.
 const CUT: u64 = 4096;
 
-/// What words have said so far.
+/// What arguments have said so far.
 #[derive(Clone, Copy)]
 pub(crate) struct Found<'a> {
     mode: Option<Mode>,
@@ -108,8 +108,8 @@ impl<'a> Found<'a> {
     {
         match piece {
             Piece::Value(flag, value) => self.with_value(flag, value),
-            Piece::Free(word) => {
-                let script = once(&self.script, Some(word))?;
+            Piece::Free(arg) => {
+                let script = once(&self.script, Some(arg))?;
                 Some(Found {
                     script: Some(script),
                     ..self
@@ -131,13 +131,13 @@ impl<'a> Found<'a> {
         })
     }
 
-    /// The command, where all these words are free.
-    pub(crate) fn command_with(self, words: &'a [String]) -> Option<Command<'a>>
-        ensures { option_map told result ≡ command_after self.entry (map Free (map string_bytes words.now)) }
+    /// The command, where all these arguments are free.
+    pub(crate) fn command_with(self, args: &'a [String]) -> Option<Command<'a>>
+        ensures { option_map told result ≡ command_after self.entry (map Free (map string_bytes args.now)) }
     {
-        match words {
+        match args {
             [] => self.command(),
-            [word] => self.with(Piece::Free(word.as_str()))?.command(),
+            [arg] => self.with(Piece::Free(arg.as_str()))?.command(),
             _ => None,
         }
     }

@@ -1,4 +1,4 @@
-//! The words of the program's command line: the options, in any order, and the one word that names the script.
+//! The arguments of the program: the options, in any order, and the one argument that names the script.
 //! It takes no memory.
 #![tactic(auto)]
 

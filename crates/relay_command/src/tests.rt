@@ -3,15 +3,15 @@ use std::alloc::Global;
 use std::process::Abort;
 use std::test::Fail;
 
-fn said(alloc: Global, words: &[&str]) -> Result<Vec<String>, Fail> {
+fn said(alloc: Global, args: &[&str]) -> Result<Vec<String>, Fail> {
     let mut all = Vec::new(alloc);
-    for word in words {
-        all.push(String::from_str(alloc, word)?)?;
+    for arg in args {
+        all.push(String::from_str(alloc, arg)?)?;
     }
     Ok(all)
 }
 
-/// What these words are, where no option is said.
+/// What these arguments are, where no option is said.
 fn plain(script: &str) -> Command<'_> {
     Command {
         mode: Mode::Run,
@@ -24,11 +24,11 @@ fn plain(script: &str) -> Command<'_> {
 
 fn are(
     rt: &(impl Abort + AllocGlobal),
-    words: &[&str],
+    args: &[&str],
     want: Option<Command<'_>>,
 ) -> Result<(), Fail> {
-    let all = said(rt.alloc(), words)?;
-    assert_eq!(rt; command_of(all.as_slice()), want, "{words:?}");
+    let all = said(rt.alloc(), args)?;
+    assert_eq!(rt; command_of(all.as_slice()), want, "{args:?}");
     Ok(())
 }
 
@@ -44,8 +44,8 @@ fn one_word_is_the_script(rt: HostRuntime) -> Result<(), Fail> {
         (&["--", "--"], "--"),
         (&["a", "--"], "a"),
     ];
-    for (words, script) in rows {
-        are(&rt, words, Some(plain(script)))?;
+    for (args, script) in rows {
+        are(&rt, args, Some(plain(script)))?;
     }
     Ok(())
 }
@@ -89,8 +89,8 @@ fn options_stand_in_any_order_and_form(rt: HostRuntime) -> Result<(), Fail> {
             "trace",
         ],
     ];
-    for words in rows {
-        are(&rt, words, Some(all))?;
+    for args in rows {
+        are(&rt, args, Some(all))?;
     }
     let check = Command {
         mode: Mode::Check,
@@ -117,13 +117,13 @@ fn a_load_has_its_clients_over_the_network_in_memory(rt: HostRuntime) -> Result<
         (&["1", "--mode=load"], "1", 1),
         (&["--net=loop", "--mode=load", "--", "72"], "72", 72),
     ];
-    for (words, script, clients) in rows {
+    for (args, script, clients) in rows {
         let load = Command {
             mode: Mode::Load,
             net: Net::Loop,
             ..plain(script)
         };
-        are(&rt, words, Some(load))?;
+        are(&rt, args, Some(load))?;
         assert_eq!(rt; load.clients(), Some(clients));
     }
     assert_eq!(rt; plain("10001").clients(), None);
@@ -168,8 +168,8 @@ fn other_words_are_no_command(rt: HostRuntime) -> Result<(), Fail> {
         &["--mode=load", "a.dill"],
         &["--mode=load", "--turns=0", "1"],
     ];
-    for words in rows {
-        are(&rt, words, None)?;
+    for args in rows {
+        are(&rt, args, None)?;
     }
     Ok(())
 }

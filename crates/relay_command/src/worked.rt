@@ -1,6 +1,6 @@
-ghost use Rattle.relay_command.specs.Words.{WordRows};
+ghost use Rattle.relay_command.specs.Arguments.{ArgumentRows};
 
-/// Examples of words, computed from their definition: the options in any order and form, and words that are no command.
+/// Examples of arguments, computed from their definition: the options in any order and form, and arguments that are no command.
 pub fn rows()
-    ensures { WordRows }
+    ensures { ArgumentRows }
 {}

@@ -9,7 +9,7 @@ use Rattle.dill_base.specs.declared.status.Status.TheVariants as status
 use Rattle.dill_script.specs.declared.script.Program.{Program}
 use Rattle.dill_script.specs.Printing.{canonical}
 use Rattle.dill_script.specs.Reading.{script_with}
-use Rattle.relay_reader.specs.Built.{is_built_so_far}
+use Rattle.dill_calls.specs.CallTable.{is_built}
 use Rattle.relay_main.specs.Outcome.{Says, RefusedScript}
 use Rattle.relay_main.specs.Reading.{Holds}
 
@@ -17,7 +17,7 @@ use Rattle.relay_main.specs.Reading.{Holds}
 pub record HoldsScript (files : Option Files) (name : List ℕ) (script : List Program) : Type 0 where
   pub bytes : List ℕ
   pub holds : Holds files name bytes
-  pub reads : script_with is_built_so_far bytes ≡ Ok script
+  pub reads : script_with is_built bytes ≡ Ok script
 
 module _ {W : Type 0} (told : W → Option (List ℕ)) (writes : W → ℕ) where
   -- all of a script's text went out, or a front of it, or memory for it was refused

@@ -3,7 +3,7 @@ ghost use Rattle.dill_calls.specs.Program.{Begins};
 ghost use Rattle.dill_meaning.specs.Views.{main_of};
 ghost use Rattle.dill_script.specs.Reading.{script_with};
 ghost use Rattle.relay_body.specs.Running.{running};
-ghost use Rattle.relay_reader.specs.Built.{is_built_so_far};
+ghost use Rattle.dill_calls.specs.CallTable.{is_built};
 ghost use Rattle.relay_main.specs.Outcome.{Shows, RunShows};
 
 use crate::reading::{ReadFault, read_all};
@@ -11,23 +11,21 @@ use crate::saying::{refuse, say_not_read, say_want, tell_end};
 use dill_base::{NoMemory, Shelf, Sink, Status};
 use dill_core::run;
 use dill_kernel::Kernel;
-use dill_meaning::scripts_are_lawful;
-use dill_script::{Script, script_laws};
+use dill_script::Script;
 use rand_core::Rng;
-use relay_body::ScriptBody;
+use relay_body::{ScriptBody, scripts_begin};
 use relay_reader::read_script;
 use std::alloc::Global;
 use std::rc::Rc;
 
 /// `main` of a script before its first turn.
 fn first_of(alloc: Global, bytes: &[u8], script: Script) -> Result<ScriptBody, NoMemory>
-    requires { script_with is_built_so_far bytes.now ≡ Ok script }
+    requires { script_with is_built bytes.now ≡ Ok script }
     ensures body { IfOk result (λ body. body ≡ main_of script) }
     ensures begins { IfOk result (λ body. Begins running body) }
 {
     let _ = bytes;
-    script_laws();
-    scripts_are_lawful();
+    scripts_begin();
     match Rc::new(alloc, script) {
         Ok(script) => ScriptBody::first(alloc, script),
         Err(_) => Err(NoMemory),
@@ -46,7 +44,7 @@ fn run_script<W: Sink, K: Kernel, R: Rng>(
     kernel: &mut K,
     keys: &mut R,
 ) -> Status
-    requires read { script_with is_built_so_far bytes.now ≡ Ok script }
+    requires read { script_with is_built bytes.now ≡ Ok script }
     requires limit { turns ≤ 999999999999999999 }
     ensures { RunShows K.step K.faults W.told W.faults script traced turns kernel.old kernel.new (R.stream keys.old) (R.stream keys.new) out.old out.new err.old err.new result }
 {

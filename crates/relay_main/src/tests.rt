@@ -288,14 +288,14 @@ fn a_failed_wait_and_a_spent_budget_close_the_program(rt: HostRuntime) -> Result
 /// Gives the words to the program, over a shelf that holds a script under `x`, and compares what it came to.
 fn does(
     rt: &(impl Abort + AllocGlobal),
-    words: &[&str],
+    args: &[&str],
     script: &[u8],
     end: End<'_>,
 ) -> Result<(), Fail> {
     let alloc = rt.alloc();
     let mut all = Vec::new(alloc);
-    for word in words {
-        all.push(String::from_str(alloc, word)?)?;
+    for arg in args {
+        all.push(String::from_str(alloc, arg)?)?;
     }
     let mut shelf = shelf(alloc, script, 0)?;
     let mut out = sink(alloc, 0)?;
@@ -311,9 +311,9 @@ fn does(
         &mut kernel,
         &mut keys,
     );
-    assert_eq!(rt; status, end.status, "{words:?}");
-    assert_eq!(rt; out.bytes(), end.shown.as_bytes(), "{words:?}");
-    assert_eq!(rt; err.bytes(), end.said.as_bytes(), "{words:?}");
+    assert_eq!(rt; status, end.status, "{args:?}");
+    assert_eq!(rt; out.bytes(), end.shown.as_bytes(), "{args:?}");
+    assert_eq!(rt; err.bytes(), end.said.as_bytes(), "{args:?}");
     Ok(())
 }
 
@@ -360,8 +360,8 @@ fn words_say_what_is_done(rt: HostRuntime) -> Result<(), Fail> {
         (&["--turns", "0", "x"], refused),
         (&["--mode", "load", "5"], refused),
     ];
-    for (words, end) in cases {
-        does(&rt, words, TWO_PRINTS, end)?;
+    for (args, end) in cases {
+        does(&rt, args, TWO_PRINTS, end)?;
     }
     Ok(())
 }

@@ -40,7 +40,7 @@ told_error result fault reason Fact error meant =
     let given = err_from_is_err_and result error in
     rw (given.1, given.2) meant
 
-pub behind_is : (context : Context) (heading : Heading) (keyword : Keyword) (line : Line) → heading.word ≡ Some keyword → line_of heading ≡ Some line → behind context (Some heading) ≡ behind_line context keyword line
-behind_is context heading keyword line worded spelled =
+pub behind_is : (context : Context) (heading : Heading) (keyword : Keyword) (line : Line) → heading.keyword ≡ Some keyword → line_of heading ≡ Some line → behind context (Some heading) ≡ behind_line context keyword line
+behind_is context heading keyword line behind_keyword spelled =
     let of : Option Line → Option Keyword → Context = λ given word. record (adding context given) { open_blocks = open_behind context.open_blocks word } in
-    ap (λ given. of given heading.word) spelled ∙ ap (λ word. of (Some line) word) worded
+    ap (λ given. of given heading.keyword) spelled ∙ ap (λ word. of (Some line) word) behind_keyword

@@ -20,8 +20,8 @@ use Rattle.relay_reader.proofs.Reasons.{tells_later}
 -- the reasons that depend on the head of a line that belongs to programs
 abbrev pub said_faults : (Word → Bool) → Context → Bool → Option Heading → List (Bool × Reason)
 said_faults built context last head =
-    let word = option_and_then (λ heading. heading.word) head in
-    (is_some_with (λ heading. is_none heading.word) head, UnknownWord)
+    let word = option_and_then (λ heading. heading.keyword) head in
+    (is_some_with (λ heading. is_none heading.keyword) head, UnknownWord)
     ∷ (is_some_with (is_unbuilt built) word, NotBuilt)
     ∷ (is_some_with (λ keyword. not (may_stand context.open_blocks keyword)) word || (last && not (is_empty (behind context head).open_blocks)), BadBlock)
     ∷ (is_some_with (λ heading. is_none (line_of heading)) head, BadOperand)
@@ -79,7 +79,7 @@ pub read_said : {X : Type 0} (built : Word → Bool) (context new : Context) (la
 read_said built context new last line found result some belongs none meant =
     let heading = heading_of found in
     let head = said_some context line found belongs some in
-    let word = word_faults built context.open_blocks last heading.word in
+    let word = word_faults built context.open_blocks last heading.keyword in
     let spelling = spelling_faults context.whole (line_of heading) in
     let kept = tells_more result (first_reason (heading_faults built context last heading)) (new ≡ behind context (Some heading)) ((new ≡ after context line) × (passes_limit new ≡ false))
     (λ right is. (is ∙ sym (after_said context line heading head belongs), ap passes_limit is ∙ none_last (word ++ spelling) (passes_limit (behind context (Some heading))) TooLarge right))

@@ -40,7 +40,7 @@ limit_faults context = (passes_limit context, TooLarge) ∷ []
 
 -- those of a line of this head
 abbrev pub heading_faults : (Word → Bool) → Context → Bool → Heading → List (Bool × Reason)
-heading_faults built context last heading = word_faults built context.open_blocks last heading.word ++ (spelling_faults context.whole (line_of heading) ++ limit_faults (behind context (Some heading)))
+heading_faults built context last heading = word_faults built context.open_blocks last heading.keyword ++ (spelling_faults context.whole (line_of heading) ++ limit_faults (behind context (Some heading)))
 
 -- those of a line that belongs to no program
 abbrev pub passing_faults : List Block → Bool → List (Bool × Reason)

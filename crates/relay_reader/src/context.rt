@@ -5,8 +5,8 @@ ghost use Rattle.dill_script.specs.Lines.{has_tokens};
 ghost use Rattle.dill_script.specs.Refusals.{passes_limit, faults, first_reason};
 ghost use Rattle.dill_script.specs.Statements.{line_of};
 ghost use Rattle.dill_script.specs.Tokens.{tokens};
-ghost use Rattle.relay_words.specs.Spelled.{line_in};
-ghost use Rattle.relay_reader.specs.Built.{is_built_so_far};
+ghost use Rattle.relay_lines.specs.Spelled.{line_in};
+ghost use Rattle.dill_calls.specs.CallTable.{is_built};
 ghost use Rattle.relay_reader.specs.Parts.{byte_faults, word_faults, spelling_faults, limit_faults, behind_line, heading_faults, passing_faults};
 ghost use Rattle.relay_reader.specs.Telling.{Tells};
 
@@ -15,7 +15,7 @@ use crate::fault::Fault;
 use crate::judging::{judge_bytes, judge_spelling, judge_word};
 use dill_base::{NoMemory, Octets};
 use dill_script::{Block, Keyword, Program, Reason, Script, Statement, Statements};
-use relay_words::{Heading, Line, Token, Tokens, has_tokens, heading_of};
+use relay_lines::{Heading, Line, Token, Tokens, has_tokens, heading_of};
 use std::alloc::Global;
 use std::marker::Model;
 use std::mem;
@@ -187,10 +187,10 @@ impl Context {
     fn word_of(&self, heading: &Heading<'_>, last: bool) -> Result<Keyword, Fault>
         ensures { Tells result
             (first_reason
-            (word_faults is_built_so_far self.now.open_blocks last heading.now.word))
+            (word_faults is_built self.now.open_blocks last heading.now.word))
             (λ keyword. heading.now.word ≡ Some keyword) }
     {
-        judge_word(&self.open_blocks, heading.word(), last)
+        judge_word(&self.open_blocks, heading.keyword(), last)
     }
 
     /// What the line spells, where it may stand behind the programs that are whole.
@@ -211,7 +211,7 @@ impl Context {
     ) -> Result<(), Fault>
         requires { passes_limit self.old ≡ false }
         ensures { Tells result
-            (first_reason (heading_faults is_built_so_far self.old last heading.now))
+            (first_reason (heading_faults is_built self.old last heading.now))
             (λ _. self.new ≡ behind self.old (Some heading.now)) }
     {
         let keyword = self.word_of(heading, last)?;
@@ -222,7 +222,7 @@ impl Context {
     fn read_said(&mut self, alloc: Global, tokens: &[Token], last: bool) -> Result<(), Fault>
         requires { passes_limit self.old ≡ false }
         ensures { Tells result
-            (first_reason (heading_faults is_built_so_far self.old last (heading_of tokens.now)))
+            (first_reason (heading_faults is_built self.old last (heading_of tokens.now)))
             (λ _. self.new ≡ behind self.old (Some (heading_of tokens.now))) }
     {
         match heading_of(alloc, tokens) {
@@ -264,7 +264,7 @@ impl Context {
     pub(crate) fn read(&mut self, alloc: Global, line: &[u8], last: bool) -> Result<(), Fault>
         requires { passes_limit self.old ≡ false }
         ensures { Tells result
-            (first_reason (faults is_built_so_far self.old last line.now))
+            (first_reason (faults is_built self.old last line.now))
             (λ _. (self.new ≡ after self.old line.now) × (passes_limit self.new ≡ false)) }
     {
         let found = self.tokens_of(alloc, line)?;

@@ -6,8 +6,8 @@ ghost use Rattle.dill_script.specs.Lines.{has_tokens};
 ghost use Rattle.dill_script.specs.Refusals.{has_name, names_again, is_version, lacks_version, faults, first_reason, passes_limit};
 ghost use Rattle.dill_script.specs.Statements.{line_of};
 ghost use Rattle.dill_script.specs.Tokens.{tokens};
-ghost use Rattle.relay_words.specs.Spelled.{line_in};
-ghost use Rattle.relay_reader.specs.Built.{is_built_so_far};
+ghost use Rattle.relay_lines.specs.Spelled.{line_in};
+ghost use Rattle.dill_calls.specs.CallTable.{is_built};
 ghost use Rattle.relay_reader.specs.Parts.{byte_faults, word_faults, spelling_faults};
 ghost use Rattle.relay_reader.specs.Telling.{Tells};
 
@@ -15,7 +15,7 @@ use crate::blocks::Blocks;
 use crate::built::is_unbuilt;
 use crate::fault::Fault;
 use dill_script::{Keyword, Program, Reason};
-use relay_words::{Heading, Line, Token, Tokens, has_tokens, is_line, line_of, tokens};
+use relay_lines::{Heading, Line, Token, Tokens, has_tokens, is_line, line_of, tokens};
 use std::alloc::Global;
 
 /// Whether a program has this name.
@@ -46,7 +46,7 @@ fn are_version(tokens: &[Token]) -> bool
     ensures { result ≡ is_version (Some tokens.now) }
 {
     match tokens {
-        [first, second] => first.is_word(b"dill") && second.is_word(b"1"),
+        [first, second] => first.is_plain(b"dill") && second.is_plain(b"1"),
         _ => false,
     }
 }
@@ -89,7 +89,7 @@ pub(crate) fn judge_word(
     last: bool,
 ) -> Result<Keyword, Fault>
     ensures { Tells result
-        (first_reason (word_faults is_built_so_far open_blocks.now last word))
+        (first_reason (word_faults is_built open_blocks.now last word))
         (λ keyword. word ≡ Some keyword) }
 {
     let Some(keyword) = word else {

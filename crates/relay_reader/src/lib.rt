@@ -1,5 +1,5 @@
 //! Reading a whole script: its text is cut into lines, each line is judged by what stands before it, and the programs
-//! are linked. It runs nothing, and reads no line by itself: `relay_words` does.
+//! are linked. It runs nothing, and reads no line by itself: `relay_lines` does.
 #![tactic(auto)]
 
 mod blocks;
@@ -13,5 +13,4 @@ mod reading;
 #[cfg(test)]
 mod tests;
 
-pub use built::is_built_so_far;
 pub use reading::{MOST_BYTES, read_script};

@@ -5,14 +5,14 @@ ghost use Rattle.dill_script.specs.Lines.{lines_of};
 ghost use Rattle.dill_script.specs.Reading.{started, started_by, takes, starts_none, first_without, linked};
 ghost use Rattle.dill_script.specs.Refusals.{is_some_with};
 ghost use Rattle.dill_script.specs.Statements.{line_of};
-ghost use Rattle.relay_words.specs.Spelled.{line_in};
+ghost use Rattle.relay_lines.specs.Spelled.{line_in};
 ghost use Rattle.relay_reader.specs.Telling.{Reads};
 
 use crate::cut::split_line;
 use crate::judging::{any_has_name, has_name};
 use dill_base::NoMemory;
 use dill_script::{Operand, Program, Reason, Refusal, Script, Statement};
-use relay_words::{Line, heading_of, line_of, tokens};
+use relay_lines::{Line, heading_of, line_of, tokens};
 use std::alloc::Global;
 
 /// The program that a call starts, and how many arguments it gives it.

@@ -3,14 +3,14 @@ ghost use Rattle.std.specs.List.{list_any};
 ghost use Rattle.dill_script.specs.Contexts.{opening};
 ghost use Rattle.dill_script.specs.Lines.{lines_of, has_tokens};
 ghost use Rattle.dill_script.specs.Reading.{judged, script_with};
-ghost use Rattle.relay_reader.specs.Built.{is_built_so_far};
+ghost use Rattle.dill_calls.specs.CallTable.{is_built};
 ghost use Rattle.relay_reader.specs.Telling.{Reads};
 
 use crate::context::Context;
 use crate::cut::split_line;
 use crate::linking::link;
 use dill_script::{Reason, Refusal, Script};
-use relay_words::has_tokens;
+use relay_lines::has_tokens;
 use std::alloc::Global;
 
 /// How many bytes a script has at most.
@@ -34,7 +34,7 @@ fn any_has_tokens(bytes: &[u8]) -> bool
 /// The programs of a text, or the refusal of its first faulty line.
 fn read_programs(alloc: Global, bytes: &[u8]) -> Result<Script, Refusal>
     requires { length bytes.now ≤ 1048576 }
-    ensures { Reads result (judged is_built_so_far 1 opening (lines_of bytes.now)) }
+    ensures { Reads result (judged is_built 1 opening (lines_of bytes.now)) }
 {
     let mut context = Context::new(alloc);
     let mut rest = bytes;
@@ -53,7 +53,7 @@ fn read_programs(alloc: Global, bytes: &[u8]) -> Result<Script, Refusal>
 /// Reads the text of a script, or tells the line, counted from 1, and the reason of its refusal. A text of more than
 /// 1,048,576 bytes is looked at no further. Calls that aren't built so far are refused.
 pub fn read_script(alloc: Global, bytes: &[u8]) -> Result<Script, Refusal>
-    ensures { Reads result (script_with is_built_so_far bytes.now) }
+    ensures { Reads result (script_with is_built bytes.now) }
 {
     if bytes.len() > MOST_BYTES {
         return Err(Refusal::At {

@@ -1,4 +1,4 @@
-use crate::{MOST_BYTES, is_built_so_far, read_script};
+use crate::{MOST_BYTES, is_built, read_script};
 use dill_calls::Word;
 use dill_script::{Reason, Refusal};
 use std::alloc::Global;
@@ -236,6 +236,6 @@ fn a_text_of_more_bytes_is_refused_at_its_first_line(rt: HostRuntime) -> Result<
 
 #[test]
 fn sleeping_is_built_and_channels_are_not(rt: HostRuntime) {
-    assert!(rt; is_built_so_far(Word::Msleep));
-    assert!(rt; !is_built_so_far(Word::Chmake));
+    assert!(rt; is_built(Word::Msleep));
+    assert!(rt; !is_built(Word::Chmake));
 }

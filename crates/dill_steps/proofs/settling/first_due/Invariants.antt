@@ -1,5 +1,5 @@
 use Rattle.std.proofs.Common.{◌≡◌, drop}
-use Rattle.dill_maps.specs.Maps.{first_some}
+use Rattle.dill_base.specs.Maps.{first_some}
 use Rattle.dill_rules.specs.Settling.{answer_due}
 use Rattle.dill_world.specs.Store.{world_of, ArePlain}
 use Rattle.dill_steps.proofs.settling.first_due.Given as goal

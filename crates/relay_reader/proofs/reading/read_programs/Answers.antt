@@ -2,7 +2,7 @@ use Rattle.std.proofs.Common.{◌≡◌, ◌∙◌, sym, subst, arith}
 use Rattle.dill_script.specs.Blocks.{is_empty}
 use Rattle.dill_script.specs.Lines.{lines_of}
 use Rattle.dill_script.specs.Reading.{Reading}
-use Rattle.relay_reader.specs.Built.{is_built_so_far}
+use Rattle.dill_calls.specs.CallTable.{is_built}
 use Rattle.relay_reader.specs.Telling.{Refuses, refusal_at}
 use Rattle.relay_reader.proofs.Stepping.{no_lines, judged_more, judged_stop}
 use Rattle.relay_reader.proofs.reading.read_programs.Goals as goal
@@ -14,7 +14,7 @@ returns-in-Err c =
     let last = c.is_empty-in-loop-rest.result in
     let ends : is_empty (lines_of behind) ≡ last = no_lines behind ∙ sym c.is_empty-in-loop-rest.ensures in
     let Refused : Reading → Type 0 = λ reading. Refuses (refusal_at c.loop-rest.number c.in-Err.fault) reading in
-    let here = judged_stop is_built_so_far c.loop-rest.number c.loop-rest.context (lines_of c.loop-rest.rest.now) line (lines_of behind) last c.in-Err.fault c.split_line.ensures.lines ends c.in-Err.ensures in
+    let here = judged_stop is_built c.loop-rest.number c.loop-rest.context (lines_of c.loop-rest.rest.now) line (lines_of behind) last c.in-Err.fault c.split_line.ensures.lines ends c.in-Err.ensures in
     rw c.at.ensures (subst Refused (sym c.loop-rest.invariant.reads) here)
 
 pub loop-rest-preserved : goal.loop-rest-preserved
@@ -24,7 +24,7 @@ loop-rest-preserved c =
     let last = c.is_empty-in-loop-rest.result in
     let ends : is_empty (lines_of behind) ≡ last = no_lines behind ∙ sym c.is_empty-in-loop-rest.ensures in
     record {
-      reads = c.loop-rest.invariant.reads ∙ judged_more is_built_so_far c.loop-rest.number c.loop-rest.context c.read.new.self (lines_of c.loop-rest.rest.now) line (lines_of behind) last c.split_line.ensures.lines ends c.in_default.ensures.0 c.in_default.ensures.1.0;
+      reads = c.loop-rest.invariant.reads ∙ judged_more is_built c.loop-rest.number c.loop-rest.context c.read.new.self (lines_of c.loop-rest.rest.now) line (lines_of behind) last c.split_line.ensures.lines ends c.in_default.ensures.0 c.in_default.ensures.1.0;
       within = c.in_default.ensures.1.1;
       few = omega arith;
     }

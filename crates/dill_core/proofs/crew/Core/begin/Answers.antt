@@ -1,7 +1,7 @@
 use Rattle.std.proofs.Common.{length, vec_capacity, ap, arith}
 use Rattle.dill_rules.specs.World as worlds
 use Rattle.dill_rules.specs.World.{World}
-use Rattle.dill_kept.specs.Kept.{Kept}
+use Rattle.laws_queue.specs.Kept.{Kept}
 use Rattle.dill_core.specs.Holding.{kept_of}
 use Rattle.dill_core.proofs.Places.{held_as}
 use Rattle.dill_core.proofs.crew.Core.begin.Goals as goal

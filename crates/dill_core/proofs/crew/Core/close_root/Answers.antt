@@ -3,8 +3,8 @@ use Rattle.dill_rules.specs.Settling.{settle}
 use Rattle.dill_rules.specs.World as world
 use Rattle.dill_rules.specs.World.{World}
 use Rattle.dill_scope.specs.Scopes as scopes
-use Rattle.dill_kept.specs.Kept.{queued}
-use Rattle.dill_debts.specs.Closing.{IsStable}
+use Rattle.laws_queue.specs.Kept.{queued}
+use Rattle.laws_debt.specs.Closing.{IsStable}
 use Rattle.dill_world.specs.Store.{Store, world_of}
 use Rattle.dill_core.specs.Holding.{Holding, kept_of}
 use Rattle.dill_core.proofs.Places.{has_places, lined_held, root_closed, closed_well}

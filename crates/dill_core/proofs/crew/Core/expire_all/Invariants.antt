@@ -1,6 +1,6 @@
 use Rattle.std.proofs.Common.{◌≡◌, length, fold}
 use Rattle.dill_rules.specs.Expiring.{passed}
-use Rattle.dill_kept.specs.Kept.{kept_expire_next, kept_late}
+use Rattle.laws_queue.specs.Kept.{kept_expire_next, kept_late}
 use Rattle.dill_world.specs.Store.{world_of}
 use Rattle.dill_core.specs.Holding.{kept_of}
 use Rattle.dill_core.proofs.crew.Core.expire_all.Given as goal

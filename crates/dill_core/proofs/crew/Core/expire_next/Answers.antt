@@ -1,7 +1,7 @@
 use Rattle.std.proofs.Common.{◌≡◌, ◌∙◌, ◌∷◌, vec_capacity, arith, ap, subst}
 use Rattle.dill_rules.specs.Expiring.{expire_one, passed}
-use Rattle.dill_kept.specs.Kept.{Kept}
-use Rattle.dill_sound.specs.Laws.{is_timed}
+use Rattle.laws_queue.specs.Kept.{Kept}
+use Rattle.laws_sound.specs.Laws.{is_timed}
 use Rattle.dill_world.specs.Store.{world_of, ArePlain}
 use Rattle.dill_core.specs.Holding.{Holding, kept_of}
 use Rattle.dill_core.proofs.Late.{rest_passed, rises_of}

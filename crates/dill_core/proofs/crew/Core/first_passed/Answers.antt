@@ -1,7 +1,7 @@
 use Rattle.std.proofs.Common.{◌≡◌, ℕ, true, Option, IfSome, sym, subst}
 use Rattle.dill_rules.specs.Expiring.{passed}
-use Rattle.dill_sound.specs.Laws.{is_timed}
-use Rattle.dill_sound.proofs.Stepping.{passed_timed}
+use Rattle.laws_sound.specs.Laws.{is_timed}
+use Rattle.laws_sound.proofs.Stepping.{passed_timed}
 use Rattle.dill_world.specs.Store.{world_of}
 use Rattle.dill_core.specs.Holding.{Holding}
 use Rattle.dill_core.proofs.Late.{first_all}

@@ -1,6 +1,6 @@
 use Rattle.std.proofs.Common.{vec_capacity, arith}
 use Rattle.dill_rules.specs.Settling.{settle}
-use Rattle.dill_kept.specs.Kept.{Kept}
+use Rattle.laws_queue.specs.Kept.{Kept}
 use Rattle.dill_core.specs.Holding.{kept_of}
 use Rattle.dill_core.proofs.Places.{has_places, lined_held}
 use Rattle.dill_core.proofs.crew.Core.settle.Goals as goal

@@ -1,9 +1,9 @@
 use Rattle.std.proofs.Common.{◌≡◌, ◌∙◌, ◌-◌, ◌≤◌, ℕ, List, length, vec_capacity, true, arith, refl, sym, ap, subst}
 use Rattle.dill_calls.specs.declared.ran.Ran.{Ran}
 use Rattle.dill_rules.specs.Turning.{turn}
-use Rattle.dill_kept.specs.Kept.{queued, turn_first, kept_ran}
-use Rattle.dill_kept.specs.Laws.{HasPlaces}
-use Rattle.dill_debts.specs.Closing.{IsStable}
+use Rattle.laws_queue.specs.Kept.{queued, turn_first, kept_ran}
+use Rattle.laws_queue.specs.Laws.{HasPlaces}
+use Rattle.laws_debt.specs.Closing.{IsStable}
 use Rattle.dill_drive.specs.Machine.{may_be}
 use Rattle.dill_world.specs.Store.{world_of}
 use Rattle.dill_core.specs.CoreMachine.{core_machine}

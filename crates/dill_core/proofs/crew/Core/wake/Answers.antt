@@ -1,6 +1,6 @@
 use Rattle.std.proofs.Common.{◌∙◌, [], max, length, vec_capacity, sym, ap, arith}
 use Rattle.dill_rules.specs.World.{World}
-use Rattle.dill_kept.specs.Kept.{kept_woke}
+use Rattle.laws_queue.specs.Kept.{kept_woke}
 use Rattle.dill_core.specs.Holding.{Holding, kept_of}
 use Rattle.dill_core.proofs.Places.{held_as}
 use Rattle.dill_core.proofs.Waking.{moved_world, woken_held}

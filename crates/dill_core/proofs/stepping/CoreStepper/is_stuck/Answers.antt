@@ -1,5 +1,5 @@
 use Rattle.std.proofs.Common.{◌≡◌, ◌∙◌, false, is_none, sym, ap}
-use Rattle.dill_kept.specs.Kept.{has_answer, kept_stuck}
+use Rattle.laws_queue.specs.Kept.{has_answer, kept_stuck}
 use Rattle.dill_core.specs.Holding.{Holding, kept_of}
 use Rattle.dill_core.proofs.Trying.{stuck_is, none_is}
 use Rattle.dill_core.proofs.stepping.CoreStepper.is_stuck.Goals as goal

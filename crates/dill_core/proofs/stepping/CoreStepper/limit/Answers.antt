@@ -1,6 +1,6 @@
 use Rattle.std.proofs.Common.{◌≡◌, ◌∙◌, false, sym, ap}
 use Rattle.dill_rules.specs.Waiting.{until}
-use Rattle.dill_kept.specs.Kept.{has_answer, kept_limit}
+use Rattle.laws_queue.specs.Kept.{has_answer, kept_limit}
 use Rattle.dill_core.specs.Holding.{Holding, kept_of}
 use Rattle.dill_core.proofs.Trying.{limit_is}
 use Rattle.dill_core.proofs.stepping.CoreStepper.limit.Goals as goal

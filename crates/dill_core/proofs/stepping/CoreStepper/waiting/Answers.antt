@@ -1,6 +1,6 @@
 use Rattle.std.proofs.Common.{◌∙◌, ap, subst}
 use Rattle.dill_rules.specs.Waiting.{waiters}
-use Rattle.dill_kept.specs.Kept.{kept_waiting}
+use Rattle.laws_queue.specs.Kept.{kept_waiting}
 use Rattle.dill_drive.specs.Waiting.{next_above, Rises}
 use Rattle.dill_world.specs.Store.{world_of}
 use Rattle.dill_core.specs.Holding.{Holding, kept_of}

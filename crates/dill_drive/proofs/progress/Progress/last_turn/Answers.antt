@@ -10,7 +10,7 @@ returns-in-Sink-clause-leads g c =
     let v = c.args.self.now.core in
     let w = c.turn-ran.new.self in
     let made : Made m v w c.turn-ran.result (m.notes w) (g.R.Rng.stream c.args.keys.now) (g.R.Rng.stream c.turn-ran.new.keys) =
-    record { may = c.turn-ran.ensures.allowed; ran = c.turn-ran.ensures.ran; after = c.turn-ran.ensures.after; words = c.turn-ran.ensures.words; notes = refl } in
+    record { may = c.turn-ran.ensures.allowed; ran = c.turn-ran.ensures.ran; after = c.turn-ran.ensures.after; random = c.turn-ran.ensures.random; notes = refl } in
     rw c.in-Sink.is (λ most. last_silent m c.args.traced most v w c.turn-ran.result (m.notes w) c.args.self.now.tally c.last_turn-self.result _ _ _ made c.last_turn-self.ensures)
 
 pub returns-in-Ok : goal.returns-in-Ok
@@ -19,7 +19,7 @@ returns-in-Ok g c =
     let v = c.args.self.now.core in
     let w = c.turn-ran.new.self in
     let made : Made m v w c.turn-ran.result c.notes.result.now (g.R.Rng.stream c.args.keys.now) (g.R.Rng.stream c.turn-ran.new.keys) =
-    record { may = c.turn-ran.ensures.allowed; ran = c.turn-ran.ensures.ran; after = c.turn-ran.ensures.after; words = c.turn-ran.ensures.words; notes = c.notes.ensures } in
+    record { may = c.turn-ran.ensures.allowed; ran = c.turn-ran.ensures.ran; after = c.turn-ran.ensures.after; random = c.turn-ran.ensures.random; notes = c.notes.ensures } in
     record {
       leads = λ most. last_written m c.args.traced most v w c.turn-ran.result c.notes.result.now c.args.status c.args.self.now.tally c.last_turn-self.result _ _ _ _ made c.last_turn-self.ensures c.in_default.not-Sink c.in-Ok.ensures.ok;
       status = inl refl;
@@ -35,7 +35,7 @@ returns g c =
     let v = c.args.self.now.core in
     let w = c.turn-ran.new.self in
     let made : Made m v w c.turn-ran.result c.notes.result.now (g.R.Rng.stream c.args.keys.now) (g.R.Rng.stream c.turn-ran.new.keys) =
-    record { may = c.turn-ran.ensures.allowed; ran = c.turn-ran.ensures.ran; after = c.turn-ran.ensures.after; words = c.turn-ran.ensures.words; notes = c.notes.ensures } in
+    record { may = c.turn-ran.ensures.allowed; ran = c.turn-ran.ensures.ran; after = c.turn-ran.ensures.after; random = c.turn-ran.ensures.random; notes = c.notes.ensures } in
     record {
       leads = λ most. last_cut m c.args.traced most v w c.turn-ran.result c.notes.result.now c.args.status c.args.self.now.tally c.last_turn-self.result _ _ _ _ made c.last_turn-self.ensures c.in_default.not-Sink c.requires.stopped c.in-Err.ensures.err;
       status = inr refl;

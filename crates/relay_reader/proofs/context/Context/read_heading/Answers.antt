@@ -2,8 +2,8 @@ use Rattle.std.proofs.Common.{◌≡◌, ◌++◌, Some, sym, subst}
 use Rattle.dill_script.specs.Contexts.{Context, behind}
 use Rattle.dill_script.specs.Refusals.{first_reason}
 use Rattle.dill_script.specs.Statements.{line_of}
-use Rattle.relay_words.specs.Spelled.{line_in}
-use Rattle.relay_reader.specs.Built.{is_built_so_far}
+use Rattle.relay_lines.specs.Spelled.{line_in}
+use Rattle.dill_calls.specs.CallTable.{is_built}
 use Rattle.relay_reader.specs.Parts.{word_faults, spelling_faults, limit_faults}
 use Rattle.relay_reader.specs.Telling.{Tells}
 use Rattle.relay_reader.proofs.Reasons.{faults_first, faults_later, tells_later, told_error, behind_is}
@@ -13,7 +13,7 @@ pub returns-in_err-keyword : goal.returns-in_err-keyword
 returns-in_err-keyword c =
     let state = c.args.self.now in
     let heading = c.args.heading.now in
-    let word = word_faults is_built_so_far state.open_blocks c.args.last heading.word in
+    let word = word_faults is_built state.open_blocks c.args.last heading.keyword in
     let rest = spelling_faults state.whole (line_of heading) ++ limit_faults (behind state (Some heading)) in
     told_error c.from_residual.result c.in_err-keyword.field-0.0 _ _ c.from_residual.ensures.1 (faults_first _ word rest c.in_err-keyword.ensures)
 
@@ -21,7 +21,7 @@ pub returns-in_err-line : goal.returns-in_err-line
 returns-in_err-line c =
     let state = c.args.self.now in
     let heading = c.args.heading.now in
-    let word = word_faults is_built_so_far state.open_blocks c.args.last heading.word in
+    let word = word_faults is_built state.open_blocks c.args.last heading.keyword in
     let spelling = spelling_faults state.whole (line_of heading) in
     let rest = limit_faults (behind state (Some heading)) in
     told_error c.from_residual-in_err-line.result c.in_err-line.field-0.0 _ _ c.from_residual-in_err-line.ensures.1 (faults_later _ word (spelling ++ rest) c.in_ok-keyword.ensures.0 (faults_first _ spelling rest c.in_err-line.ensures))
@@ -30,7 +30,7 @@ pub returns : goal.returns
 returns c =
     let state = c.args.self.now in
     let heading = c.args.heading.now in
-    let word = word_faults is_built_so_far state.open_blocks c.args.last heading.word in
+    let word = word_faults is_built state.open_blocks c.args.last heading.keyword in
     let spelling = spelling_faults state.whole (line_of heading) in
     let rest = limit_faults (behind state (Some heading)) in
     let here = behind_is state heading c.in_ok-keyword.keyword (line_in c.in_ok-line.line) c.in_ok-keyword.ensures.1 c.in_ok-line.ensures.1 in

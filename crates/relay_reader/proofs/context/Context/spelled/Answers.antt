@@ -2,7 +2,7 @@ use Rattle.std.proofs.Common.{◌≡◌, ◌∙◌, List, Some, ap, subst}
 use Rattle.dill_script.specs.declared.script.Program.{Program}
 use Rattle.dill_script.specs.Refusals.{first_reason}
 use Rattle.dill_script.specs.Statements.{line_of}
-use Rattle.relay_words.specs.Spelled.{line_in}
+use Rattle.relay_lines.specs.Spelled.{line_in}
 use Rattle.relay_reader.specs.Parts.{spelling_faults}
 use Rattle.relay_reader.specs.Telling.{Tells}
 use Rattle.relay_reader.proofs.context.Context.spelled.Goals as goal

@@ -1,5 +1,0 @@
-use Rattle.dill_bound.proofs.Running.{runs_are_bounded}
-use Rattle.dill_bound.proofs.laws.runs_are_bounded.Goals as goal
-
-pub returns : goal.returns
-returns g c = runs_are_bounded g.B.Body.means g.met.B.Body.lawful g.met.B.PlainBody.plain c.steps_keep_well.ensures c.steps_keep_stable.ensures c.follows_states.ensures c.root_debt_falls.ensures

@@ -1,5 +1,0 @@
-use Rattle.dill_bound.proofs.Ended.{runs_end}
-use Rattle.dill_bound.proofs.laws.runs_end.Goals as goal
-
-pub returns : goal.returns
-returns g c = runs_end g.B.Body.means c.follows_states.ensures c.debts_fall.ensures c.root_debt_falls.ensures

@@ -1,5 +1,0 @@
-use Rattle.dill_bound.proofs.Ending.{stopped_runs_end}
-use Rattle.dill_bound.proofs.laws.stopped_runs_end.Goals as goal
-
-pub returns : goal.returns
-returns g c = stopped_runs_end g.B.Body.means c.follows_states.ensures c.root_debt_falls.ensures

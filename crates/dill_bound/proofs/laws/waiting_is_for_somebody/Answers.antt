@@ -1,5 +1,0 @@
-use Rattle.dill_bound.proofs.Waiting.{waiting_is_for_somebody}
-use Rattle.dill_bound.proofs.laws.waiting_is_for_somebody.Goals as goal
-
-pub returns : goal.returns
-returns g c = waiting_is_for_somebody g.B.Body.means

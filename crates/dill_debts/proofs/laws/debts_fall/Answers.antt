@@ -1,5 +1,0 @@
-use Rattle.dill_debts.proofs.Debting.{debts_fall}
-use Rattle.dill_debts.proofs.laws.debts_fall.Goals as goal
-
-pub returns : goal.returns
-returns g c = debts_fall g.B.Body.means g.met.B.Body.lawful g.met.B.PlainBody.plain

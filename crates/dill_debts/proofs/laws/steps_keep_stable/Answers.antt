@@ -1,5 +1,0 @@
-use Rattle.dill_debts.proofs.Rooting.{steps_keep_stable}
-use Rattle.dill_debts.proofs.laws.steps_keep_stable.Goals as goal
-
-pub returns : goal.returns
-returns g c = steps_keep_stable g.B.Body.means g.met.B.Body.lawful g.met.B.PlainBody.plain

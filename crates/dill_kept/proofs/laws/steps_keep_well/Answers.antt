@@ -1,5 +1,0 @@
-use Rattle.dill_kept.proofs.Keeping.{steps_keep_well}
-use Rattle.dill_kept.proofs.laws.steps_keep_well.Goals as goal
-
-pub returns : goal.returns
-returns g c = steps_keep_well g.B.Body.means g.met.B.Body.lawful g.met.B.PlainBody.plain

@@ -1,5 +1,0 @@
-use Rattle.dill_sound.proofs.Sound.{all_cancelled}
-use Rattle.dill_sound.proofs.laws.all_cancelled.Goals as goal
-
-pub returns : goal.returns
-returns g c = all_cancelled g.row.B.Denot

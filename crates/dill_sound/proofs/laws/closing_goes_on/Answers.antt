@@ -1,5 +1,0 @@
-use Rattle.dill_sound.proofs.Going.{closing_goes_on}
-use Rattle.dill_sound.proofs.laws.closing_goes_on.Goals as goal
-
-pub returns : goal.returns
-returns g c = closing_goes_on g.row.B.Denot

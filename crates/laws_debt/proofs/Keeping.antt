@@ -1,0 +1,297 @@
+-- Each step keeps what holds between steps.
+use Rattle.std.proofs.Common.{◌≡◌, ◌∙◌, inl, ◌-◌, ◌≤◌, ℕ, zero, suc, List, [], ◌∷◌, length, map, fold, Bool, true, false, Option, Some, refl, sym, ap, subst, arith}
+use Rattle.std.specs.List.{AllByRecursion, list_all}
+use Rattle.dill_calls.specs.declared.ran.LackPlace.{LackPlace}
+use Rattle.dill_calls.specs.declared.word.Word.{Word}
+use Rattle.dill_calls.specs.Program.{Program, IsLawful, Begins}
+use Rattle.dill_kernel.specs.declared.ready.Ready.{Ready}
+use Rattle.dill_scope.specs.declared.forest.Bundle.{Bundle}
+use Rattle.dill_scope.specs.Scopes as scopes
+use Rattle.dill_base.specs.Maps.{if_some}
+use Rattle.dill_plain.specs.Plain.{MakesPlain}
+use Rattle.dill_rules.specs.declared.coroutine.Coroutine.{Coroutine}
+use Rattle.dill_rules.specs.declared.coroutine.Mode.{Mode}
+use Rattle.dill_rules.specs.declared.coroutine.Mode.TheVariants as modes
+use Rattle.dill_rules.specs.World.{World, is_coroutine, coroutine_of, begin}
+use Rattle.dill_rules.specs.Expiring.{expire_one, passed}
+use Rattle.dill_rules.specs.Hearing.{heat_ready}
+use Rattle.dill_rules.specs.Settling.{settle_one, settle_within, settle}
+use Rattle.dill_rules.specs.State.{lined_mode, lined}
+use Rattle.dill_rules.specs.Turning.{as_running, resume, answer_given, go_on, turn}
+use Rattle.laws_queue.specs.Kept.{Kept, opening_kept, queued, turn_first, kept_turn, kept_expire_next, kept_late, kept_expired, kept_shut, kept_woke}
+use Rattle.laws_queue.specs.Laws.{MayTurn, KeepsWell}
+use Rattle.laws_queue.specs.Plain.{may_wait, waits_plainly}
+use Rattle.laws_queue.specs.Well.{Numbered, IsWell}
+use Rattle.laws_sound.specs.Laws.{KeepsOrder, is_resting, is_timed}
+use Rattle.laws_sound.specs.Order.{IsInOrder}
+use Rattle.laws_debt.specs.Closing.{IsStable}
+use Rattle.laws_debt.specs.Flags.{IsFlagged, HasFlags}
+use Rattle.laws_debt.specs.Laws.{KeepsStable}
+use Rattle.laws_debt.specs.Says.{SaysIn, Says, AllSay, IsProper}
+use Rattle.laws_queue.proofs.Lists.{join}
+use Rattle.laws_queue.proofs.Settles.{both}
+use Rattle.laws_queue.proofs.Turns.{root_closed}
+use Rattle.laws_debt.proofs.Entering.{start_only}
+use Rattle.laws_debt.proofs.Flagging.{all_picked, ranked_change}
+use Rattle.laws_debt.proofs.Lining.{lined_pending}
+use Rattle.laws_debt.proofs.Lists.{all_change, all_map, all_to, numbered_change, number_of}
+use Rattle.laws_debt.proofs.Settling.{Sits, AllSit, leads_sits, leads_numbered, settle_one_leads, settle_within_leads, settle_leads, pass_nothing, expire_leads}
+use Rattle.laws_debt.proofs.Shutting.{AllHold, Lasts, settle_one_shut, expire_one_shut, go_on_shut}
+use Rattle.laws_debt.proofs.Standing.{stands, IsStanding, leads_stand, leads_run, all_stand, all_running}
+use Rattle.laws_debt.proofs.Turning.{go_on_went, went_leads}
+use Rattle.laws_debt.proofs.Walking.{Leads}
+
+-- nobody is among the calm
+abbrev pub nobody_calm : ℕ → Bool
+nobody_calm who = false
+
+-- of a bundle nothing is asked
+abbrev pub AnyBundle : Bundle → Type 0
+AnyBundle x = Unit {0}
+
+pub any_lasts : Lasts AnyBundle 0
+any_lasts = record { owned = λ x owner a. tt; closed = λ x a. tt; made = λ last owner l. tt }
+
+all_any : (xs : List Bundle) → AllByRecursion AnyBundle xs
+all_any [] = tt
+all_any (x ∷ xs) = (tt, all_any xs)
+
+module _ {V : Type 0} (P : Bundle → Type 0) (low : ℕ) (lasts : Lasts P low) (p : Program V) where
+  within_holds : (k : ℕ) (w : World V) → AllSit p w.coroutines → Numbered 0 w.coroutines w.last_coroutine → AllHold P low w → AllHold P low (settle_within k w)
+  within_holds zero w a n h = h
+  within_holds (suc k) w a n h =
+      let one = settle_one_leads p nobody_calm (λ v. Unit {0}) (λ v who c i e f. cc) w tt a n in
+      within_holds k (settle_one w) (leads_sits p nobody_calm w (settle_one w) one a) (leads_numbered p nobody_calm w (settle_one w) one n) (settle_one_shut P low lasts p w a n h)
+
+module _ {V : Type 0} (p : Program V) where
+  -- a world in which nobody's program disagrees with what it waits for, handles are proper and nobody is running
+  pub record IsGood (w : World V) : Type 0 where
+    pub numbered : Numbered 0 w.coroutines w.last_coroutine
+    pub sits : AllSit p w.coroutines
+    pub stand : AllByRecursion IsStanding w.coroutines
+    pub holds : AllHold AnyBundle 0 w
+
+  pub settles : (w : World V) → AllSit p w.coroutines → Numbered 0 w.coroutines w.last_coroutine → Leads p nobody_calm w (settle w)
+  settles w a n = settle_leads p nobody_calm (λ v. Unit {0}) (λ v who c i e f. cc) (λ v i. tt) w tt a n
+
+  pub settle_holds : (P : Bundle → Type 0) (low : ℕ) (lasts : Lasts P low) (w : World V) → AllSit p w.coroutines → Numbered 0 w.coroutines w.last_coroutine → AllHold P low w → AllHold P low (settle w)
+  settle_holds P low lasts w a n h =
+      let done = settle_within (length w.coroutines) w in
+      let leads = settle_within_leads p nobody_calm (λ v. Unit {0}) (λ v who c i e f. cc) (λ v i. tt) (length w.coroutines) w tt a n in
+      let same : settle w ≡ done = pass_nothing p done (leads_sits p nobody_calm w done leads a) in
+      subst (AllHold P low) (sym same) (within_holds P low lasts p (length w.coroutines) w a n h)
+
+  pub good_settle : (w : World V) → IsGood w → IsGood (settle w)
+  good_settle w g =
+      let e = settles w g.sits g.numbered in
+      record {
+        numbered = leads_numbered p nobody_calm w (settle w) e g.numbered;
+        sits = leads_sits p nobody_calm w (settle w) e g.sits;
+        stand = leads_stand p nobody_calm w (settle w) e g.stand;
+        holds = settle_holds AnyBundle 0 any_lasts w g.sits g.numbered g.holds;
+      }
+
+  pub good_expire : (w : World V) (who : ℕ) → IsGood w → IsGood (expire_one w who)
+  good_expire w who g =
+      let e = expire_leads p nobody_calm w who g.sits (λ call i c. cc) in
+      record {
+        numbered = leads_numbered p nobody_calm w (expire_one w who) e g.numbered;
+        sits = leads_sits p nobody_calm w (expire_one w who) e g.sits;
+        stand = leads_stand p nobody_calm w (expire_one w who) e g.stand;
+        holds = expire_one_shut AnyBundle 0 any_lasts p w who g.sits g.holds;
+      }
+
+  all_sit : (cs : List (Coroutine V)) → list_all waits_plainly cs ≡ true → AllSay p cs → AllSit p cs
+  all_sit [] e a = tt
+  all_sit (c ∷ cs) e a = let h = both (waits_plainly c) (list_all waits_plainly cs) e in ((h.0, a.0), all_sit cs h.1 a.1)
+
+  resting_stands : (mode : Mode) → is_resting mode ≡ true → stands mode ≡ true
+  resting_stands (modes.Pending call) e = refl
+  resting_stands modes.Running e = cc
+  resting_stands (modes.Fresh word answer) e = cc
+  resting_stands (modes.Answered word answer) e = refl
+  resting_stands (modes.Ending outcome) e = refl
+
+  all_standing : (cs : List (Coroutine V)) → list_all (λ c. is_resting c.mode) cs ≡ true → AllByRecursion IsStanding cs
+  all_standing [] e = tt
+  all_standing (c ∷ cs) e = let h = both (is_resting c.mode) (list_all (λ d. is_resting d.mode) cs) e in (resting_stands c.mode h.0, all_standing cs h.1)
+
+  pub good_stable : (k : Kept V) → IsStable p k → IsGood k.world
+  good_stable k s = record {
+    numbered = s.well.numbered;
+    sits = all_sit k.world.coroutines s.well.plain.calls s.says;
+    stand = all_standing k.world.coroutines s.rest;
+    holds = record { given = omega arith; bundles = all_any k.world.scopes.bundles; things = s.things; flags = s.flags };
+  }
+
+  says_lined : (said : Word) (mode : Mode) → SaysIn said mode → SaysIn said (lined_mode mode)
+  says_lined said (modes.Pending call) s = s
+  says_lined said modes.Running s = tt
+  says_lined said (modes.Fresh word answer) s = s
+  says_lined said (modes.Answered word answer) s = s
+  says_lined said (modes.Ending outcome) s = tt
+
+  rests_lined : (c : Coroutine V) (mode : Mode) → c.mode ≡ mode → IsStanding c → is_resting (lined_mode c.mode) ≡ true
+  rests_lined c (modes.Pending call) e s = ap (λ m. is_resting (lined_mode m)) e
+  rests_lined c modes.Running e s = let it : false ≡ true = sym (ap (λ m. stands m) e) ∙ s in cc
+  rests_lined c (modes.Fresh word answer) e s = ap (λ m. is_resting (lined_mode m)) e
+  rests_lined c (modes.Answered word answer) e s = ap (λ m. is_resting (lined_mode m)) e
+  rests_lined c (modes.Ending outcome) e s = ap (λ m. is_resting (lined_mode m)) e
+
+  all_rest : (cs : List (Coroutine V)) → AllByRecursion IsStanding cs → list_all (λ c. is_resting c.mode) (map lined cs) ≡ true
+  all_rest [] a = refl
+  all_rest (c ∷ cs) a = join (is_resting (lined_mode c.mode)) (list_all (λ d. is_resting d.mode) (map lined cs)) (rests_lined c c.mode refl a.0) (all_rest cs a.1)
+
+  -- who was answered in a step is queued
+  pub stable_queued : (v : World V) (ready : List ℕ) (early : ℕ) → IsWell p (queued v ready early) → IsInOrder (queued v ready early).world → IsGood v → IsStable p (queued v ready early)
+  stable_queued v ready early well order g = record {
+    well = well;
+    order = order;
+    says = all_map (Says p) lined v.coroutines (λ c s. says_lined (p.said c.body) c.mode s) (all_to (Sits p) (Says p) v.coroutines (λ c s. s.1) g.sits);
+    things = g.holds.things;
+    rest = all_rest v.coroutines g.stand;
+    flags = record { ranked = g.holds.flags.ranked; flagged = g.holds.flags.flagged };
+  }
+
+module _ {V : Type 0} (p : Program V) where
+  numbered_lined : (cs : List (Coroutine V)) (low high : ℕ) → Numbered low cs high → Numbered low (map lined cs) high
+  numbered_lined [] low high h = h
+  numbered_lined (c ∷ cs) low high h = (h.0, numbered_lined cs c.number high h.1)
+
+  lined_sits : (c : Coroutine V) (mode : Mode) → c.mode ≡ mode → Sits p c → Sits p (lined c)
+  lined_sits c mode e s = (ap (λ o. if_some o true may_wait) (lined_pending c.mode) ∙ s.0, says_lined p (p.said c.body) c.mode s.1)
+
+  lined_stands : (mode : Mode) → stands mode ≡ true → stands (lined_mode mode) ≡ true
+  lined_stands (modes.Pending call) e = refl
+  lined_stands modes.Running e = cc
+  lined_stands (modes.Fresh word answer) e = refl
+  lined_stands (modes.Answered word answer) e = refl
+  lined_stands (modes.Ending outcome) e = refl
+
+  -- a place in the queue keeps a world good
+  pub good_queued : (v : World V) (ready : List ℕ) (early : ℕ) → IsGood p v → IsGood p (queued v ready early).world
+  good_queued v ready early g = record {
+    numbered = numbered_lined v.coroutines 0 v.last_coroutine g.numbered;
+    sits = all_map (Sits p) lined v.coroutines (λ c s. lined_sits c c.mode refl s) g.sits;
+    stand = all_map IsStanding lined v.coroutines (λ c s. lined_stands c.mode s) g.stand;
+    holds = record { given = g.holds.given; bundles = g.holds.bundles; things = g.holds.things; flags = record { ranked = g.holds.flags.ranked; flagged = g.holds.flags.flagged } };
+  }
+
+-- the turn of the first of the queue
+module _ {V : Type 0} (p : Program V) (law : IsLawful p) (plainly : MakesPlain p) where
+  pub sits_resumed : (w : World V) (who : ℕ) (view : V) (c : Coroutine V) → coroutine_of w who ≡ Some c → AllSit p w.coroutines → AllSit p (resume w who view).coroutines
+  sits_resumed w who view c e a = all_change (Sits p) (is_coroutine who) (as_running view) c w.coroutines e (refl, tt) a
+
+  -- the world in which it has made its call, or is ending
+  pub good_moved : (lack : Option LackPlace) (w : World V) (who : ℕ) → MayTurn p w who → (one : Coroutine V) → coroutine_of w who ≡ Some one → 1 ≤ p.left one.body → p.real one.body ≡ true → IsGood p w → IsGood p (go_on p lack (begin w) who one.body)
+  good_moved lack w who may one found some real g =
+      let b = begin w in
+      let answer = (answer_given b who).1 in
+      let moved = go_on p lack b who one.body in
+      let went = go_on_went p law nobody_calm lack b who one plainly some (record { found = found; real = real; cancelled = λ e. cc; born = λ e. refl; things = g.holds.things }) in
+      let from = went_leads p law nobody_calm b who one answer moved found went in
+      let view = from.0 in
+      let before = resume b who view in
+      let sits = sits_resumed b who view one found g.sits in
+      let numbered = numbered_change (is_coroutine who) (as_running view) w.coroutines 0 w.last_coroutine (λ d. refl) g.numbered in
+      let numbered_then = leads_numbered p nobody_calm before moved from.1 numbered in
+      let runs = leads_run p nobody_calm who before moved from.1 (all_running who view w.coroutines g.stand) in
+      record {
+        numbered = numbered_then;
+        sits = leads_sits p nobody_calm before moved from.1 sits;
+        stand = all_stand who moved.coroutines 0 moved.last_coroutine from.2.one numbered_then runs from.2.found from.2.there;
+        holds = go_on_shut AnyBundle 0 any_lasts p lack b who one.body (plainly one.body answer real some) (record { given = omega arith; bundles = g.holds.bundles; things = g.holds.things; flags = record { ranked = g.holds.flags.ranked; flagged = g.holds.flags.flagged } });
+      }
+
+  pub turn_is : (lack : Option LackPlace) (w : World V) (who : ℕ) (c : Coroutine V) → coroutine_of w who ≡ Some c → turn p lack w who ≡ settle (go_on p lack (begin w) who c.body)
+  turn_is lack w who c e = ap (λ o. if_some o w (λ d. settle (go_on p lack (begin w) who d.body))) e
+
+  pub good_turn : (lack : Option LackPlace) (w : World V) (who : ℕ) → MayTurn p w who → IsGood p w → IsGood p (turn p lack w who)
+  good_turn lack w who may g =
+      subst (IsGood p) (sym (turn_is lack w who may.one may.found)) (good_settle p (go_on p lack (begin w) who may.one.body) (good_moved lack w who may may.one may.found may.some may.real g))
+
+module _ {V : Type 0} where
+  heated : (ready : List Ready) (w : World V) → ((fold heat_ready w ready).coroutines ≡ w.coroutines) × ((fold heat_ready w ready).handles.entries ≡ w.handles.entries)
+  heated [] w = (refl, refl)
+  heated (x ∷ xs) w = let r = heated xs (heat_ready w x) in (r.0, r.1)
+
+  pub root_flags : (w : World V) → HasFlags w → HasFlags (root_closed w)
+  root_flags w f = record {
+    ranked = ranked_change (scopes.is_bundle 0) scopes.as_closing w.scopes.bundles 0 w.last_bundle (λ x. refl) f.ranked;
+    flagged = all_picked (IsFlagged w.closings) (IsFlagged w.closings) (scopes.is_bundle 0) scopes.as_closing w.scopes.bundles (λ x i a e. inl (number_of x.name 0 i)) (λ x a. a) f.flagged;
+  }
+
+  heat_flags : (ready : List Ready) (w : World V) → HasFlags w → HasFlags (fold heat_ready w ready)
+  heat_flags [] w f = f
+  heat_flags (x ∷ xs) w f = heat_flags xs (heat_ready w x) (record { ranked = f.ranked; flagged = f.flagged })
+
+module _ {V : Type 0} (p : Program V) (law : IsLawful p) (plainly : MakesPlain p) (keeps : KeepsWell p) (ordered : KeepsOrder p) where
+  opening : (view : V) → Begins p view → IsStable p (opening_kept view)
+  opening view b = record {
+    well = keeps.opening view b;
+    order = ordered.opening view;
+    says = (start_only (p.said view) b.start, tt);
+    things = tt;
+    rest = refl;
+    flags = record { ranked = (omega arith, omega arith); flagged = (λ e. cc, tt) };
+  }
+
+  turned : (k : Kept V) (lack : Option LackPlace) → IsStable p k → IsStable p (kept_turn p lack k)
+  turned k lack s = at k.ready refl
+    where
+      at : (ready : List ℕ) → k.ready ≡ ready → IsStable p (turn_first p lack k ready)
+      at [] e = s
+      at (who ∷ rest) e =
+          let may = keeps.first k who rest s.well e in
+          let is : kept_turn p lack k ≡ turn_first p lack k (who ∷ rest) = ap (turn_first p lack k) e in
+          stable_queued p (turn p lack k.world who) rest (k.early - 1) (subst (IsWell p) is (keeps.turned k lack s.well)) (subst (λ (l : Kept V). IsInOrder l.world) is (ordered.turned k lack s.well s.order)) (good_turn p law plainly lack k.world who may (good_stable p k s))
+
+  started : (k : Kept V) → IsStable p k → IsStable p (record k { world = begin k.world })
+  started k s = record { well = keeps.started k s.well; order = ordered.started k s.order; says = s.says; things = s.things; rest = s.rest; flags = record { ranked = s.flags.ranked; flagged = s.flags.flagged } }
+
+  expires : (k : Kept V) (who : ℕ) → IsStable p k → is_timed k.world who ≡ true → IsStable p (kept_expire_next k who)
+  expires k who s e = stable_queued p (expire_one k.world who) k.ready k.early (keeps.expires k who s.well) (ordered.expires k who s.well s.order e) (good_expire p k.world who (good_stable p k s))
+
+  good_late : (xs : List ℕ) (k : Kept V) → IsGood p k.world → IsGood p (fold kept_expire_next k xs).world
+  good_late [] k g = g
+  good_late (x ∷ xs) k g = good_late xs (kept_expire_next k x) (good_queued p (expire_one k.world x) k.ready k.early (good_expire p k.world x g))
+
+  expired : (k : Kept V) → IsStable p k → IsStable p (kept_expired k)
+  expired k s =
+      let g = good_stable p k s in
+      let begun : IsGood p (begin k.world) = record { numbered = g.numbered; sits = g.sits; stand = g.stand; holds = record { given = omega arith; bundles = g.holds.bundles; things = g.holds.things; flags = record { ranked = g.holds.flags.ranked; flagged = g.holds.flags.flagged } } } in
+      let late = good_late (passed k.world) (record k { world = begin k.world }) begun in
+      stable_queued p (settle (kept_late k).world) (kept_late k).ready (kept_late k).early (keeps.expired k s.well) (ordered.expired k s.well s.order) (good_settle p (kept_late k).world late)
+
+  settled : (k : Kept V) → IsStable p k → IsStable p (queued (settle k.world) k.ready k.early)
+  settled k s = stable_queued p (settle k.world) k.ready k.early (keeps.settled k s.well) (ordered.settled k s.well s.order) (good_settle p k.world (good_stable p k s))
+
+  pub good_closed : (w : World V) → IsGood p w → IsGood p (root_closed w)
+  good_closed w g = record { numbered = g.numbered; sits = g.sits; stand = g.stand; holds = record { given = omega arith; bundles = all_any (root_closed w).scopes.bundles; things = g.holds.things; flags = root_flags w g.holds.flags } }
+
+  shut : (k : Kept V) → IsStable p k → IsStable p (kept_shut k)
+  shut k s = stable_queued p (settle (root_closed k.world)) k.ready (length k.ready) (keeps.shut k s.well) (ordered.shut k s.well s.order) (good_settle p (root_closed k.world) (good_closed k.world (good_stable p k s)))
+
+  woke : (k : Kept V) (told : ℕ) (ready : List Ready) → IsStable p k → IsStable p (kept_woke k told ready)
+  woke k told ready s =
+      let h = heated ready (begin k.world) in
+      record {
+        well = keeps.woke k told ready s.well;
+        order = ordered.woke k told ready s.order;
+        says = subst (AllSay p) (sym h.0) s.says;
+        things = subst (AllByRecursion IsProper) (sym h.1) s.things;
+        rest = subst (λ cs. list_all (λ c. is_resting c.mode) cs ≡ true) (sym h.0) s.rest;
+        flags = let f = heat_flags ready (begin k.world) (record { ranked = s.flags.ranked; flagged = s.flags.flagged }) in record { ranked = f.ranked; flagged = f.flagged };
+      }
+
+  pub keeps_stable : KeepsStable p
+  keeps_stable = record {
+    opening = opening;
+    turned = turned;
+    started = started;
+    expires = expires;
+    settled = settled;
+    expired = expired;
+    shut = shut;
+    woke = woke;
+  }

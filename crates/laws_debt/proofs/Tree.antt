@@ -1,0 +1,293 @@
+-- The worlds of a step in which a bundle is closing: who is inside it stays the same, but for who is gone, and is cancelled.
+use Rattle.std.proofs.Common.{◌≡◌, ◌∙◌, ◌⊎◌, inl, inr, ◌+◌, ◌≤◌, ◌==◌, ℕ, zero, suc, List, [], ◌∷◌, length, map, fold, filter, reverse, find, Bool, true, false, ◌&&◌, Option, Some, None, option_map, is_some, nat_le, if◌then◌else◌, refl, sym, ap, subst, arith}
+use Rattle.std.specs.Prelude.{option_and_then}
+use Rattle.std.specs.List.{AllByRecursion}
+use Rattle.dill_calls.specs.declared.answer.Answer.{Answer}
+use Rattle.dill_calls.specs.declared.answer.Answer.TheVariants.{Fault}
+use Rattle.dill_calls.specs.declared.call.Call.{Call}
+use Rattle.dill_calls.specs.declared.call.Call.TheVariants as calls
+use Rattle.dill_calls.specs.declared.ran.LackPlace.{LackPlace}
+use Rattle.dill_calls.specs.declared.ran.Note.TheVariants.{Freed}
+use Rattle.dill_calls.specs.CallTable.{word_of, build_takes_memory}
+use Rattle.dill_calls.specs.Program.{Program, Move, Calls, Ends}
+use Rattle.dill_handles.specs.Handles as handles
+use Rattle.dill_handles.specs.declared.entry.Entry.{Entry}
+use Rattle.dill_scope.specs.declared.forest.Bundle.{Bundle}
+use Rattle.dill_scope.specs.declared.forest.Home.{Home}
+use Rattle.dill_scope.specs.Scopes as scopes
+use Rattle.dill_scope.specs.Scopes.{Scopes, is_bundle, home_of, owner_of, is_inside}
+use Rattle.dill_scope.specs.Forest.{Inside, lives, under, Rooted, at_root, below, IsForest}
+use Rattle.dill_scope.specs.Keeping.{IsThere}
+use Rattle.dill_scope.proofs.Carrying.{parent_told}
+use Rattle.dill_scope.proofs.Chains.{search_is_inside}
+use Rattle.dill_scope.proofs.Numbered.{none_below}
+use Rattle.dill_base.specs.Maps.{if_some, first_some}
+use Rattle.dill_plain.specs.Plain.{MovesPlain}
+use Rattle.dill_rules.specs.declared.coroutine.Closing.{Closing}
+use Rattle.dill_rules.specs.declared.coroutine.Coroutine.{Coroutine}
+use Rattle.dill_rules.specs.declared.thing.Thing.{Thing}
+use Rattle.dill_rules.specs.declared.thing.Thing.TheVariants as things
+use Rattle.dill_rules.specs.World.{World, coroutine_of, reply, note}
+use Rattle.dill_rules.specs.Entering.{entered, lack_fault}
+use Rattle.dill_rules.specs.Giving.{give}
+use Rattle.dill_rules.specs.Owning.{entry_of, drop, release, free_bundle, is_dead_as}
+use Rattle.dill_rules.specs.Taking.{bundle_of, is_cancelled}
+use Rattle.dill_rules.specs.Settling.{can_finish, end, highest_first, is_owned_by, free_all, release_all, finish, answer_due, give_first, settle_one, settle_within, settle}
+use Rattle.dill_rules.specs.Turning.{is_build, is_entry, may_lack_build, resume, answer_given, move_of, make_move, lack_move, go_on}
+use Rattle.laws_queue.specs.Plain.{may_wait, IsPlain}
+use Rattle.laws_queue.specs.Well.{Numbered, bit, occurs}
+use Rattle.laws_queue.proofs.Lists.{all_found}
+use Rattle.laws_queue.proofs.Settles.{both}
+use Rattle.laws_queue.proofs.Steps.{settle_one_plain}
+use Rattle.laws_sound.specs.Laws.{is_closing}
+use Rattle.laws_sound.specs.Order.{is_there, is_held, has_bundle, IsInOrder}
+use Rattle.laws_sound.proofs.Counting.{holds, weigh_filter, weighs_found}
+use Rattle.laws_sound.proofs.Fitting.{next_is_new, there_is}
+use Rattle.laws_sound.proofs.Keeping.{order_settle_one}
+use Rattle.laws_sound.proofs.Owners.{owned_no_root}
+use Rattle.laws_sound.proofs.Sound.{owner_is, inside_cancelled}
+use Rattle.laws_debt.specs.Flags.{IsFlagged, HasFlags}
+use Rattle.laws_debt.proofs.Ending.{IsShutAs, shut_lasts}
+use Rattle.laws_queue.proofs.Turns.{entered_plain}
+use Rattle.laws_debt.proofs.Flagging.{closed_names}
+use Rattle.laws_debt.proofs.Holding.{Facts, tracks_drop, tracks_ended, enter_tracks, end_tracks}
+use Rattle.laws_debt.proofs.Lists as lists
+use Rattle.laws_debt.proofs.Lists.{equal_number, number_of, all_to}
+use Rattle.laws_debt.proofs.Settling.{AllSit, leads_sits, settle_one_leads, settle_leads, pass_nothing, due_first, pending_runs}
+use Rattle.laws_debt.proofs.Shutting.{AllHold, settle_one_shut}
+use Rattle.laws_debt.proofs.Tracking.{Tracks, inside_same}
+use Rattle.laws_debt.proofs.Walking.{Leads}
+
+-- ---- what is known of a world in order
+
+-- each of a list is found by its key, where no key stands twice
+module _ {X : Type 0} (key : X → ℕ) where
+  counted : (y : X) (xs : List X) → find (λ z. key z == key y) xs ≡ Some y → 1 ≤ occurs (key y) (map key xs)
+  counted y [] e = cc
+  counted y (x ∷ xs) e = at (key x == key y) e (counted y xs)
+    where
+      at : (c : Bool) → (if c then Some x else find (λ z. key z == key y) xs) ≡ Some y → (find (λ z. key z == key y) xs ≡ Some y → 1 ≤ occurs (key y) (map key xs)) → 1 ≤ bit c + occurs (key y) (map key xs)
+      at true f r = omega arith
+      at false f r = let s = r f in omega (arith, s)
+
+  pub all_once : (xs : List X) → ((n : ℕ) → occurs n (map key xs) ≤ 1) → AllByRecursion (λ y. find (λ z. key z == key y) xs ≡ Some y) xs
+  all_once [] h = tt
+  all_once (x ∷ xs) h = (
+    rw (equal_number (key x) (key x) refl) refl,
+    all_to (λ y. find (λ z. key z == key y) xs ≡ Some y) (λ y. find (λ z. key z == key y) (x ∷ xs) ≡ Some y) xs (λ y e. later y e) (all_once xs (λ n. let m = h n in omega (arith, m))),
+  )
+    where
+      pick : (y : X) (c : Bool) → (key x == key y) ≡ c → 1 ≤ occurs (key y) (map key xs) → c ≡ false
+      pick y true i o = absurd (let m = h (key y) in let one : bit (key x == key y) ≡ 1 = ap bit i in omega (arith, m, one, o))
+      pick y false i o = refl
+
+      later : (y : X) → find (λ z. key z == key y) xs ≡ Some y → find (λ z. key z == key y) (x ∷ xs) ≡ Some y
+      later y e = rw (pick y (key x == key y) refl (counted y xs e)) e
+
+-- a bundle that is closing is there
+pub closing_found : (s : Scopes) (name : ℕ) → is_closing s name ≡ true → (x : Bundle) × (find (is_bundle name) s.bundles ≡ Some x) × (x.closing ≡ true)
+closing_found s name e = at (find (is_bundle name) s.bundles) refl e
+  where
+    at : (o : Option Bundle) → find (is_bundle name) s.bundles ≡ o → if_some o false (λ x. x.closing) ≡ true → (x : Bundle) × (find (is_bundle name) s.bundles ≡ Some x) × (x.closing ≡ true)
+    at None f g = cc
+    at (Some x) f g = (x, f, g)
+
+bit_small : (c : Bool) → bit c ≤ 1
+bit_small true = omega arith
+bit_small false = omega arith
+
+module _ {V : Type 0} where
+  held_owned : (w : World V) → IsInOrder w → (n : ℕ) (x : Entry Thing) (name : ℕ) → entry_of w n ≡ Some x → bundle_of x.thing ≡ Some name → owner_of w.scopes name ≡ Some x.owner
+  held_owned w o n x name e f =
+      let held = all_found (is_held w) (handles.is_entry n) w.handles.entries x o.fits.held e in
+      let part = both (is_there w x.owner) (if_some (bundle_of x.thing) true (has_bundle w x.owner)) held in
+      let has : has_bundle w x.owner name ≡ true = sym (ap (λ q. if_some q true (has_bundle w x.owner)) f) ∙ part.1 in
+      owner_is (owner_of w.scopes name) x.owner has
+
+  once_used : (w : World V) → IsInOrder w → (n : ℕ) → occurs n (map (λ x. x.number) w.handles.entries) ≤ 1
+  once_used w o n =
+      let u = o.fits.numbers n in
+      let s = bit_small (nat_le n w.handles.last) in
+      omega (arith, u, s)
+
+  -- no live number names a bundle that is closing
+  closing_dead : (w : World V) (b : ℕ) → IsInOrder w → HasFlags w → is_closing w.scopes b ≡ true → (n : ℕ) (x : Entry Thing) → entry_of w n ≡ Some x → bundle_of x.thing ≡ Some b → ⊥
+  closing_dead w b o flags c n x e f =
+      let y = closing_found w.scopes b c in
+      let flagged = lists.all_found (IsFlagged w.closings) (is_bundle b) y.0 w.scopes.bundles y.1 flags.flagged y.2 in
+      let name : y.0.name ≡ b = number_of y.0.name b (lists.found_passes (is_bundle b) w.scopes.bundles y.0 y.1) in
+      let owned = held_owned w o n x b e f in
+      at name flagged owned
+    where
+      at : {m : ℕ} → m ≡ b → (m ≡ 0) ⊎ (1 ≤ occurs m (closed_names w.closings)) → owner_of w.scopes b ≡ Some x.owner → ⊥
+      at i (inl z) owned = owned_no_root w.scopes b x.owner o.fits.forest owned (sym i ∙ z)
+      at i (inr z) owned =
+          let there : holds (bundle_of x.thing) b ≡ true = ap (λ q. holds q b) f ∙ equal_number b b refl in
+          let live = weighs_found (handles.is_entry n) (λ (y : Entry Thing). holds (bundle_of y.thing) b) w.handles.entries x e there in
+          let same = weigh_filter (λ (y : Entry Thing). bundle_of y.thing) b w.handles.entries in
+          let noted = subst (λ k. 1 ≤ occurs k (closed_names w.closings)) i z in
+          let names = o.fits.names b in
+          let small = bit_small (is_some (owner_of w.scopes b)) in
+          omega (arith, live, same, noted, names, small)
+
+  pub facts_of : (w : World V) (b : ℕ) → IsInOrder w → HasFlags w → is_closing w.scopes b ≡ true → Facts w b
+  facts_of w b o flags c = record {
+    off = λ n i. inside_cancelled w.scopes b n o.fits.forest.forest c i;
+    owned = held_owned w o;
+    each = all_once (λ (x : Entry Thing). x.number) w.handles.entries (once_used w o);
+    dead = closing_dead w b o flags c;
+    known = let y = closing_found w.scopes b c in ap (λ (q : Option Bundle). is_some q) y.1;
+    new_bundle = none_below (λ (y : Bundle). y.name) (w.last_bundle + 1) w.scopes.bundles o.fits.bundles;
+    new_home = ap (option_map (λ (x : Home). x.bundle)) (none_below (λ (x : Home). x.who) (w.last_coroutine + 1) w.scopes.homes (next_is_new w o.fits));
+  }
+
+-- ---- going on
+
+module _ {V : Type 0} (p : Program V) where
+  facts_resumed : (w : World V) (who : ℕ) (view : V) (b : ℕ) → Facts w b → Facts (resume w who view) b
+  facts_resumed w who view b f = record { off = f.off; owned = f.owned; each = f.each; dead = f.dead; known = f.known; new_bundle = f.new_bundle; new_home = f.new_home }
+
+  from_move : (lack : Option LackPlace) (w : World V) (who : ℕ) (b : ℕ) (short : V) (next : V × Move) → Facts w b → Tracks w.scopes b w.scopes → MovesPlain next → Tracks w.scopes b (if is_build lack && may_lack_build next.1 then lack_move (resume w who short) who next.1 else make_move p (is_entry lack) (resume w who next.0) who next.0 next.1).scopes
+  from_move lack w who b short (new, Calls call) f h plain = at (is_build lack && build_takes_memory (word_of call))
+    where
+      at : (c : Bool) → Tracks w.scopes b (if c then reply (resume w who short) who (word_of call) (Fault (lack_fault (resume w who short) who (word_of call))) else make_move p (is_entry lack) (resume w who new) who new (Calls call)).scopes
+      at true = h
+      at false = enter_tracks p (resume w who new) b (facts_resumed w who new b f) (is_entry lack) who new (entered w.moment call) (entered_plain w.moment call plain) h
+  from_move lack w who b short (new, Ends outcome) f h plain = at (is_build lack)
+    where
+      over : Tracks w.scopes b (end (resume w who new) who outcome).scopes
+      over = end_tracks p (resume w who new) b (facts_resumed w who new b f) who outcome h
+
+      at : (c : Bool) → Tracks w.scopes b (if c && false then resume w who short else make_move p (is_entry lack) (resume w who new) who new (Ends outcome)).scopes
+      at true = over
+      at false = over
+
+  pub go_on_tracks : (lack : Option LackPlace) (w : World V) (who : ℕ) (view : V) (b : ℕ) → Facts w b → Tracks w.scopes b w.scopes → MovesPlain (move_of p w who view) → Tracks w.scopes b (go_on p lack w who view).scopes
+  go_on_tracks lack w who view b f h plain = from_move lack w who b (p.short view (answer_given w who).1) (move_of p w who view) f h plain
+
+-- ---- settling
+
+module _ {V : Type 0} where
+  pub drop_same : (v : World V) (thing : Thing) → (drop v thing).scopes ≡ v.scopes
+  drop_same v (things.Bundle name) = refl
+  drop_same v (things.End end) = refl
+  drop_same v (things.Listener link) = refl
+  drop_same v (things.Socket link) = refl
+  drop_same v (things.Value kind value) = refl
+
+-- what holds of scopes and stays so as bundles and coroutines are gone
+module _ {V : Type 0} (Q : Scopes → Type 0) (dropped : (t : Scopes) (name : ℕ) → Q t → Q (scopes.drop_bundle t name)) (gone : (t : Scopes) (who : ℕ) → Q t → Q (scopes.ended t who)) where
+  abbrev QTo : World V → Type 0
+  QTo v = Q v.scopes
+
+  release_tracks : (v : World V) (number : ℕ) → QTo v → QTo (release v number)
+  release_tracks v number h = at (entry_of v number)
+    where
+      at : (o : Option (Entry Thing)) → QTo (if_some o v (λ x. note (drop (record v { handles = handles.retire v.handles number }) x.thing) (Freed number)))
+      at None = h
+      at (Some x) = subst Q (sym (drop_same (record v { handles = handles.retire v.handles number }) x.thing)) h
+
+  fold_tracks : {A : Type 0} (f : World V → A → World V) (xs : List A) (v : World V) → ((u : World V) (a : A) → QTo u → QTo (f u a)) → QTo v → QTo (fold f v xs)
+  fold_tracks f [] v k h = h
+  fold_tracks f (x ∷ xs) v k h = fold_tracks f xs (f v x) k (k v x h)
+
+  finish_tracks : (v : World V) (c : Coroutine V) → QTo v → QTo (finish v c)
+  finish_tracks v c h =
+      let freed = fold_tracks free_bundle (highest_first (filter (is_owned_by v c.number) v.closings)) v (λ u x e. dropped u.scopes x.bundle e) h in
+      let bare = fold_tracks release (reverse (handles.numbers_of (free_all v c.number).handles c.number)) (free_all v c.number) (λ u n e. release_tracks u n e) freed in
+      gone (release_all (free_all v c.number) c.number).scopes c.number bare
+
+  give_tracks : (v : World V) (who : ℕ) (call : Call) (answer : Answer) → may_wait call ≡ true → QTo v → QTo (give v who call answer)
+  give_tracks v who (calls.Msleep deadline) answer e h = h
+  give_tracks v who (calls.BundleWait number deadline) answer e h = h
+  give_tracks v who (calls.Hclose number) answer e h = at (find (is_dead_as number) v.closings)
+    where
+      at : (o : Option Closing) → QTo (if_some o v (free_bundle v))
+      at None = h
+      at (Some x) = dropped v.scopes x.bundle h
+  give_tracks v who _ answer e h = cc
+
+  pub settle_one_tracks : (p : Program V) (v : World V) → AllSit p v.coroutines → Numbered 0 v.coroutines v.last_coroutine → QTo v → QTo (settle_one v)
+  settle_one_tracks p v a n h = at (find (can_finish v) v.coroutines)
+    where
+      given : (o : Option (ℕ × Call × Answer)) → first_some (answer_due v) v.coroutines ≡ o → QTo (if_some o v (λ x. give v x.0 x.1 x.2))
+      given None e = h
+      given (Some x) e =
+          let d = (due_first v 0 v.last_coroutine v.coroutines x n e).1 in
+          let r = pending_runs p v x.0 x.1 a (record { one = d.one; found = d.found; pends = d.call }) in
+          give_tracks v x.0 x.1 x.2 r.1 h
+
+      at : (o : Option (Coroutine V)) → QTo (if_some o (give_first v) (finish v))
+      at None = given (first_some (answer_due v) v.coroutines) refl
+      at (Some c) = finish_tracks v c h
+
+-- ---- the worlds of a step
+
+-- Somebody is there and inside a bundle. Then the bundle is there.
+holds_home : {V : Type 0} (w : World V) (b n : ℕ) → IsInOrder w → Inside w.scopes b n → is_some (find (is_bundle b) w.scopes.bundles) ≡ true
+holds_home w b n o (lives e) = at (o.fits.forest.forest.rooted n b e)
+  where
+    some_bundle : (q : Option Bundle) (owner : ℕ) → option_and_then (λ (y : Bundle). y.owner) q ≡ Some owner → is_some q ≡ true
+    some_bundle None owner f = cc
+    some_bundle (Some y) owner f = refl
+
+    at : Rooted w.scopes n → is_some (find (is_bundle b) w.scopes.bundles) ≡ true
+    at (at_root f) = let same : b ≡ 0 = lists.some_same b 0 (sym e ∙ f) in subst (λ k. is_some (find (is_bundle k) w.scopes.bundles) ≡ true) (sym same) o.fits.forest.ordered.root
+    at (below up f r) =
+        let p = parent_told w.scopes n up f in
+        let same : p.home ≡ b = lists.some_same p.home b (sym p.lives_in ∙ e) in
+        some_bundle (find (is_bundle b) w.scopes.bundles) up (subst (λ k. owner_of w.scopes k ≡ Some up) same p.owned)
+holds_home w b n o (under above e i) = holds_home w b above o i
+
+some_closing : (q : Option Bundle) → is_some q ≡ true → ((x : Bundle) → q ≡ Some x → x.closing ≡ true) → if_some q false (λ x. x.closing) ≡ true
+some_closing None e h = cc
+some_closing (Some x) e h = h x refl
+
+module _ {V : Type 0} (p : Program V) (s : Scopes) (b : ℕ) (forest : IsForest s) where
+  -- who is inside the bundle, before the step
+  abbrev pub in_tree : ℕ → Bool
+  in_tree n = is_inside s b n
+
+  pub record InTree (w : World V) : Type 0 where
+    pub plain : IsPlain w
+    pub order : IsInOrder w
+    pub sits : AllSit p w.coroutines
+    pub holds : AllHold (IsShutAs b) b w
+    pub tracks : Tracks s b w.scopes
+
+  -- the same are inside
+  pub tree_same : (w : World V) (n : ℕ) → IsInOrder w → Tracks s b w.scopes → IsThere w.scopes n → is_inside w.scopes b n ≡ in_tree n
+  tree_same w n o t there = inside_same s b w.scopes t forest o.fits.forest n there
+
+  -- and cancelled
+  pub tree_off : (w : World V) (who : ℕ) (c : Coroutine V) → InTree w → coroutine_of w who ≡ Some c → in_tree who ≡ true → is_cancelled w who ≡ true
+  tree_off w who c i e t =
+      let there = there_is w who i.order.fits (ap (λ (q : Option (Coroutine V)). is_some q) e) in
+      let inside = (search_is_inside w.scopes b who i.order.fits.forest.forest).0 (tree_same w who i.order i.tracks there ∙ t) in
+      let closing = some_closing (find (is_bundle b) w.scopes.bundles) (holds_home w b who i.order inside) (λ x f. lists.all_found (IsShutAs b) (is_bundle b) x w.scopes.bundles f i.holds.bundles (lists.found_passes (is_bundle b) w.scopes.bundles x f)) in
+      inside_cancelled w.scopes b who i.order.fits.forest.forest closing inside
+
+  one_leads : (w : World V) → InTree w → Leads p in_tree w (settle_one w)
+  one_leads w i = settle_one_leads p in_tree InTree tree_off w i i.sits i.order.fits.numbered
+
+  tree_settles : (w : World V) → InTree w → InTree (settle_one w)
+  tree_settles w i = record {
+    plain = settle_one_plain w i.plain;
+    order = order_settle_one w i.plain i.order;
+    sits = leads_sits p in_tree w (settle_one w) (one_leads w i) i.sits;
+    holds = settle_one_shut (IsShutAs b) b (shut_lasts b) p w i.sits i.order.fits.numbered i.holds;
+    tracks = settle_one_tracks (Tracks s b) (λ t name h. tracks_drop s b t name h) (λ t who h. tracks_ended s b t who h) p w i.sits i.order.fits.numbered i.tracks;
+  }
+
+  pub tree_leads : (w : World V) → InTree w → Leads p in_tree w (settle w)
+  tree_leads w i = settle_leads p in_tree InTree tree_off tree_settles w i i.sits i.order.fits.numbered
+
+  within_tree : (k : ℕ) (w : World V) → InTree w → InTree (settle_within k w)
+  within_tree zero w i = i
+  within_tree (suc k) w i = within_tree k (settle_one w) (tree_settles w i)
+
+  pub settled_tree : (w : World V) → InTree w → InTree (settle w)
+  settled_tree w i =
+      let done = settle_within (length w.coroutines) w in
+      let there = within_tree (length w.coroutines) w i in
+      subst InTree (sym (pass_nothing p done there.sits)) there

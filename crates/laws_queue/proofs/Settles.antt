@@ -1,0 +1,76 @@
+-- What settling and expiring do without looking at random numbers, in a plain world.
+use Rattle.std.proofs.Common.{◌≡◌, ◌∙◌, ◌==◌, ℕ, List, [], ◌∷◌, filter, reverse, find, Bool, true, false, ◌&&◌, Option, Some, None, refl, ap}
+use Rattle.std.specs.List.{list_all}
+use Rattle.std.specs.Option.{option_or}
+use Rattle.dill_calls.specs.declared.answer.Answer.{Answer}
+use Rattle.dill_calls.specs.declared.call.Call.{Call}
+use Rattle.dill_calls.specs.declared.call.Call.TheVariants as calls
+use Rattle.dill_calls.specs.declared.word.Word.TheVariants as words
+use Rattle.rand_core.specs.Stream.{Stream}
+use Rattle.dill_handles.specs.Handles as handles
+use Rattle.dill_handles.specs.declared.entry.Entry.{Entry}
+use Rattle.dill_base.specs.Maps.{if_some, first_some}
+use Rattle.dill_rules.specs.declared.coroutine.Coroutine.{Coroutine}
+use Rattle.dill_rules.specs.declared.thing.Thing.{Thing}
+use Rattle.dill_rules.specs.World.{World, reply, pending_call, from_start}
+use Rattle.dill_rules.specs.Owning.{free_bundle, release, close_bundle, is_dead_as}
+use Rattle.dill_rules.specs.Taking.{bundle_of}
+use Rattle.dill_rules.specs.Answers.{answer_of}
+use Rattle.dill_rules.specs.Giving.{give}
+use Rattle.dill_rules.specs.Settling.{close_owned, close_all, highest_first, is_owned_by, free_all, release_all, outcome_of, leave, finish, answer_due}
+use Rattle.laws_queue.specs.Plain.{lent, may_wait, waits_plainly}
+use Rattle.laws_queue.proofs.Blind.{some_blind, if_blind, fold_blind, release_blind}
+
+pub both : (a b : Bool) → (a && b) ≡ true → (a ≡ true) × (b ≡ true)
+both true true e = (refl, refl)
+both true false e = cc
+both false b e = cc
+
+module _ {V : Type 0} where
+  pub answer_blind : (u : Stream) (w : World V) (who : ℕ) (call : Call) → may_wait call ≡ true → answer_of ((lent u) w) who call ≡ answer_of w who call
+  answer_blind u w who (calls.Msleep deadline) e = refl
+  answer_blind u w who (calls.Hclose number) e = refl
+  answer_blind u w who (calls.BundleWait number deadline) e = refl
+  answer_blind u w who _ e = cc
+
+  due_blind : (u : Stream) (w : World V) (n : ℕ) (o : Option Call) → if_some o true may_wait ≡ true → ◌≡◌ {A = Option (ℕ × Call × Answer)} (if_some o None (λ call. if_some (answer_of ((lent u) w) n call) None (λ a. Some (n, call, a)))) (if_some o None (λ call. if_some (answer_of w n call) None (λ a. Some (n, call, a))))
+  due_blind u w n None e = refl
+  due_blind u w n (Some call) e = ap (λ r. if_some r None (λ a. Some (n, call, a))) ((answer_blind u) w n call e)
+
+  pub first_blind : (u : Stream) (w : World V) (cs : List (Coroutine V)) → list_all waits_plainly cs ≡ true → first_some (answer_due ((lent u) w)) cs ≡ first_some (answer_due w) cs
+  first_blind u w [] e = refl
+  first_blind u w (c ∷ cs) e =
+      let h = both (waits_plainly c) (list_all waits_plainly cs) e in
+      ap (λ o. option_or o (first_some (answer_due ((lent u) w)) cs)) ((due_blind u) w c.number (pending_call c.mode) h.0) ∙ ap (λ o. option_or (answer_due w c) o) ((first_blind u) w cs h.1)
+
+  pub give_blind : (u : Stream) (w : World V) (who : ℕ) (call : Call) (answer : Answer) → may_wait call ≡ true → give ((lent u) w) who call answer ≡ (lent u) (give w who call answer)
+  give_blind u w who (calls.Msleep deadline) answer e = refl
+  give_blind u w who (calls.BundleWait number deadline) answer e = refl
+  give_blind u w who (calls.Hclose number) answer e =
+      ap (λ v. reply v who words.Hclose answer) ((some_blind u) (find (is_dead_as number) w.closings) ((lent u) w) w (free_bundle ((lent u) w)) (free_bundle w) refl (λ x. refl))
+  give_blind u w who _ answer e = cc
+
+  free_all_blind : (u : Stream) (w : World V) (who : ℕ) → free_all ((lent u) w) who ≡ (lent u) (free_all w who)
+  free_all_blind u w who = (fold_blind u) free_bundle (highest_first (filter (is_owned_by w who) w.closings)) w (λ v x. refl)
+
+  release_all_blind : (u : Stream) (w : World V) (who : ℕ) → release_all ((lent u) w) who ≡ (lent u) (release_all w who)
+  release_all_blind u w who = (fold_blind u) release (reverse (handles.numbers_of w.handles who)) w (release_blind u)
+
+  leave_blind : (u : Stream) (w : World V) (c : Coroutine V) → leave ((lent u) w) c ≡ (lent u) (leave w c)
+  leave_blind u w c =
+      let e = (if_blind u) (c.number == 1) (from_start (record ((lent u) w) { ended = Some (outcome_of c.mode) })) ((lent u) w) (from_start (record w { ended = Some (outcome_of c.mode) })) w refl refl in
+      ap (λ (v : World V). record v { coroutines = (leave w c).coroutines; scopes = (leave w c).scopes }) e
+
+  pub finish_blind : (u : Stream) (w : World V) (c : Coroutine V) → finish ((lent u) w) c ≡ (lent u) (finish w c)
+  finish_blind u w c =
+      ap (λ v. leave (release_all v c.number) c) ((free_all_blind u) w c.number) ∙ ap (λ v. leave v c) ((release_all_blind u) (free_all w c.number) c.number) ∙ (leave_blind u) (release_all (free_all w c.number) c.number) c
+
+  close_owned_blind : (u : Stream) (who : ℕ) (w : World V) (x : Entry Thing) → close_owned who ((lent u) w) x ≡ (lent u) (close_owned who w x)
+  close_owned_blind u who w x = (some_blind u) (bundle_of x.thing) ((lent u) w) w (λ name. close_bundle ((lent u) w) who name x.number) (λ name. close_bundle w who name x.number) refl (λ name. refl)
+
+  pub close_all_blind : (u : Stream) (w : World V) (who : ℕ) → close_all ((lent u) w) who ≡ (lent u) (close_all w who)
+  close_all_blind u w who = (fold_blind u) (close_owned who) (filter (handles.is_owned who) w.handles.entries) w ((close_owned_blind u) who)
+
+  pass_one_plain : (w : World V) (o : Option Call) (f : Call → World V) → if_some o true may_wait ≡ true → ((call : Call) → may_wait call ≡ true → f call ≡ w) → if_some o w f ≡ w
+  pass_one_plain w None f e h = refl
+  pass_one_plain w (Some call) f e h = h call e

@@ -1,0 +1,125 @@
+-- Every plain step changes the coroutines as told: one that has no answer stands elsewhere or is gone, or a new one begins.
+use Rattle.std.proofs.Common.{◌≡◌, ◌∙◌, ◌+◌, ◌≤◌, ℕ, suc, List, [], ◌∷◌, ◌++◌, length, find, Bool, true, false, not, ◌&&◌, ◌||◌, cond, Option, Some, None, refl, sym, ap, subst}
+use Rattle.dill_base.specs.declared.errno.Errno.{Errno}
+use Rattle.dill_base.specs.declared.errno.Errno.TheVariants as errnos
+use Rattle.dill_calls.specs.declared.answer.Answer.{Answer}
+use Rattle.dill_calls.specs.declared.answer.Answer.TheVariants.{Number}
+use Rattle.dill_calls.specs.declared.call.Call.{Call}
+use Rattle.dill_calls.specs.declared.call.Call.TheVariants as calls
+use Rattle.dill_calls.specs.declared.lists.Arg.{Arg}
+use Rattle.dill_calls.specs.declared.lists.Arg.TheVariants.{Show, Give}
+use Rattle.dill_calls.specs.declared.word.Word.{Word}
+use Rattle.dill_calls.specs.declared.word.Word.TheVariants as words
+use Rattle.dill_calls.specs.Program.{Program, Begins}
+use Rattle.dill_plain.specs.Plain.{is_plain}
+use Rattle.dill_rules.specs.declared.coroutine.Coroutine.{Coroutine}
+use Rattle.dill_rules.specs.declared.coroutine.Mode.TheVariants as modes
+use Rattle.dill_rules.specs.World.{World, is_coroutine, coroutine_of, reply, pend, is_answered}
+use Rattle.dill_rules.specs.Naming.{gifts_of}
+use Rattle.dill_rules.specs.Refusals.{refuse, has_twice, holds, is_invalid, is_refused_by_stack}
+use Rattle.dill_rules.specs.Effects.{told, bear}
+use Rattle.laws_queue.proofs.Crew.{SameCrew}
+use Rattle.laws_queue.proofs.Evolving.{Evolves, stays, turns, begins, goes_on}
+
+-- the coroutines of one world evolve to those of the other
+abbrev pub Leads : {V : Type 0} → Program V → World V → World V → Type 0
+Leads p w v = Evolves p w.coroutines w.last_coroutine v.coroutines v.last_coroutine
+
+module _ {V : Type 0} (p : Program V) where
+  crew_evolves : (cs ds : List (Coroutine V)) (k l : ℕ) → ds ≡ cs → l ≡ k → Evolves p cs k ds l
+  crew_evolves cs ds k l e f = subst (λ xs. Evolves p cs k xs l) (sym e) (subst (λ n. Evolves p cs k cs n) (sym f) stays)
+
+  pub crew_leads : (w v : World V) → SameCrew w v → Leads p w v
+  crew_leads w v same = crew_evolves w.coroutines v.coroutines w.last_coroutine v.last_coroutine same.coroutines same.last
+
+  pub leads_then : (w v u : World V) → Leads p w v → Leads p v u → Leads p w u
+  leads_then w v u e f = goes_on e f
+
+  -- a coroutine that has no answer in the queue, and may be given one
+  pub record Runs (w : World V) (who : ℕ) : Type 0 where
+    pub one : Coroutine V
+    pub found : coroutine_of w who ≡ Some one
+    pub mode : is_answered one.mode ≡ false
+    pub some : 1 ≤ p.left one.body
+
+  pub runs_crew : (w v : World V) (who : ℕ) → SameCrew w v → Runs w who → Runs v who
+  runs_crew w v who same r = record { one = r.one; found = ap (find (is_coroutine who)) same.coroutines ∙ r.found; mode = r.mode; some = r.some }
+
+  pub reply_leads : (w : World V) (who : ℕ) (word : Word) (answer : Answer) → Runs w who → Leads p w (reply w who word answer)
+  reply_leads w who word answer r = turns who (modes.Fresh word answer) r.one r.found r.mode refl (λ e. r.some)
+
+  pub pend_leads : (w : World V) (who : ℕ) (call : Call) → Runs w who → Leads p w (pend w who call)
+  pend_leads w who call r = turns who (modes.Pending call) r.one r.found r.mode refl (λ e. r.some)
+
+  -- an effect that leaves the coroutines, and then an answer
+  pub reply_behind : (w v : World V) (who : ℕ) (word : Word) (answer : Answer) → SameCrew w v → Runs w who → Leads p w (reply v who word answer)
+  reply_behind w v who word answer same r = leads_then w v (reply v who word answer) (crew_leads w v same) (reply_leads v who word answer (runs_crew w v who same r))
+
+  find_append : (test : Coroutine V → Bool) (cs ds : List (Coroutine V)) (c : Coroutine V) → find test cs ≡ Some c → find test (cs ++ ds) ≡ Some c
+  find_append test [] ds c e = cc
+  find_append test (x ∷ cs) ds c e = at (test x) e (find_append test cs ds c)
+    where
+      at : (found : Bool) → cond found (Some x) (find test cs) ≡ Some c → (find test cs ≡ Some c → find test (cs ++ ds) ≡ Some c) → cond found (Some x) (find test (cs ++ ds)) ≡ Some c
+      at true f rest = f
+      at false f rest = rest f
+
+  -- a new coroutine begins, and then the caller is answered
+  pub bear_reply : (w v : World V) (who : ℕ) (view : V) (home : ℕ) (word : Word) (answer : Answer) → SameCrew w v → Begins p view → Runs w who → Leads p w (reply (bear v view home) who word answer)
+  bear_reply w v who view home word answer same b r =
+      let here = runs_crew w v who same r in
+      let new = record { number = v.last_coroutine + 1; body = view; mode = modes.Fresh words.Start (Number 0) } ∷ [] in
+      let there : Runs (bear v view home) who = record { one = here.one; found = find_append (is_coroutine who) v.coroutines new here.one here.found; mode = here.mode; some = here.some } in
+      leads_then w v (reply (bear v view home) who word answer) (crew_leads w v same)
+      (leads_then v (bear v view home) (reply (bear v view home) who word answer) (begins view b) (reply_leads (bear v view home) who word answer there))
+
+pub told_length : (next : ℕ) (args : List Arg) → length (told next args) ≡ length args
+told_length next [] = refl
+told_length next (Show number ∷ args) = ap suc (told_length next args)
+told_length next (Give number ∷ args) = ap suc (told_length (next + 1) args)
+
+picks_none : {A : Type 0} (b : Bool) (x : A) (rest : Option A) → cond b (Some x) rest ≡ None → (b ≡ false) × (rest ≡ None)
+picks_none true x rest e = cc
+picks_none false x rest e = (refl, e)
+
+or_false : (a b : Bool) → (a || b) ≡ false → a ≡ false
+or_false true b e = cc
+or_false false b e = refl
+
+not_true : (a b : Bool) → not (a && not b) ≡ false → a ≡ true
+not_true true b e = refl
+not_true false b e = cc
+
+-- the program that a call starts is known
+abbrev pub Known : {V : Type 0} → Program V → V → Call → Type 0
+Known p view (calls.Go program args) = p.knows view program (length args) ≡ true
+Known p view (calls.BundleGo number program args) = p.knows view program (length args) ≡ true
+Known p view call = Unit {0}
+
+module _ {V : Type 0} (p : Program V) where
+  fourth_none : (f : Errno → Bool) (a b c d : Errno) (rest : List Errno) → find f (a ∷ b ∷ c ∷ d ∷ rest) ≡ None → f d ≡ false
+  fourth_none f a b c d rest e =
+      let one = picks_none (f a) a (find f (b ∷ c ∷ d ∷ rest)) e in
+      let two = picks_none (f b) b (find f (c ∷ d ∷ rest)) one.1 in
+      let three = picks_none (f c) c (find f (d ∷ rest)) two.1 in
+      (picks_none (f d) d (find f rest) three.1).0
+
+  -- what isn't refused starts a program that is known
+  pub unrefused_known : (w : World V) (who : ℕ) (view : V) (call : Call) → is_plain call ≡ true → refuse p w who view call ≡ None → Known p view call
+  unrefused_known w who view (calls.Go program args) e f =
+      let held = fourth_none (holds p w who view (calls.Go program args)) errnos.Ecanceled errnos.Ebadf errnos.Enotsup errnos.Einval (errnos.Ebusy ∷ errnos.Epipe ∷ errnos.Econnreset ∷ errnos.Emsgsize ∷ errnos.Emfile ∷ []) f in
+      not_true (p.knows view program (length args)) (has_twice (gifts_of args)) (or_false (is_invalid p view (calls.Go program args)) (is_refused_by_stack w (calls.Go program args) errnos.Einval) held)
+  unrefused_known w who view (calls.BundleGo number program args) e f =
+      let held = fourth_none (holds p w who view (calls.BundleGo number program args)) errnos.Ecanceled errnos.Ebadf errnos.Enotsup errnos.Einval (errnos.Ebusy ∷ errnos.Epipe ∷ errnos.Econnreset ∷ errnos.Emsgsize ∷ errnos.Emfile ∷ []) f in
+      not_true (p.knows view program (length args)) (has_twice (gifts_of args)) (or_false (is_invalid p view (calls.BundleGo number program args)) (is_refused_by_stack w (calls.BundleGo number program args) errnos.Einval) held)
+  unrefused_known w who view (calls.Print text) e f = tt
+  unrefused_known w who view calls.Now e f = tt
+  unrefused_known w who view calls.Yield e f = tt
+  unrefused_known w who view (calls.Msleep deadline) e f = tt
+  unrefused_known w who view (calls.Hmake kind value) e f = tt
+  unrefused_known w who view (calls.Hquery number kind) e f = tt
+  unrefused_known w who view (calls.Hown number) e f = tt
+  unrefused_known w who view (calls.Hclose number) e f = tt
+  unrefused_known w who view calls.Bundle e f = tt
+  unrefused_known w who view (calls.BundleWait number deadline) e f = tt
+  unrefused_known w who view (calls.Pass word fault) e f = tt
+  unrefused_known w who view _ e f = cc

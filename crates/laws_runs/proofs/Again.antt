@@ -1,0 +1,128 @@
+-- Closing the root once more changes nothing but the notes.
+use Rattle.std.proofs.Common.{◌≡◌, ◌∙◌, ℕ, zero, suc, List, [], ◌∷◌, ◌++◌, length, map, find, filter, Bool, true, false, cond, Option, Some, None, refl, sym, ap, subst}
+use Rattle.std.proofs.lemmas.List.{append-nil}
+use Rattle.std.specs.List.{list_all}
+use Rattle.std.specs.Option.{option_or}
+use Rattle.dill_calls.specs.declared.answer.Answer.{Answer}
+use Rattle.dill_calls.specs.declared.call.Call.{Call}
+use Rattle.dill_calls.specs.declared.call.Call.TheVariants as calls
+use Rattle.dill_calls.specs.Program.{Program}
+use Rattle.dill_scope.specs.declared.forest.Bundle.{Bundle}
+use Rattle.dill_scope.specs.Scopes as scopes
+use Rattle.dill_base.specs.Maps.{if_some, change, first_some}
+use Rattle.dill_rules.specs.declared.coroutine.Coroutine.{Coroutine}
+use Rattle.dill_rules.specs.declared.coroutine.Mode.{Mode}
+use Rattle.dill_rules.specs.declared.coroutine.Mode.TheVariants as modes
+use Rattle.dill_rules.specs.World.{World, begin, from_start, pending_call}
+use Rattle.dill_rules.specs.Answers.{answer_of}
+use Rattle.dill_rules.specs.Settling.{answer_due, finish, give_first, settle, settle_one, settle_within, IsSettled}
+use Rattle.dill_rules.specs.Giving.{give}
+use Rattle.dill_rules.specs.State.{lined, lined_mode, is_fresh, fresh}
+use Rattle.laws_queue.specs.Kept.{Kept, queued, kept_shut}
+use Rattle.laws_queue.specs.Plain.{IsPlain, may_wait, waits_plainly}
+use Rattle.laws_queue.proofs.Settles.{both}
+use Rattle.laws_queue.proofs.Steps.{pass_plain}
+use Rattle.laws_sound.specs.Laws.{is_closing, is_resting, IsAtRest}
+use Rattle.laws_debt.specs.Closing.{IsClosing}
+
+-- a bundle that is closing closes no further
+closes_same : (name : ℕ) (xs : List Bundle) → if_some (find (scopes.is_bundle name) xs) false (λ x. x.closing) ≡ true → change (scopes.is_bundle name) scopes.as_closing xs ≡ xs
+closes_same name [] e = refl
+closes_same name (x ∷ xs) e = at (scopes.is_bundle name x) e (closes_same name xs)
+  where
+    at : (found : Bool) → if_some (cond found (Some x) (find (scopes.is_bundle name) xs)) false (λ y. y.closing) ≡ true
+        → (if_some (find (scopes.is_bundle name) xs) false (λ y. y.closing) ≡ true → change (scopes.is_bundle name) scopes.as_closing xs ≡ xs)
+        → cond found (scopes.as_closing x ∷ xs) (x ∷ change (scopes.is_bundle name) scopes.as_closing xs) ≡ x ∷ xs
+    at true f rest = ap (λ b. record x { closing = b } ∷ xs) (sym f)
+    at false f rest = ap (λ ys. x ∷ ys) (rest f)
+
+-- who rests has no new answer
+lined_rest : (mode : Mode) → is_resting mode ≡ true → lined_mode mode ≡ mode
+lined_rest (modes.Pending call) e = refl
+lined_rest (modes.Answered word answer) e = refl
+lined_rest (modes.Ending outcome) e = refl
+lined_rest modes.Running e = cc
+lined_rest (modes.Fresh word answer) e = cc
+
+fresh_rest : (mode : Mode) → is_resting mode ≡ true → is_fresh mode ≡ false
+fresh_rest (modes.Pending call) e = refl
+fresh_rest (modes.Answered word answer) e = refl
+fresh_rest (modes.Ending outcome) e = refl
+fresh_rest modes.Running e = cc
+fresh_rest (modes.Fresh word answer) e = cc
+
+module _ {V : Type 0} where
+  -- settling doesn't look at notes
+  answer_begun : (w : World V) (who : ℕ) (call : Call) → may_wait call ≡ true → answer_of (begin w) who call ≡ answer_of w who call
+  answer_begun w who (calls.Msleep deadline) e = refl
+  answer_begun w who (calls.Hclose number) e = refl
+  answer_begun w who (calls.BundleWait number deadline) e = refl
+  answer_begun w who _ e = cc
+
+  due_begun : (w : World V) (n : ℕ) (o : Option Call) → if_some o true may_wait ≡ true
+      → ◌≡◌ {A = Option (ℕ × Call × Answer)} (if_some o None (λ call. if_some (answer_of (begin w) n call) None (λ a. Some (n, call, a)))) (if_some o None (λ call. if_some (answer_of w n call) None (λ a. Some (n, call, a))))
+  due_begun w n None e = refl
+  due_begun w n (Some call) e = ap (λ r. if_some r None (λ a. Some (n, call, a))) (answer_begun w n call e)
+
+  first_begun : (w : World V) (cs : List (Coroutine V)) → list_all waits_plainly cs ≡ true → first_some (answer_due (begin w)) cs ≡ first_some (answer_due w) cs
+  first_begun w [] e = refl
+  first_begun w (c ∷ cs) e =
+      let h = both (waits_plainly c) (list_all waits_plainly cs) e in
+      ap (λ o. option_or o (first_some (answer_due (begin w)) cs)) (due_begun w c.number (pending_call c.mode) h.0) ∙ ap (λ o. option_or (answer_due w c) o) (first_begun w cs h.1)
+
+  begun_settled : (w : World V) → IsPlain w → IsSettled w → IsSettled (begin w)
+  begun_settled w plain settled = record { endings = settled.endings; answers = first_begun w w.coroutines plain.calls ∙ settled.answers }
+
+  begun_plain : (w : World V) → IsPlain w → IsPlain (begin w)
+  begun_plain w plain = record { channels = plain.channels; links = plain.links; place = plain.place; wrote = plain.wrote; things = plain.things; calls = plain.calls }
+
+  -- where nothing is due nothing settles
+  one_same : (w : World V) → IsSettled w → settle_one w ≡ w
+  one_same w settled = ap (λ o. if_some o (give_first w) (finish w)) settled.endings ∙ ap (λ o. if_some o w (λ x. give w x.0 x.1 x.2)) settled.answers
+
+  within_same : (k : ℕ) (w : World V) → settle_one w ≡ w → settle_within k w ≡ w
+  within_same zero w e = refl
+  within_same (suc k) w e = ap (settle_within k) e ∙ within_same k w e
+
+  settle_same : (w : World V) → IsPlain w → IsSettled w → settle w ≡ w
+  settle_same w plain settled =
+      let within = within_same (length w.coroutines) w (one_same w settled) in
+      pass_plain (settle_within (length w.coroutines) w) (subst IsPlain (sym within) plain) ∙ within
+
+  -- the world before it settles
+  again_world : (w : World V) → IsPlain w → is_closing w.scopes 0 ≡ true → record (from_start (begin w)) { scopes = scopes.close w.scopes 0 } ≡ begin w
+  again_world w plain closing =
+      ap (λ xs. record (from_start (begin w)) { scopes = record w.scopes { bundles = xs } }) (closes_same 0 w.scopes.bundles closing)
+      ∙ ap (λ x. record (begin w) { place = x; wrote = [] }) (sym plain.place)
+      ∙ ap (λ x. record (begin w) { wrote = x }) (sym plain.wrote)
+
+  lined_same : (cs : List (Coroutine V)) → list_all (λ c. is_resting c.mode) cs ≡ true → map lined cs ≡ cs
+  lined_same [] e = refl
+  lined_same (c ∷ cs) e =
+      let h = both (is_resting c.mode) (list_all (λ c. is_resting c.mode) cs) e in
+      ap (λ m. record c { mode = m } ∷ map lined cs) (lined_rest c.mode h.0) ∙ ap (λ ds. c ∷ ds) (lined_same cs h.1)
+
+  nobody_fresh : (cs : List (Coroutine V)) → list_all (λ c. is_resting c.mode) cs ≡ true → filter (λ c. is_fresh c.mode) cs ≡ []
+  nobody_fresh [] e = refl
+  nobody_fresh (c ∷ cs) e =
+      let h = both (is_resting c.mode) (list_all (λ c. is_resting c.mode) cs) e in
+      ap (λ b. cond b (c ∷ filter (λ c. is_fresh c.mode) cs) (filter (λ c. is_fresh c.mode) cs)) (fresh_rest c.mode h.0) ∙ nobody_fresh cs h.1
+
+  queued_same : (w : World V) (ready : List ℕ) (early : ℕ) → IsAtRest w → queued w ready early ≡ record { world = w; ready = ready; early = early }
+  queued_same w ready early rest =
+      ap (λ cs. record { world = record w { coroutines = cs }; ready = ready ++ fresh w; early = early }) (lined_same w.coroutines rest)
+      ∙ ap (λ (cs : List (Coroutine V)). record { world = w; ready = ready ++ map (λ c. c.number) cs; early = early }) (nobody_fresh w.coroutines rest)
+      ∙ ap (λ xs. record { world = w; ready = xs; early = early }) (append-nil ready)
+
+  -- the same but for the notes, and for how many count as early
+  abbrev pub noted : Kept V → Kept V
+  noted k = record k { world = begin k.world }
+
+  module _ (p : Program V) where
+    pub again_same : (k : Kept V) → IsClosing p k → kept_shut k ≡ record (noted k) { early = length k.ready }
+    again_same k closing =
+        let w = k.world in
+        let plain = closing.stable.well.plain in
+        ap (λ v. queued (settle v) k.ready (length k.ready)) (again_world w plain closing.closing)
+        ∙ ap (λ v. queued v k.ready (length k.ready)) (settle_same (begin w) (begun_plain w plain) (begun_settled w plain closing.settled))
+        ∙ queued_same (begin w) k.ready (length k.ready) closing.stable.rest

@@ -1,0 +1,171 @@
+-- After each step that settles nothing is due, and all are at rest.
+use Rattle.std.proofs.Common.{◌≡◌, ◌∙◌, ℕ, ◌-◌, List, [], ◌∷◌, length, map, find, fold, Bool, true, false, ◌&&◌, cond, Option, Some, None, refl, sym, ap, subst}
+use Rattle.std.specs.Prelude.{max}
+use Rattle.std.specs.List.{list_all}
+use Rattle.std.specs.Option.{option_or}
+use Rattle.rand_core.specs.Stream.{Stream}
+use Rattle.dill_calls.specs.declared.answer.Answer.{Answer}
+use Rattle.dill_calls.specs.declared.call.Call.{Call}
+use Rattle.dill_calls.specs.declared.call.Call.TheVariants as calls
+use Rattle.dill_calls.specs.declared.ran.LackPlace.{LackPlace}
+use Rattle.dill_calls.specs.declared.ran.Note.{Note}
+use Rattle.dill_calls.specs.Program.{Program, IsLawful}
+use Rattle.dill_chan.specs.Channels.{Channels}
+use Rattle.dill_kernel.specs.declared.ready.Ready.{Ready}
+use Rattle.dill_plain.specs.Plain.{MovesPlain, MakesPlain}
+use Rattle.dill_base.specs.Maps.{if_some, first_some}
+use Rattle.dill_rules.specs.declared.coroutine.Coroutine.{Coroutine}
+use Rattle.dill_rules.specs.Answers.{answer_of}
+use Rattle.dill_rules.specs.Expiring.{passed, expire_one}
+use Rattle.dill_rules.specs.Hearing.{heat_ready}
+use Rattle.dill_rules.specs.Links.{Links}
+use Rattle.dill_rules.specs.Settling.{can_finish, is_clear, answer_due, settle, IsSettled}
+use Rattle.dill_rules.specs.State.{lined}
+use Rattle.dill_rules.specs.Turning.{go_on, move_of, answer_given}
+use Rattle.dill_rules.specs.World.{World, Place, at_start, begin, pending_call}
+use Rattle.laws_queue.specs.Kept.{Kept, opening_kept, queued, turn_first, kept_turn, kept_expire_next, kept_late, kept_expired, kept_shut, kept_woke}
+use Rattle.laws_queue.specs.Laws.{KeepsWell}
+use Rattle.laws_queue.specs.Plain.{may_wait, waits_plainly, IsPlain}
+use Rattle.laws_queue.specs.Well.{Numbered, IsWell}
+use Rattle.laws_queue.proofs.Keeping.{steps_keep_well}
+use Rattle.laws_queue.proofs.Plainly.{begin_plain}
+use Rattle.laws_queue.proofs.Settling.{settles_all}
+use Rattle.laws_queue.proofs.Steps.{settle_plain}
+use Rattle.laws_queue.proofs.Turns.{root_closed, closed_plain, go_on_plain}
+use Rattle.laws_sound.specs.Laws.{IsAtRest, IsBetweenSteps, StepsKeepRest}
+use Rattle.laws_sound.specs.Order.{IsInOrder}
+use Rattle.laws_sound.proofs.Going.{or_none}
+use Rattle.laws_sound.proofs.Keeping.{order_go_on, turn_is}
+use Rattle.laws_sound.proofs.Leaving.{lined_ends}
+use Rattle.laws_sound.proofs.Lists.{both}
+use Rattle.laws_sound.proofs.Resting.{Still, still_settle, still_expire, still_go_on, still_rests, rests_lined}
+use Rattle.laws_sound.proofs.Stepping.{lined_pending}
+
+module _ {V : Type 0} where
+  -- other parts of a world, and other modes, that plain answers don't look at
+  abbrev changed : World V → List (Coroutine V) → Channels → Links → Place → List ℕ → Stream → ℕ → List Note → World V
+  changed w ds c l place wrote random moment notes = record w { coroutines = ds; channels = c; links = l; place = place; wrote = wrote; random = random; moment = moment; notes = notes }
+
+  answer_same : (w : World V) (ds : List (Coroutine V)) (c : Channels) (l : Links) (place : Place) (wrote : List ℕ) (random : Stream) (moment : ℕ) (notes : List Note) (n : ℕ) (call : Call) → may_wait call ≡ true → answer_of (changed w ds c l place wrote random moment notes) n call ≡ answer_of w n call
+  answer_same w ds c l place wrote random moment notes n (calls.Msleep deadline) e = refl
+  answer_same w ds c l place wrote random moment notes n (calls.Hclose number) e = refl
+  answer_same w ds c l place wrote random moment notes n (calls.BundleWait number deadline) e = refl
+  answer_same w ds c l place wrote random moment notes n _ e = cc
+
+  due_same : (w v : World V) (n : ℕ) (o : Option Call) → ((call : Call) → may_wait call ≡ true → answer_of v n call ≡ answer_of w n call) → if_some o true may_wait ≡ true → ◌≡◌ {A = Option (ℕ × Call × Answer)} (if_some o None (λ call. if_some (answer_of v n call) None (λ a. Some (n, call, a)))) (if_some o None (λ call. if_some (answer_of w n call) None (λ a. Some (n, call, a))))
+  due_same w v n None same e = refl
+  due_same w v n (Some call) same e = ap (λ r. if_some r None (λ a. Some (n, call, a))) (same call e)
+
+  -- where nothing is due, nothing is so in the changed world
+  none_finish : (w v : World V) (f : Coroutine V → Coroutine V) → ((c : Coroutine V) → can_finish v (f c) ≡ can_finish w c) → (cs : List (Coroutine V)) → find (can_finish w) cs ≡ None → find (can_finish v) (map f cs) ≡ None
+  none_finish w v f same [] e = refl
+  none_finish w v f same (c ∷ cs) e = at (can_finish w c) refl e (none_finish w v f same cs)
+    where
+      at : (b : Bool) → can_finish w c ≡ b → cond b (Some c) (find (can_finish w) cs) ≡ None → (find (can_finish w) cs ≡ None → find (can_finish v) (map f cs) ≡ None) → find (can_finish v) (map f (c ∷ cs)) ≡ None
+      at true g h rest = cc
+      at false g h rest = let t : can_finish v (f c) ≡ false = same c ∙ g in ap (λ b. cond b (Some (f c)) (find (can_finish v) (map f cs))) t ∙ rest h
+
+  none_due : (w v : World V) (f : Coroutine V → Coroutine V) → ((c : Coroutine V) → waits_plainly c ≡ true → answer_due v (f c) ≡ answer_due w c) → (cs : List (Coroutine V)) → list_all waits_plainly cs ≡ true → first_some (answer_due w) cs ≡ None → first_some (answer_due v) (map f cs) ≡ None
+  none_due w v f same [] p e = refl
+  none_due w v f same (c ∷ cs) p e =
+      let b = both (waits_plainly c) (list_all waits_plainly cs) p in
+      let o = or_none (answer_due w c) (first_some (answer_due w) cs) e in
+      ap (λ r. option_or r (first_some (answer_due v) (map f cs))) (same c b.0 ∙ o.0) ∙ none_due w v f same cs b.1 o.1
+
+  settled_lined : (w : World V) → IsPlain w → IsSettled w → IsSettled (record w { coroutines = map lined w.coroutines })
+  settled_lined w plain s =
+      let v = record w { coroutines = map lined w.coroutines } in
+      record {
+        endings = none_finish w v lined (λ c. ap (λ b. b && is_clear w c.number) (lined_ends c.mode)) w.coroutines s.endings;
+        answers = none_due w v lined
+            (λ c e. ap (λ o. if_some o None (λ call. if_some (answer_of v c.number call) None (λ a. Some (c.number, call, a)))) (lined_pending c.mode)
+            ∙ due_same w v c.number (pending_call c.mode) (answer_same w (map lined w.coroutines) w.channels w.links w.place w.wrote w.random w.moment w.notes c.number) e) w.coroutines plain.calls s.answers;
+      }
+
+  map_itself : (cs : List (Coroutine V)) → map (λ c. c) cs ≡ cs
+  map_itself [] = refl
+  map_itself (c ∷ cs) = ap (λ ds. c ∷ ds) (map_itself cs)
+
+  settled_anyway : (w : World V) (c : Channels) (l : Links) (place : Place) (wrote : List ℕ) (random : Stream) (moment : ℕ) (notes : List Note) → list_all waits_plainly w.coroutines ≡ true → IsSettled w → IsSettled (changed w w.coroutines c l place wrote random moment notes)
+  settled_anyway w c l place wrote random moment notes calls s =
+      let v = changed w w.coroutines c l place wrote random moment notes in
+      record {
+        endings = ap (find (can_finish v)) (sym (map_itself w.coroutines)) ∙ none_finish w v (λ d. d) (λ d. refl) w.coroutines s.endings;
+        answers = ap (first_some (answer_due v)) (sym (map_itself w.coroutines)) ∙ none_due w v (λ d. d) (λ d e. due_same w v d.number (pending_call d.mode) (answer_same w w.coroutines c l place wrote random moment notes d.number) e) w.coroutines calls s.answers;
+      }
+
+  -- what settles
+  queued_rests : (w : World V) (ready : List ℕ) (early : ℕ) → IsPlain w → Numbered 0 w.coroutines w.last_coroutine → Still w.coroutines → IsBetweenSteps (queued (settle w) ready early).world
+  queued_rests w ready early plain n s = record {
+    rest = rests_lined (settle w).coroutines (still_settle w plain s);
+    settled = settled_lined (settle w) (settle_plain w plain) (settles_all V w plain n);
+  }
+
+  opening_rests : (view : V) → IsBetweenSteps (opening_kept view).world
+  opening_rests view = record { rest = refl; settled = record { endings = refl; answers = refl } }
+
+  begin_rests : (w : World V) → list_all waits_plainly w.coroutines ≡ true → IsBetweenSteps w → IsBetweenSteps (begin w)
+  begin_rests w calls r = record { rest = r.rest; settled = settled_anyway w w.channels w.links w.place w.wrote w.random w.moment [] calls r.settled }
+
+  heated_rests : (ready : List Ready) (w : World V) → list_all waits_plainly w.coroutines ≡ true → IsBetweenSteps w → (list_all waits_plainly (fold heat_ready w ready).coroutines ≡ true) × IsBetweenSteps (fold heat_ready w ready)
+  heated_rests [] w calls r = (calls, r)
+  heated_rests (x ∷ xs) w calls r = heated_rests xs (heat_ready w x) calls (record { rest = r.rest; settled = settled_anyway w w.channels (heat_ready w x).links w.place w.wrote w.random w.moment w.notes calls r.settled })
+
+  woke_rests : (k : Kept V) (told : ℕ) (ready : List Ready) → list_all waits_plainly k.world.coroutines ≡ true → IsBetweenSteps k.world → IsBetweenSteps (kept_woke k told ready).world
+  woke_rests k told ready calls r =
+      let heated = fold heat_ready (begin k.world) ready in
+      let h = heated_rests ready (begin k.world) calls (begin_rests k.world calls r) in
+      record { rest = h.1.rest; settled = settled_anyway heated heated.channels heated.links at_start [] heated.random (max k.world.moment told) heated.notes h.0 h.1.settled }
+
+module _ {V : Type 0} (p : Program V) (law : IsLawful p) (plainly : MakesPlain p) where
+  well : KeepsWell p
+  well = steps_keep_well p law plainly
+
+  turned : (k : Kept V) (lack : Option LackPlace) → IsWell p k → IsInOrder k.world → IsBetweenSteps k.world → IsBetweenSteps (kept_turn p lack k).world
+  turned k lack w o r = at k.ready refl
+    where
+      at : (ready : List ℕ) → k.ready ≡ ready → IsBetweenSteps (turn_first p lack k ready).world
+      at [] e = r
+      at (who ∷ rest) e =
+          let m = well.first k who rest w e in
+          let c = m.one in
+          let plain : MovesPlain (move_of p k.world who c.body) = plainly c.body (answer_given k.world who).1 m.real m.some in
+          let moved = go_on p lack (begin k.world) who c.body in
+          let order = order_go_on p lack k.world who c o m.found m.answered plain in
+          let still = still_go_on p lack k.world who c.body w.plain.things o.fits.kinds plain (still_rests k.world r.rest) in
+          subst (λ v. IsBetweenSteps (queued v rest (k.early - 1)).world) (turn_is p lack k.world who c m.found)
+          (queued_rests moved rest (k.early - 1) (go_on_plain p lack (begin k.world) who c.body plain (begin_plain k.world w.plain)) order.fits.numbered still)
+
+  expires : (k : Kept V) (who : ℕ) → IsWell p k → IsAtRest k.world → IsAtRest (kept_expire_next k who).world
+  expires k who w r = rests_lined (expire_one k.world who).coroutines (still_expire k.world who w.plain (still_rests k.world r))
+
+  settled : (k : Kept V) → IsWell p k → IsAtRest k.world → IsBetweenSteps (queued (settle k.world) k.ready k.early).world
+  settled k w r = queued_rests k.world k.ready k.early w.plain w.numbered (still_rests k.world r)
+
+  record Keeps (k : Kept V) : Type 0 where
+    well : IsWell p k
+    rest : IsAtRest k.world
+
+  expire_all : (xs : List ℕ) (k : Kept V) → Keeps k → Keeps (fold kept_expire_next k xs)
+  expire_all [] k h = h
+  expire_all (x ∷ xs) k h = expire_all xs (kept_expire_next k x) (record { well = well.expires k x h.well; rest = expires k x h.well h.rest })
+
+  expired : (k : Kept V) → IsWell p k → IsAtRest k.world → IsBetweenSteps (kept_expired k).world
+  expired k w r =
+      let late = expire_all (passed k.world) (record k { world = begin k.world }) (record { well = well.started k w; rest = r }) in
+      settled (kept_late k) late.well late.rest
+
+  shut : (k : Kept V) → IsWell p k → IsAtRest k.world → IsBetweenSteps (kept_shut k).world
+  shut k w r = queued_rests (root_closed k.world) k.ready (length k.ready) (closed_plain k.world w.plain) w.numbered (still_rests k.world r)
+
+pub steps_keep_rest : {V : Type 0} (p : Program V) → StepsKeepRest p
+steps_keep_rest p law plainly = record {
+  opening = opening_rests;
+  turned = turned p law plainly;
+  started = λ k w r. begin_rests k.world w.plain.calls r;
+  expires = expires p law plainly;
+  settled = settled p law plainly;
+  expired = expired p law plainly;
+  shut = shut p law plainly;
+  woke = λ k told ready w r. woke_rests k told ready w.plain.calls r;
+}

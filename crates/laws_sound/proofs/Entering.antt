@@ -1,0 +1,384 @@
+-- Each plain call that is entered keeps a world in order.
+use Rattle.std.proofs.Common.{◌≡◌, ◌∙◌, ℕ, ◌+◌, ◌<◌, ◌≤◌, ◌==◌, List, [], ◌∷◌, ◌++◌, length, find, Bool, true, false, not, ◌&&◌, ◌||◌, cond, inl, inr, Option, Some, None, if◌then◌else◌, refl, sym, ap, subst, arith}
+use Rattle.std.specs.Prelude.{is_some, is_none, nat_le, nat_lt}
+use Rattle.std.specs.List.{list_any}
+use Rattle.std.proofs.lemmas.Bool.Decides.{nat_tests}
+use Rattle.std.proofs.lemmas.List.Folds.{list_any-append}
+use Rattle.dill_base.specs.declared.errno.Errno.{Errno}
+use Rattle.dill_base.specs.declared.errno.Errno.TheVariants as errnos
+use Rattle.dill_calls.specs.declared.answer.Answer.{Answer}
+use Rattle.dill_calls.specs.declared.answer.Answer.TheVariants.{Number, Fault}
+use Rattle.dill_calls.specs.declared.call.Call.{Call}
+use Rattle.dill_calls.specs.declared.call.Call.TheVariants as calls
+use Rattle.dill_calls.specs.declared.lists.Arg.{Arg}
+use Rattle.dill_calls.specs.declared.word.Word.{Word}
+use Rattle.dill_calls.specs.declared.word.Word.TheVariants as words
+use Rattle.dill_calls.specs.CallTable.{word_of, takes_memory, gives_up}
+use Rattle.dill_calls.specs.Program.{Program}
+use Rattle.dill_handles.specs.Handles as handles
+use Rattle.dill_handles.specs.declared.entry.Entry.{Entry}
+use Rattle.dill_plain.specs.Plain.{is_plain}
+use Rattle.dill_scope.specs.declared.forest.Home.{Home}
+use Rattle.dill_scope.specs.Scopes as scopes
+use Rattle.dill_scope.specs.Scopes.{Scopes, owner_of, is_inside}
+use Rattle.dill_scope.specs.Forest.{Inside}
+use Rattle.dill_scope.specs.Keeping.{IsKnown, LivesInside}
+use Rattle.dill_scope.proofs.Chains.{search_is_inside}
+use Rattle.dill_scope.proofs.Growing.{enter_places, bundle_moves_nobody}
+use Rattle.dill_scope.proofs.Numbered.{none_below}
+use Rattle.dill_base.specs.Maps.{if_some}
+use Rattle.dill_rules.specs.declared.coroutine.Coroutine.{Coroutine}
+use Rattle.dill_rules.specs.declared.coroutine.Mode.{Mode}
+use Rattle.dill_rules.specs.declared.coroutine.Mode.TheVariants as modes
+use Rattle.dill_rules.specs.declared.thing.Thing.{Thing}
+use Rattle.dill_rules.specs.declared.thing.Thing.TheVariants as things
+use Rattle.dill_rules.specs.Effects.{told, make, add_bundle, close_thing, bear, give_all, start, next_number, passed_answer}
+use Rattle.dill_rules.specs.Entering.{keep_for, perform, is_too_late, late_answer, meet_deadline, done, enter}
+use Rattle.dill_rules.specs.Kinds.{value_of, is_dead, names_dead, names_other}
+use Rattle.dill_rules.specs.Naming.{gifts_of, draws_of, taken_by, bears, links}
+use Rattle.dill_rules.specs.Owning.{entry_of, move, release}
+use Rattle.dill_rules.specs.Refusals.{holds, holds_of_itself, refuse, order, giving_order, is_refused_by_stack, is_in_use, is_closed_bundle, has_no_coroutine, has_no_link, is_invalid}
+use Rattle.dill_rules.specs.Taking.{bundle_of, bundle_named, cannot_take, is_within, is_held_back, is_awaited, is_cancelled_taker, is_occupied, bears_inside, lives_inside}
+use Rattle.dill_rules.specs.World.{World, is_coroutine, coroutine_of, call_of, reply, pend, pending_call, is_ending}
+use Rattle.laws_queue.specs.Well.{is_at}
+use Rattle.laws_queue.proofs.Crew.{move_crew, release_crew, give_all_crew}
+use Rattle.laws_sound.specs.Order.{closes, is_there, FitsTogether, IsInOrder}
+use Rattle.laws_sound.proofs.Coming.{newborn}
+use Rattle.laws_sound.proofs.Counting.{found_push, pushed_found}
+use Rattle.laws_sound.proofs.Fitting.{next_is_new, has_number, fits_keep}
+use Rattle.laws_sound.proofs.Gifts.{born_given, order_given}
+use Rattle.laws_sound.proofs.Going.{found_there}
+use Rattle.laws_sound.proofs.Handing.{equal, unequal, same_number, live}
+use Rattle.laws_sound.proofs.Leaving.{order_born}
+use Rattle.laws_sound.proofs.Nearly.{is_free}
+use Rattle.laws_sound.proofs.Ordering.{order_set, order_reply, order_keep, order_make, order_add_bundle, order_move, order_release, free_closes}
+use Rattle.laws_sound.proofs.Owners.{new_is_free, bundle_new, owned_known}
+use Rattle.laws_sound.proofs.Shutting.{order_hclose, bundle_is}
+use Rattle.laws_sound.proofs.Sound.{same_there}
+
+-- ---- what a call isn't refused for
+
+pub or_nots : (a b : Bool) → (a || b) ≡ false → (a ≡ false) × (b ≡ false)
+or_nots true b e = cc
+or_nots false b e = (refl, e)
+
+none_first : (f : Errno → Bool) (e : Errno) (es : List Errno) → find f (e ∷ es) ≡ None → (f e ≡ false) × (find f es ≡ None)
+none_first f e es h = at (f e) h
+  where
+    at : (b : Bool) → cond b (Some e) (find f es) ≡ None → (b ≡ false) × (find f es ≡ None)
+    at true g = cc
+    at false g = (refl, g)
+
+record Unrefused (f : Errno → Bool) : Type 0 where
+  dead : f errnos.Ebadf ≡ false
+  other : f errnos.Enotsup ≡ false
+  invalid : f errnos.Einval ≡ false
+  busy : f errnos.Ebusy ≡ false
+  short : f errnos.Emfile ≡ false
+
+unrefused : (f : Errno → Bool) (b : Bool) → find f (if b then giving_order else order) ≡ None → Unrefused f
+unrefused f true e =
+    let one = none_first f errnos.Ebadf (errnos.Enotsup ∷ errnos.Einval ∷ errnos.Ebusy ∷ errnos.Emfile ∷ []) e in
+    let two = none_first f errnos.Enotsup (errnos.Einval ∷ errnos.Ebusy ∷ errnos.Emfile ∷ []) one.1 in
+    let three = none_first f errnos.Einval (errnos.Ebusy ∷ errnos.Emfile ∷ []) two.1 in
+    let four = none_first f errnos.Ebusy (errnos.Emfile ∷ []) three.1 in
+    record { dead = one.0; other = two.0; invalid = three.0; busy = four.0; short = (none_first f errnos.Emfile [] four.1).0 }
+unrefused f false e =
+    let zero = none_first f errnos.Ecanceled (errnos.Ebadf ∷ errnos.Enotsup ∷ errnos.Einval ∷ errnos.Ebusy ∷ errnos.Epipe ∷ errnos.Econnreset ∷ errnos.Emsgsize ∷ errnos.Emfile ∷ []) e in
+    let one = none_first f errnos.Ebadf (errnos.Enotsup ∷ errnos.Einval ∷ errnos.Ebusy ∷ errnos.Epipe ∷ errnos.Econnreset ∷ errnos.Emsgsize ∷ errnos.Emfile ∷ []) zero.1 in
+    let two = none_first f errnos.Enotsup (errnos.Einval ∷ errnos.Ebusy ∷ errnos.Epipe ∷ errnos.Econnreset ∷ errnos.Emsgsize ∷ errnos.Emfile ∷ []) one.1 in
+    let three = none_first f errnos.Einval (errnos.Ebusy ∷ errnos.Epipe ∷ errnos.Econnreset ∷ errnos.Emsgsize ∷ errnos.Emfile ∷ []) two.1 in
+    let four = none_first f errnos.Ebusy (errnos.Epipe ∷ errnos.Econnreset ∷ errnos.Emsgsize ∷ errnos.Emfile ∷ []) three.1 in
+    let five = none_first f errnos.Epipe (errnos.Econnreset ∷ errnos.Emsgsize ∷ errnos.Emfile ∷ []) four.1 in
+    let six = none_first f errnos.Econnreset (errnos.Emsgsize ∷ errnos.Emfile ∷ []) five.1 in
+    let seven = none_first f errnos.Emsgsize (errnos.Emfile ∷ []) six.1 in
+    record { dead = one.0; other = two.0; invalid = three.0; busy = four.0; short = (none_first f errnos.Emfile [] seven.1).0 }
+
+module _ {V : Type 0} (p : Program V) where
+  -- what a call that isn't refused may do
+  pub record May (w : World V) (who : ℕ) (view : V) (call : Call) : Type 0 where
+    pub room : length w.handles.entries + w.handles.kept + draws_of call ≤ 65536
+    pub takes : list_any (cannot_take w who call) (taken_by call) ≡ false
+    pub alive : names_dead w call ≡ false
+    pub other : names_other w call ≡ false
+    pub valid : is_invalid p view call ≡ false
+    pub crew : (bears (word_of call) && has_no_coroutine w) ≡ false
+
+  room_is : (h : handles.Handles Thing) (count : ℕ) → not (handles.has_room h count) ≡ false → length h.entries + h.kept + count ≤ 65536
+  room_is h count e = at (nat_le (length h.entries + h.kept + count) 65536) refl e
+    where
+      at : (b : Bool) → nat_le (length h.entries + h.kept + count) 65536 ≡ b → not (b && nat_le (h.last + h.kept + count) handles.last_number) ≡ false → length h.entries + h.kept + count ≤ 65536
+      at true f g = grind (arith, nat_tests)
+      at false f g = cc
+
+  pub may : (w : World V) (who : ℕ) (view : V) (call : Call) → refuse p w who view call ≡ None → May w who view call
+  may w who view call e =
+      let u = unrefused (holds p w who view call) (gives_up (word_of call)) e in
+      let short = (or_nots (holds_of_itself p w who view call errnos.Emfile) (is_refused_by_stack w call errnos.Emfile) u.short).0 in
+      let busy = (or_nots (holds_of_itself p w who view call errnos.Ebusy) (is_refused_by_stack w call errnos.Ebusy) u.busy).0 in
+      let shorts = or_nots (not (handles.has_room w.handles (draws_of call))) ((bears (word_of call) && has_no_coroutine w) || (links (word_of call) && has_no_link w)) short in
+      record {
+        alive = (or_nots (holds_of_itself p w who view call errnos.Ebadf) (is_refused_by_stack w call errnos.Ebadf) u.dead).0;
+        other = (or_nots (holds_of_itself p w who view call errnos.Enotsup) (is_refused_by_stack w call errnos.Enotsup) u.other).0;
+        valid = (or_nots (holds_of_itself p w who view call errnos.Einval) (is_refused_by_stack w call errnos.Einval) u.invalid).0;
+        crew = (or_nots (bears (word_of call) && has_no_coroutine w) (links (word_of call) && has_no_link w) shorts.1).0;
+        room = room_is w.handles (draws_of call) shorts.0;
+        takes = (or_nots (list_any (cannot_take w who call) (taken_by call)) (is_occupied w call || (is_in_use w call || is_closed_bundle w who call)) busy).0;
+      }
+
+module _ {V : Type 0} where
+  -- what may be taken is no bundle that the caller or its child is inside
+  not_within : (w : World V) (who : ℕ) (call : Call) (number name : ℕ) (x : Entry Thing) → cannot_take w who call number ≡ false → entry_of w number ≡ Some x → x.thing ≡ things.Bundle name → (is_inside w.scopes name who ≡ false) × (bears_inside w call name ≡ false)
+  not_within w who call number name x e f t =
+      let one : (is_within w who call x.thing || (is_held_back w who x || (is_awaited w call number || is_cancelled_taker w who call x))) ≡ false = ap (λ o. if_some o false (λ y. is_within w who call y.thing || (is_held_back w who y || (is_awaited w call number || is_cancelled_taker w who call y)))) (sym f) ∙ e in
+      let two = (or_nots (is_within w who call x.thing) (is_held_back w who x || (is_awaited w call number || is_cancelled_taker w who call x)) one).0 in
+      let three : (is_inside w.scopes name who || bears_inside w call name) ≡ false = ap (λ h. is_within w who call h) (sym t) ∙ two in
+      or_nots (is_inside w.scopes name who) (bears_inside w call name) three
+
+  outside : (w : World V) (name who : ℕ) → IsInOrder w → is_inside w.scopes name who ≡ false → Inside w.scopes name who → ⊥
+  outside w name who o e i = let t = (search_is_inside w.scopes name who o.fits.forest.forest).1 i in cc
+
+  -- who makes its call
+  record Caller (w : World V) (who : ℕ) : Type 0 where
+    order : IsInOrder w
+    one : Coroutine V
+    found : coroutine_of w who ≡ Some one
+    free : is_free one.mode ≡ true
+
+  answered : (w : World V) (who : ℕ) (h : Caller w who) (v : World V) → IsInOrder v → v.coroutines ≡ w.coroutines → Caller v who
+  answered w who h v o e = record { order = o; one = h.one; found = ap (find (is_coroutine who)) e ∙ h.found; free = h.free }
+
+  replied : (w : World V) (who : ℕ) (word : Word) (answer : Answer) → Caller w who → IsInOrder (reply w who word answer)
+  replied w who word answer h = order_reply w who h.one word answer h.order h.found h.free
+
+  there : (w : World V) (who : ℕ) → Caller w who → is_there w who ≡ true
+  there w who h = found_there w who h.one h.found
+
+  going : (w : World V) (who : ℕ) → Caller w who → is_at is_ending w.coroutines who ≡ false
+  going w who h = ap (λ o. if_some o false (λ c. is_ending c.mode)) h.found ∙ (free_closes h.one.mode h.free).1
+
+  pends : (w : World V) (who : ℕ) (call : Call) → Caller w who → is_free (modes.Pending call) ≡ true → IsInOrder (pend w who call)
+  pends w who call h e = order_set w who h.one (modes.Pending call) h.order h.found h.free e
+
+  -- ---- a new coroutine with its gifts
+
+  nobody_new : (w : World V) → FitsTogether w → coroutine_of w (w.last_coroutine + 1) ≡ None
+  nobody_new w f = at (coroutine_of w (w.last_coroutine + 1)) (sym (same_there (λ (x : Home). x.who) (λ (c : Coroutine V). c.number) (w.last_coroutine + 1) w.scopes.homes w.coroutines f.crew) ∙ ap is_some (none_below (λ (x : Home). x.who) (w.last_coroutine + 1) w.scopes.homes (next_is_new w f)))
+    where
+      at : (o : Option (Coroutine V)) → is_some o ≡ false → o ≡ None
+      at None e = refl
+      at (Some c) e = cc
+
+  order_start : (w : World V) (view : V) (home : ℕ) (ns : List ℕ) → IsInOrder w → IsKnown w.scopes home → length w.coroutines < 65536 → ((n name : ℕ) (x : Entry Thing) → list_any (λ m. m == n) ns ≡ true → entry_of w n ≡ Some x → x.thing ≡ things.Bundle name → LivesInside w.scopes home name → ⊥) → IsInOrder (bear (give_all w ns (w.last_coroutine + 1)) view home)
+  order_start w view home ns o known room out =
+      let v = bear w view home in
+      let new : coroutine_of v (w.last_coroutine + 1) ≡ Some (newborn w view) = pushed_found (is_coroutine (w.last_coroutine + 1)) w.coroutines (newborn w view) (nobody_new w o.fits) (same_number (w.last_coroutine + 1)) in
+      subst IsInOrder (sym (born_given ns w view home (w.last_coroutine + 1)))
+      (order_given ns v (w.last_coroutine + 1) (order_born w view home known room o) (ap is_some new) (ap (λ q. if_some q false (λ c. is_ending c.mode)) new)
+      (λ n name x l e t i. out n name x l e t ((enter_places w.scopes home (w.last_coroutine + 1) name o.fits.forest (next_is_new w o.fits)).0 i)))
+
+  started : (w : World V) (who : ℕ) (view : V) (home owner : ℕ) (ns : List ℕ) → Caller w who → IsInOrder (bear (give_all w ns owner) view home) → Caller (bear (give_all w ns owner) view home) who
+  started w who view home owner ns h o =
+      let g = give_all w ns owner in
+      record { order = o; one = h.one; found = found_push (is_coroutine who) g.coroutines (newborn g view) h.one (ap (find (is_coroutine who)) (give_all_crew w ns owner).coroutines ∙ h.found); free = h.free }
+
+  no_room : (w : World V) → has_no_coroutine w ≡ false → length w.coroutines < 65536
+  no_room w e = let b = (or_nots (nat_le 65536 (length w.coroutines)) (nat_le 18446744073709551615 w.last_coroutine) e).0 in grind (arith, nat_tests)
+
+  bundle_entry : (w : World V) (number home : ℕ) → bundle_named w number ≡ Some home → (x : Entry Thing) × (entry_of w number ≡ Some x) × (x.thing ≡ things.Bundle home)
+  bundle_entry w number home e = at (entry_of w number) refl e
+    where
+      at : (o : Option (Entry Thing)) → entry_of w number ≡ o → if_some o None (λ x. bundle_of x.thing) ≡ Some home → (x : Entry Thing) × (entry_of w number ≡ Some x) × (x.thing ≡ things.Bundle home)
+      at None f g = cc
+      at (Some x) f g = (x, f, bundle_is x.thing home g)
+
+-- what was there is found as before
+pushed_same : {X : Type 0} (pick : X → Bool) (xs : List X) (z x : X) → is_none (find pick xs) ≡ false → find pick (xs ++ z ∷ []) ≡ Some x → find pick xs ≡ Some x
+pushed_same {X} pick xs z x e f = at (find pick xs) refl e
+  where
+    at : (o : Option X) → find pick xs ≡ o → is_none o ≡ false → o ≡ Some x
+    at None g h = cc
+    at (Some y) g h = sym (found_push pick xs z y g) ∙ f
+
+any_false : (test : ℕ → Bool) (ns : List ℕ) (n : ℕ) → list_any test ns ≡ false → list_any (λ m. m == n) ns ≡ true → test n ≡ false
+any_false test [] n e f = cc
+any_false test (m ∷ ns) n e f =
+    let b = or_nots (test m) (list_any test ns) e in
+    at (m == n) refl f b.0 (any_false test ns n b.1)
+  where
+    at : (t : Bool) → (m == n) ≡ t → (t || list_any (λ k. k == n) ns) ≡ true → test m ≡ false → (list_any (λ k. k == n) ns ≡ true → test n ≡ false) → test n ≡ false
+    at true g h i rest = subst (λ k. test k ≡ false) (equal m n g) i
+    at false g h i rest = rest h
+
+module _ {V : Type 0} (p : Program V) where
+  kept_order : (w : World V) (who : ℕ) (view : V) (call : Call) → May p w who view call → Caller w who → Caller (keep_for w call) who
+  kept_order w who view call m h = answered w who h (keep_for w call) (order_keep w (draws_of call) (fits_keep w (draws_of call) m.room h.order.fits) h.order) refl
+
+  release_order : (w : World V) (who number : ℕ) (x : Entry Thing) (t : Thing) → x.thing ≡ t → bundle_of t ≡ None → Caller w who → entry_of w number ≡ Some x → IsInOrder (reply (release w number) who words.Hclose (Number 0))
+  release_order w who number x t s none h e = replied (release w number) who words.Hclose (Number 0) (answered w who h (release w number) (order_release w number h.order (λ y f. let it : x ≡ y = cc in ap (λ z. bundle_of z.thing) (sym it) ∙ ap bundle_of s ∙ none)) (release_crew w number).coroutines)
+
+  close_order : (w : World V) (who number : ℕ) (x : Entry Thing) (t : Thing) → x.thing ≡ t → Caller w who → entry_of w number ≡ Some x → ((name : ℕ) → x.thing ≡ things.Bundle name → Inside w.scopes name who → ⊥) → IsInOrder (close_thing w who number t)
+  close_order w who number x (things.Bundle name) s h e out = order_hclose w who number name h.one x h.order h.found h.free e s (out name s)
+  close_order w who number x (things.End end) s h e out = release_order w who number x (things.End end) s refl h e
+  close_order w who number x (things.Listener link) s h e out = release_order w who number x (things.Listener link) s refl h e
+  close_order w who number x (things.Socket link) s h e out = release_order w who number x (things.Socket link) s refl h e
+  close_order w who number x (things.Value kind value) s h e out = release_order w who number x (things.Value kind value) s refl h e
+
+  not_inside : (w : World V) (who : ℕ) (call : Call) (number : ℕ) → IsInOrder w → cannot_take w who call number ≡ false → (x : Entry Thing) (name : ℕ) → entry_of w number ≡ Some x → x.thing ≡ things.Bundle name → Inside w.scopes name who → ⊥
+  not_inside w who call number o e x name f t = outside w name who o (not_within w who call number name x e f t).0
+
+  one_taken : (b : Bool) → (b || false) ≡ false → b ≡ false
+  one_taken true e = cc
+  one_taken false e = refl
+
+  -- the child of `go` is inside no bundle that it is given
+  go_outside : (w : World V) (who : ℕ) (view : V) (program : ℕ) (args : List Arg) → Caller w who → May p w who view (calls.Go program args) → (n name : ℕ) (x : Entry Thing) → list_any (λ m. m == n) (gifts_of args) ≡ true → entry_of (add_bundle (keep_for w (calls.Go program args)) who) n ≡ Some x → x.thing ≡ things.Bundle name → LivesInside (scopes.bundle w.scopes (w.last_bundle + 1) who) (w.last_bundle + 1) name → ⊥
+  go_outside w who view program args h m n name x l e t lived =
+      let call = calls.Go program args in
+      let ns = gifts_of args in
+      let new = w.last_bundle + 1 in
+      let none_dead : list_any (is_dead w) ns ≡ false = (or_nots (list_any (is_dead w) ns) false (sym (list_any-append (is_dead w) ns []) ∙ m.alive)).0 in
+      let found : entry_of w n ≡ Some x = pushed_same (has_number n) w.handles.entries (record { number = handles.next_number w.handles; thing = things.Bundle new; owner = who }) x (any_false (is_dead w) ns n none_dead l) e in
+      let owned = (live w n name x h.order.fits found t).owned in
+      let free = new_is_free w.scopes new h.order.fits.bundles in
+      let out = not_inside w who call n h.order (any_false (cannot_take w who call) ns n m.takes l) x name found t in
+      elim lived [
+        | inl same ↦ (let bad : owner_of w.scopes new ≡ Some x.owner = subst (λ b. owner_of w.scopes b ≡ Some x.owner) (sym same) owned in cc)
+        | inr r ↦ (
+            let own : owner_of (scopes.bundle w.scopes new who) new ≡ Some who = bundle_new w.scopes new who h.order.fits.bundles in
+            let mine : who ≡ r.0 = cc in
+            out ((bundle_moves_nobody w.scopes new who h.order.fits.forest h.order.fits.bundles name who tt).0 (subst (λ k. Inside (scopes.bundle w.scopes new who) name k) (sym mine) r.2)))
+      ]
+
+  go_order : (w : World V) (who : ℕ) (view : V) (program : ℕ) (args : List Arg) → Caller w who → May p w who view (calls.Go program args) → IsInOrder (perform p (keep_for w (calls.Go program args)) who view (calls.Go program args))
+  go_order w who view program args h m =
+      let call = calls.Go program args in
+      let k = keep_for w call in
+      let kept = kept_order w who view call m h in
+      let made = add_bundle k who in
+      let new = k.last_bundle + 1 in
+      let ns = gifts_of args in
+      let child = p.child view program (told (next_number made) args) in
+      let made_order = order_add_bundle k who (there k who kept) (going k who kept) (omega arith) kept.order in
+      let known = owned_known made.scopes new who (bundle_new k.scopes new who kept.order.fits.bundles) in
+      let started_order = order_start made child new ns made_order known (no_room w m.crew) (go_outside w who view program args h m) in
+      replied (start p made view new program args) who words.Go (Number (next_number k)) (started made who child new (made.last_coroutine + 1) ns (answered k who kept made made_order refl) started_order)
+
+  -- the child of `bundle_go` is inside no bundle that it is given
+  bundle_outside : (w : World V) (who : ℕ) (view : V) (number home : ℕ) (program : ℕ) (args : List Arg) → Caller w who → May p w who view (calls.BundleGo number program args) → bundle_named w number ≡ Some home → (n name : ℕ) (x : Entry Thing) → list_any (λ m. m == n) (gifts_of args) ≡ true → entry_of w n ≡ Some x → x.thing ≡ things.Bundle name → LivesInside w.scopes home name → ⊥
+  bundle_outside w who view number home program args h m e n name x l f t lived =
+      let call = calls.BundleGo number program args in
+      let ns = gifts_of args in
+      let inner = (not_within w who call n name x (any_false (cannot_take w who call) ns n m.takes l) f t).1 in
+      let apart : (home == name || if_some (owner_of w.scopes home) false (is_inside w.scopes name)) ≡ false = ap (λ o. if_some o false (λ b. lives_inside w b name)) (sym e) ∙ inner in
+      let both = or_nots (home == name) (if_some (owner_of w.scopes home) false (is_inside w.scopes name)) apart in
+      elim lived [
+        | inl same ↦ unequal home name both.0 same
+        | inr r ↦ outside w name r.0 h.order (ap (λ o. if_some o false (is_inside w.scopes name)) (sym r.1) ∙ both.1) r.2
+      ]
+
+  bundle_go_order : (w : World V) (who : ℕ) (view : V) (number program : ℕ) (args : List Arg) → Caller w who → May p w who view (calls.BundleGo number program args) → IsInOrder (perform p (keep_for w (calls.BundleGo number program args)) who view (calls.BundleGo number program args))
+  bundle_go_order w who view number program args h m = at (bundle_named w number) refl
+    where
+      at : (o : Option ℕ) → bundle_named w number ≡ o → IsInOrder (if_some o (keep_for w (calls.BundleGo number program args)) (λ home. reply (start p (keep_for w (calls.BundleGo number program args)) view home program args) who words.BundleGo (Number 0)))
+      at None e = (kept_order w who view (calls.BundleGo number program args) m h).order
+      at (Some home) e =
+          let call = calls.BundleGo number program args in
+          let k = keep_for w call in
+          let kept = kept_order w who view call m h in
+          let ns = gifts_of args in
+          let child = p.child view program (told (next_number k) args) in
+          let x = bundle_entry w number home e in
+          let known = owned_known k.scopes home x.0.owner (live w number home x.0 h.order.fits x.1 x.2).owned in
+          let started_order = order_start k child home ns kept.order known (no_room w m.crew) (bundle_outside w who view number home program args h m e) in
+          replied (start p k view home program args) who words.BundleGo (Number 0) (started k who child home (k.last_coroutine + 1) ns kept started_order)
+
+  proper_kind : (kind : ℕ) → (nat_lt kind 256 || nat_lt 4294967295 kind) ≡ false → nat_le 256 kind ≡ true
+  proper_kind kind e = let b = (or_nots (nat_lt kind 256) (nat_lt 4294967295 kind) e).0 in grind (arith, nat_tests)
+
+  -- the effect of a call that isn't refused
+  perform_order : (w : World V) (who : ℕ) (view : V) (call : Call) → is_plain call ≡ true → Caller w who → May p w who view call → IsInOrder (perform p (keep_for w call) who view call)
+  perform_order w who view (calls.Print text) e h m = replied _ who words.Print (Number 0) (kept_order w who view (calls.Print text) m h)
+  perform_order w who view calls.Now e h m = replied _ who words.Now (Number w.moment) (kept_order w who view calls.Now m h)
+  perform_order w who view calls.Yield e h m = replied _ who words.Yield (Number 0) (kept_order w who view calls.Yield m h)
+  perform_order w who view (calls.Msleep deadline) e h m = pends _ who (calls.Msleep deadline) (kept_order w who view (calls.Msleep deadline) m h) refl
+  perform_order w who view (calls.Hmake kind value) e h m =
+      let k = keep_for w (calls.Hmake kind value) in
+      let kept = kept_order w who view (calls.Hmake kind value) m h in
+      let made = make k (things.Value kind value) who in
+      replied made who words.Hmake (Number (next_number k)) (answered k who kept made (order_make k (things.Value kind value) who refl (proper_kind kind m.valid) (there k who kept) (omega arith) kept.order) refl)
+  perform_order w who view (calls.Hquery number kind) e h m = at (entry_of w number)
+    where
+      at : (o : Option (Entry Thing)) → IsInOrder (if_some o (keep_for w (calls.Hquery number kind)) (λ x. reply (keep_for w (calls.Hquery number kind)) who words.Hquery (Number (value_of x.thing))))
+      at None = (kept_order w who view (calls.Hquery number kind) m h).order
+      at (Some x) = replied _ who words.Hquery (Number (value_of x.thing)) (kept_order w who view (calls.Hquery number kind) m h)
+  perform_order w who view (calls.Hown number) e h m =
+      let call = calls.Hown number in
+      let k = keep_for w call in
+      let kept = kept_order w who view call m h in
+      let out = not_inside w who call number h.order (one_taken (cannot_take w who call number) m.takes) in
+      let moved = order_move k number who kept.order (there k who kept) (going k who kept) out in
+      replied (move k number who) who words.Hown (Number (next_number k)) (answered k who kept (move k number who) moved (move_crew k number who).coroutines)
+  perform_order w who view (calls.Hclose number) e h m = at (entry_of w number) refl
+    where
+      at : (o : Option (Entry Thing)) → entry_of w number ≡ o → IsInOrder (if_some o (keep_for w (calls.Hclose number)) (λ x. close_thing (keep_for w (calls.Hclose number)) who number x.thing))
+      at None f = (kept_order w who view (calls.Hclose number) m h).order
+      at (Some x) f = close_order _ who number x x.thing refl (kept_order w who view (calls.Hclose number) m h) f (λ name s. not_inside w who (calls.Hclose number) number h.order (one_taken (cannot_take w who (calls.Hclose number) number) m.takes) x name f s)
+  perform_order w who view calls.Bundle e h m =
+      let k = keep_for w calls.Bundle in
+      let kept = kept_order w who view calls.Bundle m h in
+      replied (add_bundle k who) who words.Bundle (Number (next_number k)) (answered k who kept (add_bundle k who) (order_add_bundle k who (there k who kept) (going k who kept) (omega arith) kept.order) refl)
+  perform_order w who view (calls.Go program args) e h m = go_order w who view program args h m
+  perform_order w who view (calls.BundleGo number program args) e h m = bundle_go_order w who view number program args h m
+  perform_order w who view (calls.BundleWait number deadline) e h m = pends _ who (calls.BundleWait number deadline) (kept_order w who view (calls.BundleWait number deadline) m h) refl
+  perform_order w who view (calls.Pass word fault) e h m = replied _ who word (passed_answer fault) (kept_order w who view (calls.Pass word fault) m h)
+  perform_order w who view _ e h m = cc
+
+call_mode : (mode : Mode) (call : Call) → pending_call mode ≡ Some call → mode ≡ modes.Pending call
+call_mode (modes.Pending other) call e = let it : other ≡ call = cc in ap (λ c. modes.Pending c) it
+call_mode modes.Running call e = cc
+call_mode (modes.Fresh word answer) call e = cc
+call_mode (modes.Answered word answer) call e = cc
+call_mode (modes.Ending outcome) call e = cc
+
+module _ {V : Type 0} where
+  -- a call with a deadline closes nothing
+  late_free : (w : World V) (who : ℕ) (call : Call) → is_too_late w who call ≡ true → closes (modes.Pending call) ≡ None
+  late_free w who (calls.Hclose number) e = cc
+  late_free w who _ e = refl
+
+  pub found_call : (w : World V) (who : ℕ) (call : Call) → call_of w who ≡ Some call → (c : Coroutine V) × (coroutine_of w who ≡ Some c) × (c.mode ≡ modes.Pending call)
+  found_call w who call e = at (coroutine_of w who) refl e
+    where
+      at : (o : Option (Coroutine V)) → coroutine_of w who ≡ o → if_some o None (λ c. pending_call c.mode) ≡ Some call → (c : Coroutine V) × (coroutine_of w who ≡ Some c) × (c.mode ≡ modes.Pending call)
+      at None f g = cc
+      at (Some c) f g = (c, f, call_mode c.mode call g)
+
+  meet_order : (w : World V) (who : ℕ) → IsInOrder w → IsInOrder (meet_deadline w who)
+  meet_order w who o = at (call_of w who) refl
+    where
+      by : (call : Call) (b : Bool) → call_of w who ≡ Some call → is_too_late w who call ≡ b → IsInOrder (if b then reply w who (word_of call) (late_answer call) else w)
+      by call true e f =
+          let c = found_call w who call e in
+          let none = late_free w who call f in
+          order_reply w who c.0 (word_of call) (late_answer call) o c.1 (ap (λ m. is_free m) c.2 ∙ ap (λ q. is_none q && not (is_ending (modes.Pending call))) none)
+      by call false e f = o
+
+      at : (p : Option Call) → call_of w who ≡ p → IsInOrder (if_some p w (λ call. if is_too_late w who call then reply w who (word_of call) (late_answer call) else w))
+      at None e = o
+      at (Some call) e = by call (is_too_late w who call) e refl
+
+  -- a call is entered
+  pub order_enter : (p : Program V) (lacks : Bool) (w : World V) (who : ℕ) (view : V) (call : Call) (c : Coroutine V) → is_plain call ≡ true → IsInOrder w → coroutine_of w who ≡ Some c → is_free c.mode ≡ true → IsInOrder (enter p lacks w who view call)
+  order_enter p lacks w who view call c e o found free = at (refuse p w who view call) refl
+    where
+      caller : Caller w who
+      caller = record { order = o; one = c; found = found; free = free }
+
+      lack : (b : Bool) → refuse p w who view call ≡ None → IsInOrder (if b then reply w who (word_of call) (Fault errnos.Enomem) else done p w who view call)
+      lack true f = replied w who (word_of call) (Fault errnos.Enomem) caller
+      lack false f = meet_order (perform p (keep_for w call) who view call) who (perform_order p w who view call e caller (may p w who view call f))
+
+      at : (q : Option Errno) → refuse p w who view call ≡ q → IsInOrder (if_some q (if lacks && takes_memory (word_of call) then reply w who (word_of call) (Fault errnos.Enomem) else done p w who view call) (λ g. reply w who (word_of call) (Fault g)))
+      at None f = lack (lacks && takes_memory (word_of call)) f
+      at (Some g) f = replied w who (word_of call) (Fault g) caller

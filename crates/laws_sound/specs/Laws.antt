@@ -1,0 +1,104 @@
+-- Laws of worlds in order: each step keeps them so, and where a bundle is closing somebody inside it has an answer.
+use Rattle.std.specs.Prelude.{◌≡◌, ℕ, List, Bool, true, false, Option, None, find, is_some}
+use Rattle.std.specs.List.{list_all}
+use Rattle.dill_calls.specs.declared.ran.LackPlace.{LackPlace}
+use Rattle.dill_calls.specs.Program.{Program, IsLawful}
+use Rattle.dill_plain.specs.Plain.{MakesPlain}
+use Rattle.dill_kernel.specs.declared.ready.Ready.{Ready}
+use Rattle.dill_scope.specs.Scopes.{Scopes, is_bundle, is_empty}
+use Rattle.dill_scope.specs.Forest.{Inside}
+use Rattle.dill_base.specs.Maps.{if_some}
+use Rattle.dill_rules.specs.declared.coroutine.Mode.{Mode}
+use Rattle.dill_rules.specs.declared.coroutine.Mode.TheVariants as modes
+use Rattle.dill_rules.specs.Laws.{IsSound}
+use Rattle.dill_rules.specs.Settling.{settle, IsSettled}
+use Rattle.dill_rules.specs.Taking.{is_cancelled}
+use Rattle.dill_rules.specs.Expiring.{due_of}
+use Rattle.dill_rules.specs.World.{World, begin, call_of, is_answered}
+use Rattle.laws_queue.specs.Kept.{Kept, has_answer, opening_kept, queued, kept_turn, kept_expire_next, kept_expired, kept_shut, kept_woke}
+use Rattle.laws_queue.specs.Plain.{IsPlain}
+use Rattle.laws_queue.specs.Well.{occurs, is_at, IsWell}
+use Rattle.laws_sound.specs.Order.{is_there, IsInOrder}
+
+-- the closing of a bundle has begun
+abbrev pub is_closing : Scopes → ℕ → Bool
+is_closing s name = if_some (find (is_bundle name) s.bundles) false (λ x. x.closing)
+
+-- between two steps everybody waits, has an answer in the queue, or is ending
+abbrev pub is_resting : Mode → Bool
+is_resting (modes.Pending call) = true
+is_resting (modes.Answered word answer) = true
+is_resting (modes.Ending outcome) = true
+is_resting _ = false
+
+abbrev pub IsAtRest : {V : Type 0} → World V → Type 0
+IsAtRest w = list_all (λ c. is_resting c.mode) w.coroutines ≡ true
+
+-- between two steps all are at rest, and nothing is due
+pub record IsBetweenSteps {V : Type 0} (w : World V) : Type 0 where
+  pub rest : IsAtRest w
+  pub settled : IsSettled w
+
+-- what it is pending in has a deadline, if it is pending
+abbrev pub is_timed : {V : Type 0} → World V → ℕ → Bool
+is_timed w who = if_some (call_of w who) true (λ call. is_some (due_of call))
+
+-- so it is of programs that make plain calls
+pub record KeepsOrder {V : Type 0} (p : Program V) : Type 0 where
+  pub opening : (view : V) → IsInOrder (opening_kept view).world
+  pub turned : (k : Kept V) (lack : Option LackPlace) → IsWell p k → IsInOrder k.world → IsInOrder (kept_turn p lack k).world
+  pub started : (k : Kept V) → IsInOrder k.world → IsInOrder (begin k.world)
+  pub expires : (k : Kept V) (who : ℕ) → IsWell p k → IsInOrder k.world → is_timed k.world who ≡ true → IsInOrder (kept_expire_next k who).world
+  pub settled : (k : Kept V) → IsWell p k → IsInOrder k.world → IsInOrder (queued (settle k.world) k.ready k.early).world
+  pub expired : (k : Kept V) → IsWell p k → IsInOrder k.world → IsInOrder (kept_expired k).world
+  pub shut : (k : Kept V) → IsWell p k → IsInOrder k.world → IsInOrder (kept_shut k).world
+  pub woke : (k : Kept V) (told : ℕ) (ready : List Ready) → IsInOrder k.world → IsInOrder (kept_woke k told ready).world
+
+abbrev pub StepsKeepOrder : {V : Type 0} → Program V → Type 0
+StepsKeepOrder p = IsLawful p → MakesPlain p → KeepsOrder p
+
+-- so each step leads from rest to rest; after an expiry something may be due until the world settles
+pub record KeepsRest {V : Type 0} (p : Program V) : Type 0 where
+  pub opening : (view : V) → IsBetweenSteps (opening_kept view).world
+  pub turned : (k : Kept V) (lack : Option LackPlace) → IsWell p k → IsInOrder k.world → IsBetweenSteps k.world → IsBetweenSteps (kept_turn p lack k).world
+  pub started : (k : Kept V) → IsWell p k → IsBetweenSteps k.world → IsBetweenSteps (begin k.world)
+  pub expires : (k : Kept V) (who : ℕ) → IsWell p k → IsAtRest k.world → IsAtRest (kept_expire_next k who).world
+  pub settled : (k : Kept V) → IsWell p k → IsAtRest k.world → IsBetweenSteps (queued (settle k.world) k.ready k.early).world
+  pub expired : (k : Kept V) → IsWell p k → IsAtRest k.world → IsBetweenSteps (kept_expired k).world
+  pub shut : (k : Kept V) → IsWell p k → IsAtRest k.world → IsBetweenSteps (kept_shut k).world
+  pub woke : (k : Kept V) (told : ℕ) (ready : List Ready) → IsWell p k → IsBetweenSteps k.world → IsBetweenSteps (kept_woke k told ready).world
+
+abbrev pub StepsKeepRest : {V : Type 0} → Program V → Type 0
+StepsKeepRest p = IsLawful p → MakesPlain p → KeepsRest p
+
+-- a world in order is sound
+abbrev pub OrderIsSound : (V : Type 0) → Type 0
+OrderIsSound V = (w : World V) → IsInOrder w → IsSound w
+
+-- where the root is closing everybody is cancelled
+abbrev pub CancelsAll : (V : Type 0) → Type 0
+CancelsAll V = (w : World V) (who : ℕ) → IsInOrder w → is_closing w.scopes 0 ≡ true → is_there w who ≡ true → is_cancelled w who ≡ true
+
+-- somebody inside a bundle has an answer
+pub record HasGoing {V : Type 0} (w : World V) (name : ℕ) : Type 0 where
+  pub who : ℕ
+  pub inside : Inside w.scopes name who
+  pub answered : is_at is_answered w.coroutines who ≡ true
+
+-- where a bundle is closing in which somebody lives, somebody inside it has an answer once nothing is due
+abbrev pub GoesOn : (V : Type 0) → Type 0
+GoesOn V = (w : World V) (name : ℕ) → IsInOrder w → IsPlain w → IsSettled w → IsAtRest w → is_closing w.scopes name ≡ true → is_empty w.scopes name ≡ false → HasGoing w name
+
+-- where the root is closing and `main` hasn't ended, somebody is queued
+abbrev pub RootGoesOn : {V : Type 0} → Program V → Type 0
+RootGoesOn {V} p = (k : Kept V) → IsWell p k → IsInOrder k.world → IsSettled k.world → IsAtRest k.world → is_closing k.world.scopes 0 ≡ true → k.world.ended ≡ None → has_answer k.ready ≡ true
+
+-- somebody inside a bundle is queued with an answer
+pub record HasQueued {V : Type 0} (k : Kept V) (name : ℕ) : Type 0 where
+  pub who : ℕ
+  pub inside : Inside k.world.scopes name who
+  pub queued : occurs who k.ready ≡ 1
+
+-- where a bundle is closing in which somebody lives, somebody inside it is queued
+abbrev pub BundleGoesOn : {V : Type 0} → Program V → Type 0
+BundleGoesOn {V} p = (k : Kept V) (name : ℕ) → IsWell p k → IsInOrder k.world → IsSettled k.world → IsAtRest k.world → is_closing k.world.scopes name ≡ true → is_empty k.world.scopes name ≡ false → HasQueued k name

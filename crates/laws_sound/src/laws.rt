@@ -1,0 +1,40 @@
+ghost use Rattle.laws_sound.specs.Laws.{KeepsOrder, KeepsRest, OrderIsSound, CancelsAll, GoesOn, RootGoesOn, BundleGoesOn};
+
+use dill_calls::Body;
+use dill_plain::PlainBody;
+
+/// A world in order is sound.
+pub fn order_is_sound<B: Body>()
+    ensures { OrderIsSound B }
+{}
+
+/// Where the root is closing, everybody is cancelled.
+pub fn all_cancelled<B: Body>()
+    ensures { CancelsAll B }
+{}
+
+/// Where a bundle is closing in which somebody lives, somebody inside it has an answer, once nothing is due.
+pub fn closing_goes_on<B: Body>()
+    ensures { GoesOn B }
+{}
+
+/// Where the root is closing and `main` has not ended, somebody is queued with an answer, once nothing is due.
+pub fn root_goes_on<B: PlainBody>()
+    ensures { RootGoesOn B.means }
+{}
+
+/// Where a bundle is closing in which somebody lives, somebody inside it is queued with an answer, once nothing is due.
+pub fn bundle_goes_on<B: PlainBody>()
+    ensures { BundleGoesOn B.means }
+{}
+
+/// Each step of programs that make plain calls keeps what a core keeps in order.
+pub fn steps_keep_order<B: PlainBody>()
+    ensures { KeepsOrder B.means }
+{}
+
+/// Each step of programs that make plain calls leads from rest to rest: nobody is making a call, whoever was answered is
+/// queued, and nothing is due. After an expiry something may be due until the world settles.
+pub fn steps_keep_rest<B: PlainBody>()
+    ensures { KeepsRest B.means }
+{}
