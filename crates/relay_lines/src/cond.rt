@@ -12,7 +12,7 @@ use std::alloc::Global;
 fn relation_of(token: &Token) -> Option<Relation>
     ensures { result ≡ relation_of token.now }
 {
-    relation_named(token.word()?)
+    relation_named(token.plain()?)
 }
 
 /// A condition on a number register.
@@ -50,7 +50,7 @@ fn err_of(token: &Token) -> Option<Cond>
     if token.is_plain(b"none") {
         return Some(Cond::Err(None));
     }
-    Some(Cond::Err(Some(errno_of(token.word()?)?)))
+    Some(Cond::Err(Some(errno_of(token.plain()?)?)))
 }
 
 /// What an `if` asks.

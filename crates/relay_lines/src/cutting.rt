@@ -26,7 +26,7 @@ fn cut_word(alloc: Global, bytes: &[u8]) -> Result<(Token, &[u8]), NoMemory>
 {
     let length = word_length(bytes);
     let word = Octets::from_slice(alloc, &bytes[..length])?;
-    Ok((Token::from_word(word), &bytes[length..]))
+    Ok((Token::from_plain(word), &bytes[length..]))
 }
 
 /// The token at the front, and what stands behind it; nothing where a text has no end, another escape, or something

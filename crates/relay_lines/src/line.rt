@@ -33,7 +33,7 @@ fn params_fit(name: &[u8], params: u8) -> bool
 fn params_of(token: &Token) -> Option<u8>
     ensures { result ≡ option_and_then (number_up_to 16) (plain_in token.now) }
 {
-    byte_up_to(16, token.word()?)
+    byte_up_to(16, token.plain()?)
 }
 
 /// The first line of a program, by its name and its parameters.

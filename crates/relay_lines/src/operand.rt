@@ -13,7 +13,7 @@ use std::alloc::Global;
 pub(crate) fn register_in(token: &Token) -> Option<Register>
     ensures { result ≡ register_in token.now }
 {
-    register_of(token.word()?)
+    register_of(token.plain()?)
 }
 
 /// A token that is a number register.
@@ -53,7 +53,7 @@ fn num_of_plain(word: &[u8]) -> Option<Num>
 pub(crate) fn num_of(token: &Token) -> Option<Num>
     ensures { result ≡ num_of token.now }
 {
-    num_of_plain(token.word()?)
+    num_of_plain(token.plain()?)
 }
 
 /// A token that is a text or a byte register.
@@ -81,14 +81,14 @@ fn wait_of_plain(word: &[u8]) -> Option<Wait>
 fn wait_of(token: &Token) -> Option<Wait>
     ensures { result ≡ wait_of token.now }
 {
-    wait_of_plain(token.word()?)
+    wait_of_plain(token.plain()?)
 }
 
 /// A token that is a name.
 pub(crate) fn name_of(alloc: Global, token: &Token) -> Result<Option<Octets>, NoMemory>
     ensures { IfOk result (λ r. r ≡ name_of token.now) }
 {
-    match token.word() {
+    match token.plain() {
         Some(word) if is_name(word) => Ok(Some(Octets::from_slice(alloc, word)?)),
         _ => Ok(None),
     }
@@ -106,11 +106,11 @@ pub(crate) fn operand_of(
         Kind::Num => Ok(num_of(token).map(Operand::Num)),
         Kind::Bytes => Ok(bytes_of(alloc, token)?.map(Operand::Bytes)),
         Kind::Wait => Ok(wait_of(token).map(Operand::Wait)),
-        Kind::Address => Ok(token.word().and_then(address_of).map(Operand::Address)),
+        Kind::Address => Ok(token.plain().and_then(address_of).map(Operand::Address)),
         Kind::Program => Ok(name_of(alloc, token)?.map(Operand::Program)),
-        Kind::Order => Ok(token.word().and_then(order_of).map(Operand::Order)),
-        Kind::Mode => Ok(token.word().and_then(mode_of).map(Operand::Mode)),
-        Kind::Role => Ok(token.word().and_then(role_of).map(Operand::Role)),
+        Kind::Order => Ok(token.plain().and_then(order_of).map(Operand::Order)),
+        Kind::Mode => Ok(token.plain().and_then(mode_of).map(Operand::Mode)),
+        Kind::Role => Ok(token.plain().and_then(role_of).map(Operand::Role)),
     }
 }
 

@@ -112,7 +112,7 @@ pub(crate) fn fail_of(tokens: &[Token]) -> Option<Statement>
     ensures { result ≡ fail_of tokens.now }
 {
     match tokens {
-        [errno] => Some(Statement::Fail(errno_of(errno.word()?)?)),
+        [errno] => Some(Statement::Fail(errno_of(errno.plain()?)?)),
         _ => None,
     }
 }

@@ -175,8 +175,8 @@ fn a_line_has_its_parts(rt: HostRuntime) -> Result<(), Fail> {
     let all = tokens.as_slice();
     assert_eq!(rt; all.len(), 7);
     assert_eq!(rt; all[0].is_plain(b"try"), true);
-    assert_eq!(rt; all[4].word(), Some(b"http_recvfield".as_slice()));
-    assert_eq!(rt; all[6].word(), None);
+    assert_eq!(rt; all[4].plain(), Some(b"http_recvfield".as_slice()));
+    assert_eq!(rt; all[6].plain(), None);
     assert_eq!(rt; all[6].text(), Some(b"#z".as_slice()));
     let heading = heading_of(rt.alloc(), all).map_err(|_| Fail::from("memory"))?;
     assert_eq!(rt; heading.tried(), true);

@@ -31,7 +31,7 @@ impl Model for Token {
 
 impl Token {
     /// A word as it stands.
-    pub(crate) fn from_word(word: Octets) -> Token
+    pub(crate) fn from_plain(word: Octets) -> Token
         ensures { result ≡ Plain word }
     {
         Token {
@@ -49,7 +49,7 @@ impl Token {
     }
 
     /// The bytes of a word; none of a text.
-    pub fn word(&self) -> Option<&[u8]>
+    pub fn plain(&self) -> Option<&[u8]>
         ensures { option_map (λ x. x.now) result ≡ plain_in self.now }
     {
         match &self.spelled {
@@ -72,7 +72,7 @@ impl Token {
     pub fn is_plain(&self, word: &[u8]) -> bool
         ensures { result ≡ is_plain word.now self.now }
     {
-        match self.word() {
+        match self.plain() {
             Some(bytes) => bytes == word,
             None => false,
         }
