@@ -1,5 +1,6 @@
 -- Passed deadlines, one after the other.
 use Rattle.std.proofs.Common.{◌≡◌, ◌∙◌, ℕ, List, [], ◌∷◌, map, filter_map, ◌&&◌, Bool, true, false, Option, Some, None, IfSome, if◌then◌else◌, nat_le, refl, ap}
+use Rattle.std.proofs.lemmas.Bool.{and_parts}
 use Rattle.std.specs.List.{list_all, cons_option}
 use Rattle.dill_calls.specs.declared.call.Call.{Call}
 use Rattle.dill_base.specs.Maps.{if_some}
@@ -26,14 +27,10 @@ pub begins_not : (xs : List ℕ) → first_of xs ≡ None → xs ≡ []
 begins_not [] e = refl
 begins_not (y ∷ xs) e = cc
 
-both : (a b : Bool) → (a && b) ≡ true → (a ≡ true) × (b ≡ true)
-both true b e = (refl, e)
-both false b e = cc
-
 -- what holds of all holds of the first
 pub first_all : (test : ℕ → Bool) (xs : List ℕ) → list_all test xs ≡ true → IfSome (first_of xs) (λ x. test x ≡ true)
 first_all test [] e = tt
-first_all test (x ∷ xs) e = (both (test x) (list_all test xs) e).0
+first_all test (x ∷ xs) e = (and_parts (test x) (list_all test xs) e).0
 
 lined_pending : (mode : Mode) → pending_call (lined_mode mode) ≡ pending_call mode
 lined_pending (modes.Pending call) = refl

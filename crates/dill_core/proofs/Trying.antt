@@ -1,5 +1,6 @@
 -- Where there are no links, nobody's wait ends by one.
 use Rattle.std.proofs.Common.{◌≡◌, ◌∙◌, List, [], ◌∷◌, length, filter_map, not, ◌&&◌, ◌||◌, Bool, true, false, Option, Some, None, if◌then◌else◌, is_some, is_none, nat_lt, refl, ap}
+use Rattle.std.proofs.lemmas.Bool.{and_parts}
 use Rattle.std.specs.List.{list_all, list_any, cons_option}
 use Rattle.std.specs.Option.{option_map}
 use Rattle.dill_calls.specs.declared.call.Call.{Call}
@@ -16,10 +17,6 @@ use Rattle.laws_queue.specs.Kept.{Kept, has_answer, kept_limit, kept_stuck}
 use Rattle.laws_queue.specs.Plain.{may_wait, waits_plainly, IsPlain}
 use Rattle.laws_queue.proofs.Following.{tries_none, closes_none}
 
-both : (a b : Bool) → (a && b) ≡ true → (a ≡ true) × (b ≡ true)
-both true b e = (refl, e)
-both false b e = cc
-
 -- a call that may wait without links uses none
 uses_none : (call : Call) → may_wait call ≡ true → uses_link (word_of call) ≡ false
 uses_none (calls.Msleep deadline) e = refl
@@ -35,7 +32,7 @@ module _ {V : Type 0} where
   awaits_none : (cs : List (Coroutine V)) → list_all waits_plainly cs ≡ true → list_any (λ x. uses_link x.word) (filter_map waiter_of cs) ≡ false
   awaits_none [] e = refl
   awaits_none (c ∷ cs) e =
-      let b = both (waits_plainly c) (list_all waits_plainly cs) e in
+      let b = and_parts (waits_plainly c) (list_all waits_plainly cs) e in
       awaits_at c (pending_call c.mode) (filter_map waiter_of cs) b.0 (awaits_none cs b.1)
 
   -- where nobody has an answer the next wait lasts until the least deadline

@@ -1,5 +1,6 @@
 -- What happened in a run, one thing after the other, is what is computed from the kernel's replies, the refusals of memory and the failed write.
 use Rattle.std.proofs.Common.{◌≡◌, inl, ◌∙◌, ℕ, suc, ◌+◌, ◌-◌, ◌<◌, ◌≤◌, ◌==◌, List, [], ◌∷◌, ◌++◌, length, take, map, Option, Some, None, Bool, true, false, ◌&&◌, nat_lt, if◌then◌else◌, refl, sym, ap, subst, arith, append_assoc, length-append}
+use Rattle.std.proofs.lemmas.Bool.{and_parts}
 use Rattle.std.proofs.lemmas.Bool.Decides.{nat_tests}
 use Rattle.std.proofs.lemmas.List.{append-nil}
 use Rattle.std.proofs.lemmas.Slice.Eq.{bytes_eq-Decides}
@@ -94,18 +95,13 @@ within shown size part less =
     let gone : shown + part - shown ≡ part = omega arith in
     rw (test, gone) refl
 
-both : (a b : Bool) → (a && b) ≡ true → (a ≡ true) × (b ≡ true)
-both true true e = (refl, refl)
-both true false e = cc
-both false b e = cc
-
 bytes_same : (xs ys : List ℕ) → bytes_eq xs ys ≡ true → xs ≡ ys
 bytes_same xs ys e = (bytes_eq-Decides xs ys).0 e
 
 -- what is known of a part that went out
 part_is : (part bytes : List ℕ) → is_proper_part part bytes ≡ true → (length part < length bytes) × (take (length part) bytes ≡ part)
 part_is part bytes e =
-    let tests = both (nat_lt (length part) (length bytes)) (bytes_eq part (take (length part) bytes)) e in
+    let tests = and_parts (nat_lt (length part) (length bytes)) (bytes_eq part (take (length part) bytes)) e in
     let less : length part < length bytes = grind (arith, nat_tests, tests.0) in
     (less, sym (bytes_same part (take (length part) bytes) tests.1))
 

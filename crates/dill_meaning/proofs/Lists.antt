@@ -1,5 +1,6 @@
 -- What stands ahead in a list, and how many of it pass a test.
 use Rattle.std.proofs.Common.{◌≡◌, ◌≤◌, ◌+◌, ℕ, zero, suc, List, [], ◌∷◌, drop, slice_get, Some, count_by, Bool, true, false, refl, arith, cond, ◌&&◌}
+use Rattle.std.proofs.lemmas.Bool.{and_parts}
 use Rattle.std.proofs.Math.Nat.{le_trans}
 use Rattle.std.proofs.lemmas.List.Sums.{sum_by-cons}
 use Rattle.std.specs.List.{list_all}
@@ -41,12 +42,8 @@ count_ahead p zero xs = omega arith
 count_ahead p (suc n) [] = omega arith
 count_ahead p (suc n) (x ∷ xs) = le_trans (count_ahead p n xs) (count_more p x xs)
 
-both_parts : (a b : Bool) → (a && b) ≡ true → (a ≡ true) × (b ≡ true)
-both_parts true b e = (refl, e)
-both_parts false b e = cc
-
 -- what all pass, one of them passes
 pub all_at : {X : Type 0} (p : X → Bool) (xs : List X) (n : ℕ) (x : X) → list_all p xs ≡ true → slice_get xs n ≡ Some x → p x ≡ true
 all_at p [] n x a e = cc
-all_at p (y ∷ ys) zero x a e = let h : p y ≡ true = (both_parts (p y) (list_all p ys) a).0 in cc
-all_at p (y ∷ ys) (suc n) x a e = all_at p ys n x (both_parts (p y) (list_all p ys) a).1 e
+all_at p (y ∷ ys) zero x a e = let h : p y ≡ true = (and_parts (p y) (list_all p ys) a).0 in cc
+all_at p (y ∷ ys) (suc n) x a e = all_at p ys n x (and_parts (p y) (list_all p ys) a).1 e

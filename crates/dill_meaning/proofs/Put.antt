@@ -1,5 +1,6 @@
 -- An answer of a call's form is put whole in its registers.
 use Rattle.std.proofs.Common.{◌≡◌, ◌<◌, ◌≤◌, ℕ, List, [], length, slice_get, Bool, true, false, ◌&&◌, nat_le, Some, None, refl, ◌∙◌, arith, leb-true}
+use Rattle.std.proofs.lemmas.Bool.{and_parts}
 use Rattle.std.proofs.lemmas.List.{get_or-set_same, get_or-set_other, length-set}
 use Rattle.dill_calls.specs.CallTable.{Form as AnswerForm, OneNumber, TwoNumbers, OneBytes, TwoBytes, CodeAndBytes, Choice, form_of, answer_form}
 use Rattle.dill_calls.specs.declared.answer.Answer.{Answer}
@@ -13,10 +14,6 @@ use Rattle.dill_meaning.specs.Effects.{put}
 use Rattle.dill_meaning.specs.Putting.{IsWide, Holds, EachAnswerIsPut}
 use Rattle.dill_meaning.specs.Views.{ScriptView, number_in, bytes_in, with_number, with_bytes}
 use Rattle.dill_meaning.proofs.Reached.{one_says}
-
-and_parts : (a b : Bool) → (a && b) ≡ true → (a ≡ true) × (b ≡ true)
-and_parts true b e = (refl, e)
-and_parts false b e = cc
 
 below : (place count : ℕ) → nat_le place 15 ≡ true → count ≡ 16 → place < count
 below place count e f = let h : place ≤ 15 = leb-true place 15 e in omega arith

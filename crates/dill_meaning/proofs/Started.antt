@@ -1,5 +1,6 @@
 -- A program that is started in a script that was read is found under the number that its call has.
 use Rattle.std.proofs.Common.{◌≡◌, ℕ, List, [], ◌∷◌, length, filter_map, find, slice_get, position, Bool, true, false, not, ◌&&◌, ◌||◌, ◌==◌, nat_lt, cond, Option, Some, None, unwrap_or, refl, sym, ap, ◌∙◌, subst, arith, ltb-false}
+use Rattle.std.proofs.lemmas.Bool.{and_parts}
 use Rattle.std.specs.List.{list_all, list_any, position_or_len}
 use Rattle.std.proofs.lemmas.List.Folds.{find_at}
 use Rattle.std.proofs.lemmas.Option.{slice_get_past}
@@ -23,10 +24,6 @@ use Rattle.dill_meaning.specs.Reaching.{KnowsStarted}
 use Rattle.dill_meaning.specs.Values.{values_of}
 use Rattle.dill_meaning.specs.Views.{ScriptView, number_of_name}
 use Rattle.dill_meaning.proofs.Table.{Fits}
-
-and_parts : (a b : Bool) → (a && b) ≡ true → (a ≡ true) × (b ≡ true)
-and_parts true b e = (refl, e)
-and_parts false b e = cc
 
 -- what stands at the first place that passes is what is found
 pub looked_up : {X : Type 0} (p : X → Bool) (xs : List X) (b : Bool) → nat_lt (position_or_len p xs) (length xs) ≡ b → slice_get xs (unwrap_or (position p xs) (length xs)) ≡ find p xs

@@ -1,5 +1,6 @@
 -- No chain of parents is longer than there are coroutines, so the search goes far enough.
 use Rattle.std.proofs.Common.{◌≡◌, ℕ, zero, suc, ◌+◌, ◌-◌, ◌==◌, ◌≤◌, ◌<◌, ◌⊎◌, Bool, true, false, ◌||◌, ◌&&◌, List, [], ◌∷◌, length, refl, sym, ap, ◌∙◌, subst, cond, Option, Some, None, arith, eq-eqb, inl, inr}
+use Rattle.std.proofs.lemmas.Bool.{and_parts, or_right, or_cases}
 use Rattle.std.specs.Prelude.{find, option_map, option_and_then}
 use Rattle.std.proofs.lemmas.Bool.Decides.{Decides-eqb}
 use Rattle.std.proofs.lemmas.List.Folds.{Any-from_list_any, list_any-from_Any}
@@ -11,18 +12,6 @@ use Rattle.dill_scope.specs.Forest.{Inside, lives, under, Rooted, at_root, below
 
 or_left : (b : Bool) → true || b ≡ true
 or_left b = refl
-
-or_right : (a b : Bool) → b ≡ true → a || b ≡ true
-or_right true b e = refl
-or_right false b e = e
-
-or_cases : (a b : Bool) → a || b ≡ true → (a ≡ true) ⊎ (b ≡ true)
-or_cases true b e = inl refl
-or_cases false b e = inr e
-
-and_cases : (a b : Bool) → a && b ≡ true → (a ≡ true) × (b ≡ true)
-and_cases true b e = (refl, e)
-and_cases false b e = cc
 
 -- what one look at a coroutine tells
 home_holds : (o : Option ℕ) (name : ℕ) → o ≡ Some name → if_some o false (λ home. home == name) ≡ true
@@ -197,7 +186,7 @@ pub search_is_cancelled : SearchIsCancelled
 search_is_cancelled s who forest = (
   λ e.
       let (k, x, short, at, holds) = Any-from_list_any (is_closing_over s who) s.bundles e in
-      let both = and_cases x.closing (is_inside s x.name who) holds in
+      let both = and_parts x.closing (is_inside s x.name who) holds in
       record { closed = x; there = (k, short, at); closing = both.0; inside = found_inside s x.name (length s.homes) who both.1 },
   λ c.
       let both : is_closing_over s who c.closed ≡ true = rw (c.closing, inside_found s c.closed.name who forest c.inside) refl in

@@ -3,7 +3,6 @@ pub mod Chains
 pub mod Climbing
 pub mod Elements
 pub mod Firsts
-pub mod Found
 pub mod Growing
 pub mod Leaving
 pub mod Numbered

@@ -1,5 +1,6 @@
 -- The calls of what is read are built.
 use Rattle.std.proofs.Common.{◌≡◌, List, [], ◌∷◌, Bool, true, false, not, ◌&&◌, Option, Some, None, IfSome, option_map, option_and_then, refl, subst, codes}
+use Rattle.std.proofs.lemmas.Bool.{and_from}
 use Rattle.std.specs.List.{list_all}
 use Rattle.dill_calls.specs.declared.word.Word.{Word}
 use Rattle.dill_script.specs.declared.line.Keyword.{Keyword}
@@ -27,9 +28,6 @@ use Rattle.dill_script.proofs.Saying.{says_well, line_says, reads_all}
 use Rattle.dill_script.proofs.Somes.{if_map, if_then, if_only, if_both}
 use Rattle.dill_script.proofs.Spoken.{said_some, version_is}
 use Rattle.dill_script.proofs.Tokenwise.{Leads, after_by}
-
-and_true : (a b : Bool) → a ≡ true → b ≡ true → (a && b) ≡ true
-and_true a b e f = rw e f
 
 not_false : (b : Bool) → not b ≡ false → b ≡ true
 not_false true e = refl
@@ -116,7 +114,7 @@ module _ (built : Word → Bool) where
   lines_known context [] script b l = refl
   lines_known context (list ∷ rest) script b l =
       let e : is_some_with (is_unbuilt built) (heading_of list).keyword ≡ false = subst (λ o. is_some_with (is_unbuilt built) (option_and_then (λ heading. heading.keyword) o) ≡ false) (said_some context list b) l.0.known in
-      and_true (line_says (says_built built) list) (list_all (line_says (says_built built)) rest) (line_known list e) (lines_known (after_by context list) rest script refl l.1)
+      and_from (line_says (says_built built) list) (list_all (line_says (says_built built)) rest) (line_known list e) (lines_known (after_by context list) rest script refl l.1)
 
   -- the first line, `dill 1`, makes no call
   version_known : (list : List Token) → list ≡ Plain (codes "dill") ∷ Plain (codes "1") ∷ [] → line_says (says_built built) list ≡ true
@@ -124,7 +122,7 @@ module _ (built : Word → Bool) where
 
   all_known : (lists : List (List Token)) (script : List Program) → Leads built opening lists script → list_all (line_says (says_built built)) lists ≡ true
   all_known [] script l = refl
-  all_known (list ∷ rest) script l = and_true (line_says (says_built built) list) (list_all (line_says (says_built built)) rest) (version_known list (version_is list (not_false (is_version (Some list)) l.0.version))) (lines_known (after_by opening list) rest script refl l.1)
+  all_known (list ∷ rest) script l = and_from (line_says (says_built built) list) (list_all (line_says (says_built built)) rest) (version_known list (version_is list (not_false (is_version (Some list)) l.0.version))) (lines_known (after_by opening list) rest script refl l.1)
 
 pub reads_built : ReadsBuilt
 reads_built built text script e =

@@ -1,6 +1,6 @@
 -- The canonical text of what was read spells it.
 use Rattle.std.proofs.Common.{◌≡◌, ◌≢◌, ℕ, ◌/◌, ◌%◌, ◌<◌, ◌≤◌, List, [], ◌∷◌, ◌++◌, map, flat_map, unwrap_or, Bool, true, false, not, ◌&&◌, ◌||◌, ◌==◌, nat_le, if◌then◌else◌, Option, Some, None, IfSome, is_some, refl, sym, ap, ◌∙◌, subst, arith, codes, append_assoc, append-nil}
-use Rattle.std.proofs.lemmas.Bool.{eqb-true, le-leb, leb-true}
+use Rattle.std.proofs.lemmas.Bool.{eqb-true, le-leb, leb-true, and_from, and_parts}
 use Rattle.std.specs.List.{list_all}
 use Rattle.dill_script.specs.Blocks.{is_empty}
 use Rattle.dill_script.specs.Lines.{is_line_byte, is_blank, has_tokens, longer, pieces, without_cr, lines_of}
@@ -10,11 +10,7 @@ use Rattle.dill_script.specs.Tokens.{Token, Plain, Text, Mark, Blank, Hash, Quot
 use Rattle.dill_script.proofs.Judging.{spoken_is}
 use Rattle.dill_script.proofs.Printed.{body, body_scanned, digit_is}
 use Rattle.dill_script.proofs.Scanned.{AreWordBytes, AreBytes, IsToken, AreTokens, InTexts, scans, tokens_are, between_by}
-use Rattle.dill_script.proofs.Somes.{and_parts}
 use Rattle.dill_script.proofs.Spellings.{reads_spelling, reads_each}
-
-and_true : (a b : Bool) → a ≡ true → b ≡ true → (a && b) ≡ true
-and_true a b e f = rw e f
 
 -- a line of tokens that may stand, with one at least
 pub record IsLine (list : List Token) : Type 0 where
@@ -91,14 +87,14 @@ spoken_are (line ∷ rest) c t =
 -- bytes of lines, and what is appended
 all_append : (xs ys : List ℕ) → list_all is_line_byte xs ≡ true → list_all is_line_byte ys ≡ true → list_all is_line_byte (xs ++ ys) ≡ true
 all_append [] ys e f = f
-all_append (x ∷ xs) ys e f = let p = and_parts (is_line_byte x) (list_all is_line_byte xs) e in and_true (is_line_byte x) (list_all is_line_byte (xs ++ ys)) p.0 (all_append xs ys p.1 f)
+all_append (x ∷ xs) ys e f = let p = and_parts (is_line_byte x) (list_all is_line_byte xs) e in and_from (is_line_byte x) (list_all is_line_byte (xs ++ ys)) p.0 (all_append xs ys p.1 f)
 
 word_bytes : (bytes : List ℕ) → AreWordBytes bytes → list_all is_line_byte bytes ≡ true
 word_bytes [] w = refl
-word_bytes (byte ∷ bytes) w = and_true (is_line_byte byte) (list_all is_line_byte bytes) w.0.line (word_bytes bytes w.1)
+word_bytes (byte ∷ bytes) w = and_from (is_line_byte byte) (list_all is_line_byte bytes) w.0.line (word_bytes bytes w.1)
 
 line_byte_in : (byte : ℕ) → 32 ≤ byte → byte ≤ 126 → is_line_byte byte ≡ true
-line_byte_in byte l h = or_right (byte == 9) (nat_le 32 byte && nat_le byte 126) (and_true (nat_le 32 byte) (nat_le byte 126) (le-leb 32 byte l) (le-leb byte 126 h))
+line_byte_in byte l h = or_right (byte == 9) (nat_le 32 byte && nat_le byte 126) (and_from (nat_le 32 byte) (nat_le byte 126) (le-leb 32 byte l) (le-leb byte 126 h))
   where
     or_right : (a b : Bool) → b ≡ true → (a || b) ≡ true
     or_right true b e = refl
@@ -134,8 +130,8 @@ byte_line byte false false false true e f x l = refl
 byte_line byte false false false false true f x l = refl
 byte_line byte false false false false false true x l =
     let p = and_parts (nat_le 32 byte) (nat_le byte 126) x in
-    and_true (is_line_byte byte) true (line_byte_in byte (leb-true 32 byte p.0) (leb-true byte 126 p.1)) refl
-byte_line byte false false false false false false x l = all_append (92 ∷ 120 ∷ []) (hex_digit (byte / 16) ∷ hex_digit (byte % 16) ∷ []) refl (and_true (is_line_byte (hex_digit (byte / 16))) (is_line_byte (hex_digit (byte % 16)) && true) (digit_line (byte / 16) (omega arith)) (and_true (is_line_byte (hex_digit (byte % 16))) true (digit_line (byte % 16) (omega arith)) refl))
+    and_from (is_line_byte byte) true (line_byte_in byte (leb-true 32 byte p.0) (leb-true byte 126 p.1)) refl
+byte_line byte false false false false false false x l = all_append (92 ∷ 120 ∷ []) (hex_digit (byte / 16) ∷ hex_digit (byte % 16) ∷ []) refl (and_from (is_line_byte (hex_digit (byte / 16))) (is_line_byte (hex_digit (byte % 16)) && true) (digit_line (byte / 16) (omega arith)) (and_from (is_line_byte (hex_digit (byte % 16))) true (digit_line (byte % 16) (omega arith)) refl))
 
 text_line : (bytes : List ℕ) → AreBytes bytes → list_all is_line_byte (flat_map byte_text bytes) ≡ true
 text_line [] b = refl
@@ -143,7 +139,7 @@ text_line (byte ∷ bytes) b = all_append (byte_text byte) (flat_map byte_text b
 
 token_line : (token : Token) → IsToken token → list_all is_line_byte (token_text token) ≡ true
 token_line (Plain []) t = absurd t
-token_line (Plain (byte ∷ bytes)) t = and_true (is_line_byte byte) (list_all is_line_byte bytes) t.2.line (word_bytes bytes t.3)
+token_line (Plain (byte ∷ bytes)) t = and_from (is_line_byte byte) (list_all is_line_byte bytes) t.2.line (word_bytes bytes t.3)
 token_line (Text bytes) t = all_append (flat_map byte_text bytes) (34 ∷ []) (text_line bytes t) refl
 
 body_line : (list : List Token) → AreTokens list → list_all is_line_byte (body list) ≡ true
@@ -208,11 +204,11 @@ printed_lines (list ∷ rest) l =
 
 bodies_clean : (lists : List (List Token)) → AreLines lists → list_all (λ line. list_all is_line_byte line) (map body lists) ≡ true
 bodies_clean [] l = refl
-bodies_clean (list ∷ rest) l = and_true (list_all is_line_byte (body list)) (list_all (λ line. list_all is_line_byte line) (map body rest)) (body_line list l.0.tokens) (bodies_clean rest l.1)
+bodies_clean (list ∷ rest) l = and_from (list_all is_line_byte (body list)) (list_all (λ line. list_all is_line_byte line) (map body rest)) (body_line list l.0.tokens) (bodies_clean rest l.1)
 
 bodies_read : (lists : List (List Token)) → AreLines lists → list_all (λ line. is_some (tokens line)) (map body lists) ≡ true
 bodies_read [] l = refl
-bodies_read (list ∷ rest) l = and_true (is_some (tokens (body list))) (list_all (λ line. is_some (tokens line)) (map body rest)) (ap is_some (body_scanned list l.0.tokens)) (bodies_read rest l.1)
+bodies_read (list ∷ rest) l = and_from (is_some (tokens (body list))) (list_all (λ line. is_some (tokens line)) (map body rest)) (ap is_some (body_scanned list l.0.tokens)) (bodies_read rest l.1)
 
 same_token_lines : (x y : List Token) (xs ys : List (List Token)) → x ≡ y → xs ≡ ys → x ∷ xs ≡ y ∷ ys
 same_token_lines x y xs ys e f = cc

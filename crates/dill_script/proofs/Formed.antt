@@ -1,5 +1,6 @@
 -- The call of a line has operands and registers as its word asks for them.
 use Rattle.std.proofs.Common.{◌≡◌, ℕ, List, [], ◌∷◌, length, Bool, true, false, ◌&&◌, nat_le, if◌then◌else◌, Option, Some, None, IfSome, option_map, refl, arith, codes}
+use Rattle.std.proofs.lemmas.Bool.{and_from, and_parts}
 use Rattle.std.specs.List.{list_all}
 use Rattle.dill_calls.specs.CallTable.{Form, OneNumber, TwoNumbers, OneBytes, TwoBytes, CodeAndBytes, Choice, form_of}
 use Rattle.dill_calls.specs.declared.word.Word.{Word}
@@ -17,7 +18,7 @@ use Rattle.dill_script.specs.Numbers.{each, joined, is_decimal, value_of, number
 use Rattle.dill_script.specs.Operands.{operand_of, item_of, items_of, send_of, recv_of, args_of, clauses_of, rest_of, operands_of, dest_of, num_of, bytes_of, number_register}
 use Rattle.dill_script.specs.Statements.{dest_at}
 use Rattle.dill_script.specs.Tokens.{Token, is_plain}
-use Rattle.dill_script.proofs.Somes.{if_map, if_or, if_then, if_test, if_only, if_joined, and_parts}
+use Rattle.dill_script.proofs.Somes.{if_map, if_or, if_then, if_test, if_only, if_joined}
 
 pub always : {X : Type 0} (P : X → Type 0) (o : Option X) → ((x : X) → P x) → IfSome o P
 always P None h = tt
@@ -26,9 +27,6 @@ always P (Some x) h = h x
 -- a value that is made of another one passes, whatever that is
 pub mapped : {X Y : Type 0} (P : Y → Type 0) (f : X → Y) (o : Option X) → ((x : X) → P (f x)) → IfSome (option_map f o) P
 mapped P f o h = if_map P f o (always (λ x. P (f x)) o h)
-
-and_true : (a b : Bool) → a ≡ true → b ≡ true → (a && b) ≡ true
-and_true a b e f = rw e f
 
 -- a number up to the greatest is no greater
 pub number_small : (greatest : ℕ) (word : List ℕ) → IfSome (number_up_to greatest word) (λ value. nat_le value greatest ≡ true)
@@ -50,7 +48,7 @@ FitRest rest list = list_all (is_rest rest) list ≡ true
 
 -- one before others
 one_more : (rest : Rest) (o : Option Operand) (os : Option (List Operand)) → IfSome o (λ operand. is_rest rest operand ≡ true) → IfSome os (FitRest rest) → IfSome (joined o os) (FitRest rest)
-one_more rest o os h k = if_joined (λ operand. is_rest rest operand ≡ true) (FitRest rest) (FitRest rest) o os (λ operand list e f. and_true (is_rest rest operand) (list_all (is_rest rest) list) e f) h k
+one_more rest o os h k = if_joined (λ operand. is_rest rest operand ≡ true) (FitRest rest) (FitRest rest) o os (λ operand list e f. and_from (is_rest rest operand) (list_all (is_rest rest) list) e f) h k
 
 item_fits : (token : Token) → IfSome (item_of token) (λ operand. is_rest rests.Items operand ≡ true)
 item_fits token = if_or (λ operand. is_rest rests.Items operand ≡ true) (option_map operands.Bytes (bytes_of token)) (option_map (λ place. operands.Num (nums.Register place)) (number_register token))
@@ -61,7 +59,7 @@ item_fits token = if_or (λ operand. is_rest rests.Items operand ≡ true) (opti
 each_fits : (tokens : List Token) → IfSome (each item_of tokens) (λ list. (list_all (is_rest rests.Items) list ≡ true) × (length list ≡ length tokens))
 each_fits [] = (refl, refl)
 each_fits (token ∷ tokens) = if_joined (λ operand. is_rest rests.Items operand ≡ true) (λ list. (list_all (is_rest rests.Items) list ≡ true) × (length list ≡ length tokens)) (λ list. (list_all (is_rest rests.Items) list ≡ true) × (length list ≡ length (token ∷ tokens))) (item_of token) (each item_of tokens)
-    (λ operand list e f. (and_true (is_rest rests.Items operand) (list_all (is_rest rests.Items) list) e f.0, one_longer operand list token tokens f.1)) (item_fits token) (each_fits tokens)
+    (λ operand list e f. (and_from (is_rest rests.Items operand) (list_all (is_rest rests.Items) list) e f.0, one_longer operand list token tokens f.1)) (item_fits token) (each_fits tokens)
   where
     one_longer : (operand : Operand) (list : List Operand) (token : Token) (tokens : List Token) → length list ≡ length tokens → length (operand ∷ list) ≡ length (token ∷ tokens)
     one_longer operand list token tokens e = omega arith
@@ -75,7 +73,7 @@ items_fit tokens = if_test (Behind rests.Items) (nat_le 1 (length tokens) && nat
   where
     so_many : (o : Option (List Operand)) → (nat_le 1 (length tokens) && nat_le (length tokens) 16) ≡ true → IfSome o (λ list. (list_all (is_rest rests.Items) list ≡ true) × (length list ≡ length tokens)) → IfSome o (Behind rests.Items)
     so_many None e h = tt
-    so_many (Some list) e h = and_true (list_all (is_rest rests.Items) list) (is_many rests.Items list) h.0 (same_many (length list) (length tokens) h.1 e)
+    so_many (Some list) e h = and_from (list_all (is_rest rests.Items) list) (is_many rests.Items list) h.0 (same_many (length list) (length tokens) h.1 e)
       where
         same_many : (n m : ℕ) → n ≡ m → (nat_le 1 m && nat_le m 16) ≡ true → (nat_le 1 n && nat_le n 16) ≡ true
         same_many n m f g = rw f g
@@ -104,7 +102,7 @@ clauses_fit _ = tt
 -- where any number may stand
 any_many : (rest : Rest) (o : Option (List Operand)) → ((list : List Operand) → is_many rest list ≡ true) → IfSome o (FitRest rest) → IfSome o (Behind rest)
 any_many rest None m h = tt
-any_many rest (Some list) m h = and_true (list_all (is_rest rest) list) (is_many rest list) h (m list)
+any_many rest (Some list) m h = and_from (list_all (is_rest rest) list) (is_many rest list) h (m list)
 
 rest_fits : (rest : Rest) (tokens : List Token) → IfSome (rest_of rest tokens) (Behind rest)
 rest_fits rests.Nothing [] = refl
@@ -117,7 +115,7 @@ pub operands_fit : (list : List Kind) (rest : Rest) (tokens : List Token) → If
 operands_fit [] rest tokens = rest_fits rest tokens
 operands_fit (kind ∷ more) rest [] = tt
 operands_fit (kind ∷ more) rest (token ∷ tokens) = if_joined (λ operand. is_kind kind operand ≡ true) (λ found. are_kinds more rest found ≡ true) (λ found. are_kinds (kind ∷ more) rest found ≡ true) (operand_of kind token) (operands_of more rest tokens)
-    (λ operand found e f. and_true (is_kind kind operand) (are_kinds more rest found) e f) (kind_fits kind token) (operands_fit more rest tokens)
+    (λ operand found e f. and_from (is_kind kind operand) (are_kinds more rest found) e f) (kind_fits kind token) (operands_fit more rest tokens)
 
 -- a register that there is
 abbrev pub is_small : Register → Bool

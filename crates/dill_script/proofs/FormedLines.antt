@@ -1,5 +1,6 @@
 -- Each statement of what is read has the form that its word asks for.
 use Rattle.std.proofs.Common.{◌≡◌, ℕ, ◌==◌, List, [], ◌∷◌, Bool, true, false, ◌&&◌, cond, if◌then◌else◌, find, Option, Some, None, IfSome, option_map, option_and_then, bytes_eq, refl, codes}
+use Rattle.std.proofs.lemmas.Bool.{and_from, and_parts}
 use Rattle.std.specs.List.{list_all}
 use Rattle.dill_calls.specs.declared.word.Word.{Word}
 use Rattle.dill_script.specs.declared.line.Keyword.{Keyword}
@@ -20,7 +21,7 @@ use Rattle.dill_script.specs.Tokens.{Token, is_plain}
 use Rattle.dill_script.proofs.Formed.{always, mapped, number_small, is_small, operands_fit, dest_at_fits}
 use Rattle.dill_script.proofs.LineWords.{two_is, none_is}
 use Rattle.dill_script.proofs.Saying.{says_well, line_says, reads_all}
-use Rattle.dill_script.proofs.Somes.{if_map, if_then, if_test, if_only, if_both, and_parts}
+use Rattle.dill_script.proofs.Somes.{if_map, if_then, if_test, if_only, if_both}
 
 -- a line whose statement has its form
 abbrev Formed : Line → Type 0
@@ -30,9 +31,6 @@ Formed line = says_well is_formed (Some line) ≡ true
 abbrev is_well : Keyword → Bool
 is_well (keywords.Call word) = is_call_word word
 is_well _ = true
-
-and_true : (a b : Bool) → a ≡ true → b ≡ true → (a && b) ≡ true
-and_true a b e f = rw e f
 
 -- what is found among such as pass a test passes it
 found : {X : Type 0} (test : X → Bool) (x : X) (o : Option X) (b : Bool) → test x ≡ true → IfSome o (λ y. test y ≡ true) → IfSome (cond b (Some x) o) (λ y. test y ≡ true)
@@ -69,7 +67,7 @@ with_target_small : (o : Option Register) (p : Option (List Register × List Tok
 with_target_small None None h k = tt
 with_target_small None (Some behind) h k = tt
 with_target_small (Some register) None h k = tt
-with_target_small (Some register) (Some (targets, behind)) h k = and_true (is_small register) (list_all is_small targets) h k
+with_target_small (Some register) (Some (targets, behind)) h k = and_from (is_small register) (list_all is_small targets) h k
 
 targets_small : (tokens : List Token) → IfSome (up_to_equals tokens) AreSmall
 targets_small [] = tt
@@ -102,7 +100,7 @@ says o h = if_map Formed Says o h
 
 call_formed : (tried : Bool) (targets : List Register) (word : Word) (tokens : List Token) → is_call_word word ≡ true → list_all is_small targets ≡ true → IfSome (call_of_line tried word targets tokens) (λ statement. is_formed statement ≡ true)
 call_formed tried targets word tokens e t = if_both (λ dest. may_hold word dest ≡ true) (λ list. are_kinds (kinds_of word) (rest_kind word) list ≡ true) (λ statement. is_formed statement ≡ true) (λ dest operands. statements.Call tried dest (record { word = word; operands = operands })) (dest_at word targets) (operands_of (kinds_of word) (rest_kind word) tokens)
-    (λ dest list f g. and_true (is_call_word word && are_kinds (kinds_of word) (rest_kind word) list) (may_hold word dest) (and_true (is_call_word word) (are_kinds (kinds_of word) (rest_kind word) list) e g) f) (dest_at_fits word targets t) (operands_fit (kinds_of word) (rest_kind word) tokens)
+    (λ dest list f g. and_from (is_call_word word && are_kinds (kinds_of word) (rest_kind word) list) (may_hold word dest) (and_from (is_call_word word) (are_kinds (kinds_of word) (rest_kind word) list) e g) f) (dest_at_fits word targets t) (operands_fit (kinds_of word) (rest_kind word) tokens)
 
 fail_formed : (tokens : List Token) → IfSome (fail_of tokens) (λ statement. is_formed statement ≡ true)
 fail_formed (token ∷ []) = mapped (λ statement. is_formed statement ≡ true) statements.Fail (option_and_then errno_of (plain_in token)) (λ x. refl)
@@ -168,7 +166,7 @@ line_formed list = of_line (line_of (heading_of list)) (headed (heading_of list)
 
 lines_formed : (lists : List (List Token)) → list_all (line_says is_formed) lists ≡ true
 lines_formed [] = refl
-lines_formed (list ∷ rest) = and_true (line_says is_formed list) (list_all (line_says is_formed) rest) (line_formed list) (lines_formed rest)
+lines_formed (list ∷ rest) = and_from (line_says is_formed list) (list_all (line_says is_formed) rest) (line_formed list) (lines_formed rest)
 
 pub reads_formed : ReadsFormed
 reads_formed built text script e = reads_all is_formed (record { end_if = refl; end_loop = refl }) built text script e (lines_formed (spoken (lines_of text)))

@@ -1,5 +1,6 @@
 -- Lines are judged well exactly where their bytes and texts may stand and their tokens lead to the programs.
 use Rattle.std.proofs.Common.{◌≡◌, ℕ, ◌+◌, List, [], ◌∷◌, map, filter, Bool, true, false, not, ◌&&◌, ◌||◌, cond, if◌then◌else◌, Option, Some, None, option_and_then, is_some, is_none, Ok, refl, sym, ap, ◌∙◌, subst}
+use Rattle.std.proofs.lemmas.Bool.{and_parts, or_from, and_from}
 use Rattle.std.specs.List.{list_all}
 use Rattle.dill_calls.specs.declared.word.Word.{Word}
 use Rattle.dill_script.specs.declared.refusal.Reason.{Reason}
@@ -13,7 +14,7 @@ use Rattle.dill_script.specs.Refusals.{faults, first_reason, is_some_with, keywo
 use Rattle.dill_script.specs.Spelling.{tokens_in, spoken}
 use Rattle.dill_script.specs.Statements.{line_of}
 use Rattle.dill_script.specs.Tokens.{Token, tokens}
-use Rattle.dill_script.proofs.Tokenwise.{said_none, or_parts, Leads, Passes, passes, no_reason, fine_of, passes_of, after_is, after_none}
+use Rattle.dill_script.proofs.Tokenwise.{said_none, Leads, Passes, passes, no_reason, fine_of, passes_of, after_is, after_none}
 
 -- bytes and texts as they may be
 pub record AreClean (lines : List (List ℕ)) : Type 0 where
@@ -35,13 +36,6 @@ some_of (Some list) e = refl
 none_of : (o : Option (List Token)) → is_some o ≡ true → is_none o ≡ false
 none_of None e = cc
 none_of (Some list) e = refl
-
-true_and : (a b : Bool) → a ≡ true → b ≡ true → (a && b) ≡ true
-true_and a b e f = rw e f
-
-and_parts : (a b : Bool) → (a && b) ≡ true → (a ≡ true) × (b ≡ true)
-and_parts true b e = (refl, e)
-and_parts false b e = cc
 
 -- the tokens of a line before those of others, where it has some
 pub spoken_is : (line : List ℕ) (rest : List (List ℕ)) (b : Bool) → has_tokens line ≡ b → spoken (line ∷ rest) ≡ (if b then tokens_in line ∷ spoken rest else spoken rest)
@@ -80,7 +74,7 @@ leads_of built number context (line ∷ rest) script c e =
     let d = decided number (first_reason (faults built context (is_empty rest) line)) (judged built (number + 1) (after context line) rest) script e in
     let p : Passes built context (is_empty rest) line = passes built context (is_empty rest) line d.0 in
     let l = leads_of built (number + 1) (after context line) rest script (λ x. closed (is_empty rest) (after context line).open_blocks (is_last rest x) (last_part built context (is_empty rest) line p)) d.1 in (
-      record { bytes = true_and (list_all is_line_byte line) (list_all (λ x. list_all is_line_byte x) rest) (not_false (list_all is_line_byte line) p.bytes) l.0.bytes; texts = true_and (is_some (tokens line)) (list_all (λ x. is_some (tokens x)) rest) (some_of (tokens line) p.texts) l.0.texts },
+      record { bytes = and_from (list_all is_line_byte line) (list_all (λ x. list_all is_line_byte x) rest) (not_false (list_all is_line_byte line) p.bytes) l.0.bytes; texts = and_from (is_some (tokens line)) (list_all (λ x. is_some (tokens x)) rest) (some_of (tokens line) p.texts) l.0.texts },
       leads_step built context line rest script (has_tokens line) refl p l.1,
     )
 
@@ -98,7 +92,7 @@ blank_passes built context last line e b t l m =
       texts = t;
       word = subst (λ h. is_some_with (λ heading. is_none heading.keyword) h ≡ false) s refl;
       known = subst (λ h. is_some_with (is_unbuilt built) (option_and_then (λ heading. heading.keyword) h) ≡ false) s refl;
-      blocks = or_parts (is_some_with (λ keyword. not (may_stand context.open_blocks keyword)) (keyword_said context line)) (last && not (is_empty (after context line).open_blocks)) (subst (λ h. is_some_with (λ keyword. not (may_stand context.open_blocks keyword)) (option_and_then (λ heading. heading.keyword) h) ≡ false) s refl) l;
+      blocks = or_from (is_some_with (λ keyword. not (may_stand context.open_blocks keyword)) (keyword_said context line)) (last && not (is_empty (after context line).open_blocks)) (subst (λ h. is_some_with (λ keyword. not (may_stand context.open_blocks keyword)) (option_and_then (λ heading. heading.keyword) h) ≡ false) s refl) l;
       spells = subst (λ h. is_some_with (λ heading. is_none (line_of heading)) h ≡ false) s refl;
       name = subst (λ h. is_some_with (names_again context.whole) (option_and_then line_of h) ≡ false) s refl;
       limit = subst (λ c. passes_limit c ≡ false) (sym (after_none context line e)) m;

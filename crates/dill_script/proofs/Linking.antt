@@ -1,5 +1,6 @@
 -- What else a script asks of its lines is asked of their tokens.
 use Rattle.std.proofs.Common.{◌≡◌, ℕ, ◌+◌, List, [], ◌∷◌, length, Bool, true, false, not, ◌||◌, ◌==◌, nat_lt, if◌then◌else◌, Option, Some, None, option_and_then, unwrap_or, Ok, Err, refl, sym, ap, ◌∙◌, subst, codes}
+use Rattle.std.proofs.lemmas.Bool.{or_parts, or_from}
 use Rattle.std.specs.List.{list_any}
 use Rattle.dill_calls.specs.declared.word.Word.{Word}
 use Rattle.dill_script.specs.declared.script.Program.{Program}
@@ -42,15 +43,8 @@ none_here : (number : ℕ) (b : Bool) (further : Option ℕ) → b ≡ false →
 none_here number true further e f = cc
 none_here number false further e f = f
 
-or_both : (a b : Bool) → a ≡ false → b ≡ false → (a || b) ≡ false
-or_both a b e f = rw e f
-
-or_each : (a b : Bool) → (a || b) ≡ false → (a ≡ false) × (b ≡ false)
-or_each true b e = cc
-or_each false b e = (refl, e)
-
 spoken_step : (script : List Program) (line : List ℕ) (rest : List (List ℕ)) (b : Bool) → has_tokens line ≡ b → starts_none script line ≡ false → list_any (starts_by script) (spoken rest) ≡ false → list_any (starts_by script) (spoken (line ∷ rest)) ≡ false
-spoken_step script line rest true e f g = ap (list_any (starts_by script)) (spoken_is line rest true e) ∙ or_both (starts_by script (tokens_in line)) (list_any (starts_by script) (spoken rest)) f g
+spoken_step script line rest true e f g = ap (list_any (starts_by script)) (spoken_is line rest true e) ∙ or_from (starts_by script (tokens_in line)) (list_any (starts_by script) (spoken rest)) f g
 spoken_step script line rest false e f g = ap (list_any (starts_by script)) (spoken_is line rest false e) ∙ g
 
 -- no line starts a program that isn't there
@@ -61,7 +55,7 @@ without_spoken script number (line ∷ rest) e =
     spoken_step script line rest (has_tokens line) refl h.0 (without_spoken script (number + 1) rest h.1)
 
 starts_step : (script : List Program) (line : List ℕ) (rest : List (List ℕ)) (b : Bool) → has_tokens line ≡ b → list_any (starts_by script) (spoken (line ∷ rest)) ≡ false → (starts_none script line ≡ false) × (list_any (starts_by script) (spoken rest) ≡ false)
-starts_step script line rest true e f = or_each (starts_by script (tokens_in line)) (list_any (starts_by script) (spoken rest)) (ap (list_any (starts_by script)) (sym (spoken_is line rest true e)) ∙ f)
+starts_step script line rest true e f = or_parts (starts_by script (tokens_in line)) (list_any (starts_by script) (spoken rest)) (ap (list_any (starts_by script)) (sym (spoken_is line rest true e)) ∙ f)
 starts_step script line rest false e f = (ap (λ o. starts_by script (unwrap_or o [])) (blank_tokens line e), ap (list_any (starts_by script)) (sym (spoken_is line rest false e)) ∙ f)
 
 pub spoken_without : (script : List Program) (number : ℕ) (lines : List (List ℕ)) → list_any (starts_by script) (spoken lines) ≡ false → first_without script number lines ≡ None

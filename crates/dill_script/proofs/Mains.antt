@@ -1,5 +1,6 @@
 -- A program of what is read takes at most 16 arguments, and `main` none.
 use Rattle.std.proofs.Common.{◌≡◌, List, [], ◌∷◌, Bool, true, false, ◌&&◌, nat_le, if◌then◌else◌, Option, Some, None, IfSome, option_and_then, refl, subst}
+use Rattle.std.proofs.lemmas.Bool.{and_from}
 use Rattle.std.specs.List.{list_all}
 use Rattle.dill_calls.specs.declared.word.Word.{Word}
 use Rattle.dill_script.specs.declared.line.Block.{Block}
@@ -30,9 +31,6 @@ abbrev OpensWell : Line → Type 0
 OpensWell (Opens name params) = (params_fit name params && nat_le params 16) ≡ true
 OpensWell _ = Unit {0}
 
-and_true : (a b : Bool) → a ≡ true → b ≡ true → (a && b) ≡ true
-and_true a b e f = rw e f
-
 count_small : (token : Token) → IfSome (option_and_then (number_up_to 16) (plain_in token)) (λ count. nat_le count 16 ≡ true)
 count_small token = if_then (λ count. nat_le count 16 ≡ true) (number_up_to 16) (plain_in token) (always (λ word. IfSome (number_up_to 16 word) (λ count. nat_le count 16 ≡ true)) (plain_in token) (number_small 16))
 
@@ -40,7 +38,7 @@ program_opens : (a b : Token) → IfSome (program_of a b) OpensWell
 program_opens a b = if_then OpensWell (λ name. option_and_then (λ count. only_if (params_fit name count) (Opens name count)) (option_and_then (number_up_to 16) (plain_in b))) (name_of a)
     (always (λ name. IfSome (option_and_then (λ count. only_if (params_fit name count) (Opens name count)) (option_and_then (number_up_to 16) (plain_in b))) OpensWell) (name_of a)
     (λ name. if_then OpensWell (λ count. only_if (params_fit name count) (Opens name count)) (option_and_then (number_up_to 16) (plain_in b))
-    (if_more (λ count. nat_le count 16 ≡ true) (λ count. IfSome (only_if (params_fit name count) (Opens name count)) OpensWell) (option_and_then (number_up_to 16) (plain_in b)) (λ count small. if_only OpensWell (params_fit name count) (Opens name count) (λ e. and_true (params_fit name count) (nat_le count 16) e small)) (count_small b))))
+    (if_more (λ count. nat_le count 16 ≡ true) (λ count. IfSome (only_if (params_fit name count) (Opens name count)) OpensWell) (option_and_then (number_up_to 16) (plain_in b)) (λ count small. if_only OpensWell (params_fit name count) (Opens name count) (λ e. and_from (params_fit name count) (nat_le count 16) e small)) (count_small b))))
 
 -- a line of another word opens none
 abbrev is_program : Keyword → Bool

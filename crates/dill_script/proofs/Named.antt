@@ -1,5 +1,6 @@
 -- No two programs of what is read have one name.
 use Rattle.std.proofs.Common.{◌≡◌, ℕ, List, [], ◌∷◌, ◌++◌, Bool, true, false, not, ◌&&◌, ◌||◌, Option, Some, None, option_and_then, is_none, bytes_eq, refl, sym, ap, subst}
+use Rattle.std.proofs.lemmas.Bool.{and_parts, or_parts, or_from}
 use Rattle.std.specs.List.{list_any}
 use Rattle.dill_calls.specs.declared.word.Word.{Word}
 use Rattle.dill_script.specs.declared.line.Block.{Block}
@@ -22,14 +23,6 @@ use Rattle.dill_script.proofs.Tokenwise.{IsFine, Leads, said_by, after_by}
 use Rattle.dill_script.proofs.Words.{bytes_same}
 use Rattle.dill_script.proofs.Written.{Nested, Matches, Adds, StaysOpen, says_open}
 
-and_parts : (a b : Bool) → (a && b) ≡ true → (a ≡ true) × (b ≡ true)
-and_parts true b e = (refl, e)
-and_parts false b e = cc
-
-or_parts : (a b : Bool) → (a || b) ≡ false → (a ≡ false) × (b ≡ false)
-or_parts true b e = cc
-or_parts false b e = (refl, e)
-
 not_false : (b : Bool) → not b ≡ false → b ≡ true
 not_false true e = refl
 not_false false e = cc
@@ -40,9 +33,6 @@ true_not false e = refl
 
 both : (a b : Bool) → a ≡ false → b ≡ true → (not a && b) ≡ true
 both a b e f = rw e f
-
-neither : (a b : Bool) → a ≡ false → b ≡ false → (a || b) ≡ false
-neither a b e f = rw e f
 
 -- a name isn't another's, whichever is asked
 turned : (xs ys : List ℕ) (b : Bool) → bytes_eq ys xs ≡ b → bytes_eq xs ys ≡ false → b ≡ false
@@ -56,10 +46,10 @@ turned xs ys true e f =
 
 -- a program behind others of which none has its name
 none_more : (name : List ℕ) (rest : List Program) (program : Program) → list_any (has_name name) rest ≡ false → has_name name program ≡ false → list_any (has_name name) (rest ++ program ∷ []) ≡ false
-none_more name [] program e f = neither (has_name name program) false f refl
+none_more name [] program e f = or_from (has_name name program) false f refl
 none_more name (first ∷ rest) program e f =
     let p = or_parts (has_name name first) (list_any (has_name name) rest) e in
-    neither (has_name name first) (list_any (has_name name) (rest ++ program ∷ [])) p.0 (none_more name rest program p.1 f)
+    or_from (has_name name first) (list_any (has_name name) (rest ++ program ∷ [])) p.0 (none_more name rest program p.1 f)
 
 apart_more : (programs : List Program) (program : Program) → are_apart programs ≡ true → list_any (has_name program.name) programs ≡ false → are_apart (programs ++ program ∷ []) ≡ true
 apart_more [] program e f = refl

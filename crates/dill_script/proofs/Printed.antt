@@ -1,12 +1,11 @@
 -- The text of tokens is scanned as these tokens.
 use Rattle.std.proofs.Common.{◌≡◌, ◌≢◌, ℕ, zero, suc, ◌+◌, ◌*◌, ◌/◌, ◌%◌, ◌<◌, List, [], ◌∷◌, ◌++◌, map, flat_map, Bool, true, false, ◌&&◌, ◌==◌, nat_le, if◌then◌else◌, Option, Some, refl, sym, ap, ◌∙◌, subst, arith, codes, append_assoc, append-nil}
-use Rattle.std.proofs.lemmas.Bool.{eqb-true, eq-eqb}
+use Rattle.std.proofs.lemmas.Bool.{eqb-true, eq-eqb, and_parts}
 use Rattle.std.specs.List.{join_with_byte}
 use Rattle.dill_script.specs.Lines.{is_blank}
 use Rattle.dill_script.specs.Printing.{hex_digit, byte_text, token_text}
 use Rattle.dill_script.specs.Tokens.{Token, Plain, Text, Mark, Blank, Hash, Quote, Backslash, Other, Between, InPlain, InText, BehindText, mark_of, is_hex, hex_value, put, before, tokens, tokens_from}
 use Rattle.dill_script.proofs.Scanned.{AreWordBytes, AreBytes, IsToken, AreTokens, between_by, keyword_by, text_by, hex_by, low_by}
-use Rattle.dill_script.proofs.Somes.{and_parts}
 
 -- bytes at the front of the first token
 abbrev put_all : List ℕ → Option (List Token) → Option (List Token)

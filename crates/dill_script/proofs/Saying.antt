@@ -1,5 +1,6 @@
 -- A test that the statement of each line passes is passed by each statement of what is read.
 use Rattle.std.proofs.Common.{◌≡◌, ℕ, List, [], ◌∷◌, ◌++◌, Bool, true, false, ◌&&◌, if◌then◌else◌, Option, Some, None, Ok, refl, subst}
+use Rattle.std.proofs.lemmas.Bool.{and_from, and_parts}
 use Rattle.std.specs.List.{list_all}
 use Rattle.dill_calls.specs.declared.word.Word.{Word}
 use Rattle.dill_script.specs.declared.line.Block.{Block}
@@ -17,7 +18,6 @@ use Rattle.dill_script.specs.Statements.{Line, Opens, Ends, Says, line_of}
 use Rattle.dill_script.specs.Tokens.{Token}
 use Rattle.dill_script.proofs.Judging.{leads_of}
 use Rattle.dill_script.proofs.Linking.{IsRead, is_read}
-use Rattle.dill_script.proofs.Somes.{and_parts}
 use Rattle.dill_script.proofs.Tokenwise.{Leads, after_by}
 
 -- the statement of a line passes, where there is one
@@ -29,15 +29,12 @@ says_well test _ = true
 abbrev pub line_says : (Statement → Bool) → List Token → Bool
 line_says test list = says_well test (line_of (heading_of list))
 
-and_true : (a b : Bool) → a ≡ true → b ≡ true → (a && b) ≡ true
-and_true a b e f = rw e f
-
 -- one more that passes
 pub all_push : {X : Type 0} (test : X → Bool) (xs : List X) (x : X) → list_all test xs ≡ true → test x ≡ true → list_all test (xs ++ x ∷ []) ≡ true
-all_push test [] x e f = and_true (test x) true f refl
+all_push test [] x e f = and_from (test x) true f refl
 all_push test (first ∷ rest) x e f =
     let p = and_parts (test first) (list_all test rest) e in
-    and_true (test first) (list_all test (rest ++ x ∷ [])) p.0 (all_push test rest x p.1 f)
+    and_from (test first) (list_all test (rest ++ x ∷ [])) p.0 (all_push test rest x p.1 f)
 
 -- a test that the ends of blocks pass
 pub record Tests (test : Statement → Bool) : Type 0 where

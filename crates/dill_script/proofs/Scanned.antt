@@ -1,10 +1,9 @@
 -- The tokens of a line: words of bytes that may stand in words, and texts of bytes.
 use Rattle.std.proofs.Common.{◌≡◌, ℕ, ◌+◌, ◌-◌, ◌*◌, ◌<◌, ◌≤◌, List, [], ◌∷◌, Bool, true, false, ◌&&◌, ◌||◌, ◌==◌, nat_le, if◌then◌else◌, Option, Some, None, IfSome, refl, sym, ◌∙◌, arith, leb-true, ◌≢◌}
-use Rattle.std.proofs.lemmas.Bool.{eqb-true}
+use Rattle.std.proofs.lemmas.Bool.{eqb-true, and_parts}
 use Rattle.std.specs.List.{list_all}
 use Rattle.dill_script.specs.Lines.{is_line_byte, is_blank}
 use Rattle.dill_script.specs.Tokens.{Token, Plain, Text, Mark, Blank, Hash, Quote, Backslash, Other, Place, Between, InPlain, InText, InEscape, InHex, InHexOf, BehindText, mark_of, is_hex, hex_value, escaped, put, before, tokens, tokens_from}
-use Rattle.dill_script.proofs.Somes.{and_parts}
 
 -- a byte of a word
 pub record IsWordByte (byte : ℕ) : Type 0 where

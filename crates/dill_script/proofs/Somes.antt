@@ -1,5 +1,6 @@
 -- A fact of the value of an option, if there is one, through the ways in which options are made.
 use Rattle.std.proofs.Common.{◌≡◌, List, ◌∷◌, Bool, true, false, if◌then◌else◌, Option, Some, None, IfSome, option_map, option_and_then, refl, ◌&&◌}
+use Rattle.std.proofs.lemmas.Bool.{and_parts}
 use Rattle.std.specs.Option.{option_or}
 use Rattle.dill_script.specs.Numbers.{only_if, joined}
 use Rattle.dill_script.specs.Statements.{both}
@@ -40,7 +41,3 @@ if_both P Q R g None None f h k = tt
 if_both P Q R g None (Some y) f h k = tt
 if_both P Q R g (Some x) None f h k = tt
 if_both P Q R g (Some x) (Some y) f h k = f x y h k
-
-pub and_parts : (a b : Bool) → (a && b) ≡ true → (a ≡ true) × (b ≡ true)
-and_parts true b e = (refl, e)
-and_parts false b e = cc

@@ -1,5 +1,6 @@
 -- Each program that a statement of what is read starts is there, with so many parameters as it is given arguments.
 use Rattle.std.proofs.Common.{◌≡◌, ℕ, List, [], ◌∷◌, Bool, true, false, not, ◌||◌, ◌&&◌, Option, Some, None, option_and_then, refl}
+use Rattle.std.proofs.lemmas.Bool.{and_from, or_parts}
 use Rattle.std.specs.List.{list_all, list_any}
 use Rattle.dill_script.specs.declared.script.Program.{Program}
 use Rattle.dill_script.specs.Headings.{heading_of}
@@ -11,13 +12,6 @@ use Rattle.dill_script.specs.Statements.{Line, Opens, Ends, Says, line_of}
 use Rattle.dill_script.specs.Tokens.{Token}
 use Rattle.dill_script.proofs.Linking.{IsRead, is_read, starts_by, without_spoken}
 use Rattle.dill_script.proofs.Saying.{says_well, line_says, reads_all}
-
-or_parts : (a b : Bool) → (a || b) ≡ false → (a ≡ false) × (b ≡ false)
-or_parts true b e = cc
-or_parts false b e = (refl, e)
-
-and_true : (a b : Bool) → a ≡ true → b ≡ true → (a && b) ≡ true
-and_true a b e f = rw e f
 
 not_false : (b : Bool) → not b ≡ false → b ≡ true
 not_false true e = refl
@@ -37,7 +31,7 @@ lines_start : (script : List Program) (lists : List (List Token)) → list_any (
 lines_start script [] e = refl
 lines_start script (list ∷ rest) e =
     let p = or_parts (starts_by script list) (list_any (starts_by script) rest) e in
-    and_true (line_says (starts_there script) list) (list_all (line_says (starts_there script)) rest) (line_starts script (line_of (heading_of list)) p.0) (lines_start script rest p.1)
+    and_from (line_says (starts_there script) list) (list_all (line_says (starts_there script)) rest) (line_starts script (line_of (heading_of list)) p.0) (lines_start script rest p.1)
 
 pub reads_starts : ReadsStarts
 reads_starts built text script e =

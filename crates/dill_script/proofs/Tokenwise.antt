@@ -1,5 +1,6 @@
 -- Judging lines looks at nothing but the tokens of those that have some.
 use Rattle.std.proofs.Common.{◌≡◌, ℕ, List, [], ◌∷◌, Bool, true, false, not, ◌&&◌, ◌||◌, if◌then◌else◌, Option, Some, None, option_and_then, is_none, unwrap_or, refl, sym, ◌∙◌, subst}
+use Rattle.std.proofs.lemmas.Bool.{or_from, or_parts, or_right}
 use Rattle.std.specs.List.{list_all}
 use Rattle.dill_calls.specs.declared.word.Word.{Word}
 use Rattle.dill_script.specs.declared.line.Keyword.{Keyword}
@@ -54,10 +55,6 @@ said_none context line e = at_none context.begun (has_tokens line) e
     at_none true t e = rw e refl
     at_none false t e = refl
 
-or_true : (a b : Bool) → b ≡ true → (a || b) ≡ true
-or_true true b e = refl
-or_true false b e = e
-
 or_false : (a b : Bool) → b ≡ false → (a || b) ≡ a
 or_false true b e = refl
 or_false false b e = e
@@ -66,7 +63,7 @@ with_begun : (context : Context) (head other : Option Heading) (b c : Bool) → 
 with_begun context head other b c e f = rw e (rw f refl)
 
 pub after_is : (context : Context) (line : List ℕ) → has_tokens line ≡ true → after context line ≡ after_by context (tokens_in line)
-after_is context line e = with_begun context (said context line) (said_by context (tokens_in line)) (context.begun || has_tokens line) true (said_is context line e) (or_true context.begun (has_tokens line) e)
+after_is context line e = with_begun context (said context line) (said_by context (tokens_in line)) (context.begun || has_tokens line) true (said_is context line e) (or_right context.begun (has_tokens line) e)
 
 pub after_none : (context : Context) (line : List ℕ) → has_tokens line ≡ false → after context line ≡ context
 after_none context line e = with_begun context (said context line) None (context.begun || has_tokens line) context.begun (said_none context line e) (or_false context.begun (has_tokens line) e)
@@ -108,14 +105,6 @@ passes built context last line x =
 pub no_reason : (built : Word → Bool) (context : Context) (last : Bool) (line : List ℕ) → Passes built context last line → first_reason (faults built context last line) ≡ None
 no_reason built context last line p = nine (lacks_version context line) (not (list_all is_line_byte line)) (is_none (tokens line)) (has_unknown_word context line) (is_some_with (is_unbuilt built) (keyword_said context line)) (breaks_blocks context last line) (misspells context line) (repeats_name context line) (passes_limit (after context line)) p.version p.bytes p.texts p.word p.known p.blocks p.spells p.name p.limit
 
--- tests of a line with tokens are tests of its tokens
-parts_or : (a b : Bool) → (a || b) ≡ false → (a ≡ false) × (b ≡ false)
-parts_or true b e = cc
-parts_or false b e = (refl, e)
-
-pub or_parts : (a b : Bool) → a ≡ false → b ≡ false → (a || b) ≡ false
-or_parts a b e f = rw e f
-
 some_tokens : (o : Option (List Token)) → is_none o ≡ false → o ≡ Some (unwrap_or o [])
 some_tokens None e = cc
 some_tokens (Some list) e = refl
@@ -127,7 +116,7 @@ version_by begun t o p e f = rw e (rw f refl)
 pub fine_of : (built : Word → Bool) (context : Context) (last : Bool) (line : List ℕ) → has_tokens line ≡ true → Passes built context last line → IsFine built context (tokens_in line)
 fine_of built context last line e p =
     let s : said context line ≡ said_by context (tokens_in line) = said_is context line e in
-    let b = parts_or (is_some_with (λ keyword. not (may_stand context.open_blocks keyword)) (keyword_said context line)) (last && not (is_empty (after context line).open_blocks)) p.blocks in
+    let b = or_parts (is_some_with (λ keyword. not (may_stand context.open_blocks keyword)) (keyword_said context line)) (last && not (is_empty (after context line).open_blocks)) p.blocks in
     record {
       version = sym (version_by context.begun (has_tokens line) (tokens line) (Some (tokens_in line)) e (some_tokens (tokens line) p.texts)) ∙ p.version;
       word = subst (λ h. is_some_with (λ heading. is_none heading.keyword) h ≡ false) s p.word;
@@ -148,7 +137,7 @@ passes_of built context last line e b t l f =
       texts = t;
       word = subst (λ h. is_some_with (λ heading. is_none heading.keyword) h ≡ false) s f.word;
       known = subst (λ h. is_some_with (is_unbuilt built) (option_and_then (λ heading. heading.keyword) h) ≡ false) s f.known;
-      blocks = or_parts (is_some_with (λ keyword. not (may_stand context.open_blocks keyword)) (keyword_said context line)) (last && not (is_empty (after context line).open_blocks)) (subst (λ h. is_some_with (λ keyword. not (may_stand context.open_blocks keyword)) (option_and_then (λ heading. heading.keyword) h) ≡ false) s f.stands) l;
+      blocks = or_from (is_some_with (λ keyword. not (may_stand context.open_blocks keyword)) (keyword_said context line)) (last && not (is_empty (after context line).open_blocks)) (subst (λ h. is_some_with (λ keyword. not (may_stand context.open_blocks keyword)) (option_and_then (λ heading. heading.keyword) h) ≡ false) s f.stands) l;
       spells = subst (λ h. is_some_with (λ heading. is_none (line_of heading)) h ≡ false) s f.spells;
       name = subst (λ h. is_some_with (names_again context.whole) (option_and_then line_of h) ≡ false) s f.name;
       limit = subst (λ c. passes_limit c ≡ false) (sym (after_is context line e)) f.limit;

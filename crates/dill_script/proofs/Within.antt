@@ -1,5 +1,6 @@
 -- What is read is within the limits.
 use Rattle.std.proofs.Common.{◌≡◌, ℕ, ◌+◌, ◌≤◌, List, [], ◌∷◌, ◌++◌, length, Bool, true, false, ◌&&◌, ◌||◌, nat_le, nat_lt, if◌then◌else◌, Option, Some, None, refl, sym, ap, ◌∙◌, subst, ltb-false, le-leb}
+use Rattle.std.proofs.lemmas.Bool.{and_from, and_parts, or_parts}
 use Rattle.std.specs.List.{list_all}
 use Rattle.dill_calls.specs.declared.word.Word.{Word}
 use Rattle.dill_script.specs.declared.line.Block.{Block}
@@ -22,22 +23,11 @@ record IsSized (context : Context) : Type 0 where
   whole : list_all is_sized context.whole ≡ true
   current : is_sized context.current ≡ true
 
-and_true : (a b : Bool) → a ≡ true → b ≡ true → (a && b) ≡ true
-and_true a b e f = rw e f
-
-and_parts : (a b : Bool) → (a && b) ≡ true → (a ≡ true) × (b ≡ true)
-and_parts true b e = (refl, e)
-and_parts false b e = cc
-
-or_parts : (a b : Bool) → (a || b) ≡ false → (a ≡ false) × (b ≡ false)
-or_parts true b e = cc
-or_parts false b e = (refl, e)
-
 all_push : (programs : List Program) (program : Program) → list_all is_sized programs ≡ true → is_sized program ≡ true → list_all is_sized (programs ++ program ∷ []) ≡ true
-all_push [] program e f = and_true (is_sized program) true f refl
+all_push [] program e f = and_from (is_sized program) true f refl
 all_push (first ∷ rest) program e f =
     let p = and_parts (is_sized first) (list_all is_sized rest) e in
-    and_true (is_sized first) (list_all is_sized (rest ++ program ∷ [])) p.0 (all_push rest program p.1 f)
+    and_from (is_sized first) (list_all is_sized (rest ++ program ∷ [])) p.0 (all_push rest program p.1 f)
 
 ending_whole : (context : Context) (open_blocks : List Block) → IsSized context → list_all is_sized (ending context open_blocks).whole ≡ true
 ending_whole context (blocks.If ∷ outer) s = s.whole

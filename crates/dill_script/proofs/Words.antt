@@ -1,7 +1,7 @@
 -- What a word was read as is written as that word.
 use Rattle.std.proofs.Common.{◌≡◌, ℕ, ◌+◌, ◌-◌, ◌*◌, ◌^◌, ◌<◌, ◌≤◌, List, [], ◌∷◌, length, get_or, fold, find, Bool, true, false, not, ◌&&◌, ◌==◌, cond, nat_le, if◌then◌else◌, Option, Some, None, IfSome, option_map, option_and_then, decimal, bytes_eq, refl, ap, arith, leb-true}
 use Rattle.std.specs.List.{list_all}
-use Rattle.std.proofs.lemmas.Bool.{eqb-true, eq-eqb, le-leb}
+use Rattle.std.proofs.lemmas.Bool.{eqb-true, eq-eqb, le-leb, and_from, and_parts}
 use Rattle.std.proofs.lemmas.Fmt.{decimal-digits_value}
 use Rattle.std.proofs.lemmas.Str.Parse.{IsDigitsTest, FoldsDigits, IsNumeralModel, numerals_by_fold}
 use Rattle.std.proofs.lemmas.Slice.Eq.{bytes_eq-Decides}
@@ -11,7 +11,7 @@ use Rattle.dill_script.specs.declared.operand.Num.TheVariants as nums
 use Rattle.dill_script.specs.Numbers.{named, is_digit, is_decimal, value_of, number_up_to, number_of, register_of}
 use Rattle.dill_script.specs.Operands.{number_place, bytes_place, num_of_plain}
 use Rattle.dill_script.specs.Printing.{number_register_text, bytes_register_text, num_text}
-use Rattle.dill_script.proofs.Somes.{if_map, if_or, if_then, if_more, if_test, if_only, and_parts}
+use Rattle.dill_script.proofs.Somes.{if_map, if_or, if_then, if_more, if_test, if_only}
 
 -- words that are equal by the test are equal
 pub bytes_same : (xs ys : List ℕ) → bytes_eq xs ys ≡ true → xs ≡ ys
@@ -41,14 +41,11 @@ range_digit c h = all_true (nat_le 48 c) (nat_le c 57) (le-leb 48 c h.0) (le-leb
     all_true : (a b : Bool) → a ≡ true → b ≡ true → (a && b) ≡ true
     all_true a b e f = cc
 
-and_true : (a b : Bool) → a ≡ true → b ≡ true → (a && b) ≡ true
-and_true a b e f = rw e f
-
 digits_test : IsDigitsTest AreDigits
 digits_test = record {
   empty = refl;
   parts = λ c cs h. let p = and_parts (is_digit c) (list_all is_digit cs) h in (digit_range c p.0, p.1);
-  more = λ c cs r h. and_true (is_digit c) (list_all is_digit cs) (range_digit c r) h;
+  more = λ c cs r h. and_from (is_digit c) (list_all is_digit cs) (range_digit c r) h;
 }
 
 abbrev values : ℕ → List ℕ → ℕ
@@ -63,11 +60,11 @@ own = numerals_by_fold AreDigits digits_test values fold_digits
 -- a decimal word is of digits, has one, and a 0 first only alone
 decimal_word : (ds : List ℕ) → is_decimal ds ≡ true → AreDigits ds × (0 < length ds) × (get_or ds 0 0 ≡ 48 → length ds ≡ 1)
 decimal_word [] e = cc
-decimal_word (d ∷ []) e = (and_true (is_digit d) true e refl, omega arith, λ z. refl)
+decimal_word (d ∷ []) e = (and_from (is_digit d) true e refl, omega arith, λ z. refl)
 decimal_word (d ∷ c ∷ rest) e =
     let p = and_parts (is_digit d) (not (d == 48) && list_all is_digit (c ∷ rest)) e in
     let q = and_parts (not (d == 48)) (list_all is_digit (c ∷ rest)) p.1 in
-    (and_true (is_digit d) (list_all is_digit (c ∷ rest)) p.0 q.1, omega arith, λ z. absurd (not_both (d == 48) (eq-eqb d 48 z) q.0))
+    (and_from (is_digit d) (list_all is_digit (c ∷ rest)) p.0 q.1, omega arith, λ z. absurd (not_both (d == 48) (eq-eqb d 48 z) q.0))
   where
     not_both : (b : Bool) → b ≡ true → not b ≡ true → ⊥
     not_both true e f = cc

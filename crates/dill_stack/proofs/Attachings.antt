@@ -2,7 +2,7 @@
 use Rattle.std.proofs.Common.{◌≡◌, ◌∷◌, List, length, refl, subst, Bool, true, false, not, ◌&&◌, Ok}
 use Rattle.std.specs.Prelude.{nat_le, nat_lt, if◌then◌else◌, Some, None, ℕ}
 use Rattle.dill_base.specs.declared.errno.Errno.TheVariants.{Einval, Emsgsize}
-use Rattle.std.proofs.lemmas.Bool.{leb-true}
+use Rattle.std.proofs.lemmas.Bool.{leb-true, and_parts}
 use Rattle.dill_stack.specs.declared.layer.Layer.{Layer}
 use Rattle.dill_stack.specs.declared.layer.Layer.TheVariants as layer
 use Rattle.dill_stack.specs.Layers.{Placed, placed}
@@ -15,7 +15,6 @@ use Rattle.dill_stack.specs.Attaching.{attach, greet_fault}
 use Rattle.dill_stack.specs.Greeting.{offer_fault}
 use Rattle.dill_http.specs.Bytes.{is_resource}
 use Rattle.dill_ws.specs.Handshakes.{client_lines, any_key, are_too_long, head_fault_of}
-use Rattle.dill_stack.proofs.OneMessage.{both_true}
 
 was_false : (b : Bool) → not b ≡ true → b ≡ false
 was_false true e = cc
@@ -24,14 +23,14 @@ was_false false e = refl
 -- what is allowed on formed layers is formed
 allowed_formed : (l : Layer) (layers : List Placed) → is_allowed l layers ≡ true → IsFormed layers → IsFormed (placed l ∷ layers)
 allowed_formed (layer.Prefix form) layers e f =
-    let both : (nat_le 1 form.size ≡ true) × (nat_le form.size 8 ≡ true) = both_true (nat_le 1 form.size) (nat_le form.size 8) e in
+    let both : (nat_le 1 form.size ≡ true) × (nat_le form.size 8 ≡ true) = and_parts (nat_le 1 form.size) (nat_le form.size 8) e in
     (leb-true 1 form.size both.0, leb-true form.size 8 both.1, f)
 allowed_formed (layer.Suffix end) layers e f =
-    let both : (nat_le 1 (length end) ≡ true) × (nat_le (length end) 32 ≡ true) = both_true (nat_le 1 (length end)) (nat_le (length end) 32) e in
+    let both : (nat_le 1 (length end) ≡ true) × (nat_le (length end) 32 ≡ true) = and_parts (nat_le 1 (length end)) (nat_le (length end) 32) e in
     (leb-true 1 (length end) both.0, leb-true (length end) 32 both.1, f)
 allowed_formed (layer.Term terminal) layers e f =
-    let room : ((nat_le (length terminal) 1024 && not (is_refused layers terminal)) ≡ true) × (nat_lt (length layers) 8 ≡ true) = both_true (nat_le (length terminal) 1024 && not (is_refused layers terminal)) (nat_lt (length layers) 8) e in
-    let both : (nat_le (length terminal) 1024 ≡ true) × (not (is_refused layers terminal) ≡ true) = both_true (nat_le (length terminal) 1024) (not (is_refused layers terminal)) room.0 in
+    let room : ((nat_le (length terminal) 1024 && not (is_refused layers terminal)) ≡ true) × (nat_lt (length layers) 8 ≡ true) = and_parts (nat_le (length terminal) 1024 && not (is_refused layers terminal)) (nat_lt (length layers) 8) e in
+    let both : (nat_le (length terminal) 1024 ≡ true) × (not (is_refused layers terminal) ≡ true) = and_parts (nat_le (length terminal) 1024) (not (is_refused layers terminal)) room.0 in
     (leb-true (length terminal) 1024 both.0, was_false (is_refused layers terminal) both.1, f)
 allowed_formed layer.Http layers e f = f
 allowed_formed (layer.Ws side text) layers e f = f

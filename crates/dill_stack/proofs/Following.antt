@@ -2,13 +2,13 @@
 use Rattle.std.proofs.Common.{◌≡◌, ◌-◌, [], ◌∷◌, ◌++◌, List, ℕ, zero, suc, length, sym, ap, ◌∙◌, refl, subst, Bool, true, false, not, ◌&&◌, ◌||◌, inl, inr, ◌⊎◌, leb, eqb}
 use Rattle.std.specs.Prelude.{◌==◌, if◌then◌else◌, map, replicate, cond}
 use Rattle.std.specs.List.{list_all}
-use Rattle.std.proofs.lemmas.Bool.{false≢true, eqb-true, eqb-false}
+use Rattle.std.proofs.lemmas.Bool.{false≢true, eqb-true, eqb-false, and_parts}
 use Rattle.dill_ws.specs.declared.side.Side.{Side}
 use Rattle.dill_ws.specs.Frames.{Part, Frame, Joined, data_parts, may_follow}
 use Rattle.dill_stack.specs.WsReading.{is_data}
 use Rattle.dill_stack.specs.Passing.{AreFrames, AreFollowing, is_passing, is_joining}
 use Rattle.dill_stack.specs.Joining.{is_no_close}
-use Rattle.dill_stack.proofs.OneMessage.{OpcodeAt, Open, is_some_part, first_opcode, both_true, data_behind, data_is}
+use Rattle.dill_stack.proofs.OneMessage.{OpcodeAt, Open, is_some_part, first_opcode, data_behind, data_is}
 
 -- the parts before the last one of a message don't end it, and the last one does
 pub record IsOpened (ds : List Part) (last : Part) (opcode : ℕ) : Type 0 where
@@ -114,7 +114,7 @@ data_passing false false false fin e f = cc
 pub all_follow : (peer : Side) (joining : Bool) (parts : List Part) (w : List ℕ) → AreFrames peer parts w → Open joining (data_parts parts) → list_all is_no_close parts ≡ true → AreFollowing joining parts × (list_all is_passing parts ≡ true)
 all_follow peer joining [] w f o u = (tt, refl)
 all_follow peer joining (part ∷ parts) w f o u =
-    let both : (is_no_close part ≡ true) × (list_all is_no_close parts ≡ true) = both_true (is_no_close part) (list_all is_no_close parts) u in
+    let both : (is_no_close part ≡ true) × (list_all is_no_close parts ≡ true) = and_parts (is_no_close part) (list_all is_no_close parts) u in
     by_kind (is_data part.opcode) refl o both.0 (λ h. all_follow peer (is_joining joining part) parts f.1 f.4 h both.1)
   where
     all_two : (follows : may_follow joining part.fin part.opcode (length part.payload) ≡ true) → is_passing part ≡ true → AreFollowing (is_joining joining part) parts × (list_all is_passing parts ≡ true) → AreFollowing joining (part ∷ parts) × (list_all is_passing (part ∷ parts) ≡ true)

@@ -4,7 +4,7 @@ use Rattle.std.specs.Prelude.{◌==◌, if◌then◌else◌, is_some, flat_map, 
 use Rattle.std.specs.List.{list_all}
 use Rattle.std.specs.Option.{unwrap_or}
 use Rattle.std.specs.Str.{is_utf8}
-use Rattle.std.proofs.lemmas.Bool.{eqb-true, leb-true, ne_eqb}
+use Rattle.std.proofs.lemmas.Bool.{eqb-true, leb-true, ne_eqb, and_parts}
 use Rattle.std.proofs.lemmas.Str.{is_utf8-from_IsUtf8}
 use Rattle.std.proofs.lemmas.List.{length-take-le, take-append-drop}
 use Rattle.std.proofs.Math.Seq.{drop-append_seam}
@@ -19,7 +19,7 @@ use Rattle.dill_stack.specs.WsReading.{Passed, passed, pass_by_front, ws_front, 
 use Rattle.dill_stack.specs.Passing.{AreFrames, AreFollowing, is_passing, joined_size, pings_of, with_parts}
 use Rattle.dill_stack.specs.Read.{Outcome, outcome, behind_passed, read_ws}
 use Rattle.dill_stack.specs.Joining.{HasPassed, JoinedStands, joined_outcome, is_no_close}
-use Rattle.dill_stack.proofs.OneMessage.{OpcodeAt, Open, is_some_part, first_opcode, both_true, joining_is, data_behind, texts_behind}
+use Rattle.dill_stack.proofs.OneMessage.{OpcodeAt, Open, is_some_part, first_opcode, joining_is, data_behind, texts_behind}
 use Rattle.dill_stack.proofs.PassedBehind.{data_append, state_is, passed_more}
 use Rattle.dill_stack.proofs.Following.{IsOpened, message_opened, data_follows, all_follow}
 use Rattle.dill_stack.proofs.PassedParts.{AtFront, front_whole, last_stays, passed_front}
@@ -41,7 +41,7 @@ frames_split peer (part ∷ parts) last x f =
 all_before : (parts : List Part) (last : Part) → list_all is_no_close (parts ++ last ∷ []) ≡ true → list_all is_no_close parts ≡ true
 all_before [] last e = refl
 all_before (part ∷ parts) last e =
-    let both : (is_no_close part ≡ true) × (list_all is_no_close (parts ++ last ∷ []) ≡ true) = both_true (is_no_close part) (list_all is_no_close (parts ++ last ∷ [])) e in
+    let both : (is_no_close part ≡ true) × (list_all is_no_close (parts ++ last ∷ []) ≡ true) = and_parts (is_no_close part) (list_all is_no_close (parts ++ last ∷ [])) e in
     rw both.0 (all_before parts last both.1)
 
 -- a text that is UTF-8 is no reason to refuse it

@@ -4,7 +4,7 @@ use Rattle.std.specs.Prelude.{◌==◌, if◌then◌else◌, is_some, is_none, f
 use Rattle.std.specs.List.{list_all}
 use Rattle.std.specs.Option.{unwrap_or}
 use Rattle.std.specs.Str.{is_utf8}
-use Rattle.std.proofs.lemmas.Bool.{false≢true, leb-true, eqb-false, ne_eqb}
+use Rattle.std.proofs.lemmas.Bool.{false≢true, leb-true, eqb-false, ne_eqb, and_parts}
 use Rattle.std.proofs.lemmas.Str.{IsUtf8-from_is_utf8}
 use Rattle.std.proofs.lemmas.List.{length-drop}
 use Rattle.std.proofs.Math.Seq.{take-add}
@@ -22,7 +22,7 @@ use Rattle.dill_stack.specs.Joining.{HasPassed, JoinedStands, PassedOn, is_no_cl
 use Rattle.dill_stack.proofs.PassedBehind.{state_is, passed_more}
 use Rattle.dill_stack.proofs.Limits.{frame_at, part_within}
 use Rattle.dill_stack.proofs.Passings.{frame_of, follows_at, bytes_behind, passes_frames}
-use Rattle.dill_stack.proofs.OneMessage.{OpcodeAt, first_opcode, opcode_at, both_true, message_joined, frames_behind, data_is}
+use Rattle.dill_stack.proofs.OneMessage.{OpcodeAt, first_opcode, opcode_at, message_joined, frames_behind, data_is}
 
 -- no answer of bytes where the list ended
 ended_gives : (ended here : Bool) (m : List ℕ) → (if ended then if here then Fault Epipe else Fault Eproto else Need) ≡ Given (Bytes m) → ⊥
@@ -117,7 +117,7 @@ passing_unclosed part p = ap (λ b. not b) (ne_eqb part.opcode 8 (λ q. false≢
 all_unclosed : (parts : List Part) (last : Part) → list_all is_passing parts ≡ true → is_no_close last ≡ true → list_all is_no_close (parts ++ last ∷ []) ≡ true
 all_unclosed [] last p e = rw e refl
 all_unclosed (part ∷ parts) last p e =
-    let both : (is_passing part ≡ true) × (list_all is_passing parts ≡ true) = both_true (is_passing part) (list_all is_passing parts) p in
+    let both : (is_passing part ≡ true) × (list_all is_passing parts ≡ true) = and_parts (is_passing part) (list_all is_passing parts) p in
     rw (passing_unclosed part both.0) (all_unclosed parts last both.1 e)
 
 -- the frames that were passed, and the last one of a message

@@ -1,7 +1,7 @@
 -- A message is given where it stands, over each framing.
 use Rattle.std.proofs.Common.{◌≡◌, ◌<◌, ◌≤◌, ◌-◌, [], ◌∷◌, ◌++◌, List, ℕ, length, take, drop, arith, sym, ap, ◌∙◌, refl, subst, Bool, true, false, not, ◌&&◌, ◌||◌, inl, inr}
 use Rattle.std.specs.Prelude.{bytes_eq, Decides, if◌then◌else◌, ◌==◌, Ok}
-use Rattle.std.proofs.lemmas.Bool.{false≢true}
+use Rattle.std.proofs.lemmas.Bool.{false≢true, or_parts}
 use Rattle.std.proofs.lemmas.Slice.Eq.{bytes_eq-Decides}
 use Rattle.std.proofs.lemmas.List.{length-take, length-take-le, take-append-drop}
 use Rattle.dill_base.specs.declared.errno.Errno.{Errno}
@@ -55,16 +55,12 @@ same_text m t n = by_test (bytes_eq m t) (bytes_eq-Decides m t)
 own_text : (t : List ℕ) → bytes_eq t t ≡ true
 own_text t = (bytes_eq-Decides t t).1 refl
 
-unmet_top : (a b : Bool) → (a || b) ≡ false → (a ≡ false) × (b ≡ false)
-unmet_top true b e = cc
-unmet_top false b e = (refl, e)
-
 -- the layers below an end by a terminal message are readable too
 pub below_is : (term : TermLayer) (below : List Placed) → IsReadable (Term term ∷ below) → IsReadable below
-below_is term below r = record { framing = r.framing; standing = r.standing.1; formed = r.formed.2; unmet = (unmet_top term.met (is_met below) r.unmet).1 }
+below_is term below r = record { framing = r.framing; standing = r.standing.1; formed = r.formed.2; unmet = (or_parts term.met (is_met below) r.unmet).1 }
 
 unmet_is : (term : TermLayer) (below : List Placed) → IsReadable (Term term ∷ below) → term.met ≡ false
-unmet_is term below r = (unmet_top term.met (is_met below) r.unmet).0
+unmet_is term below r = (or_parts term.met (is_met below) r.unmet).0
 
 not_taken : (b : Bool) (x y : Outcome) → b ≡ false → (if b then x else y) ≡ y
 not_taken true x y e = cc

@@ -3,7 +3,7 @@ use Rattle.std.proofs.Common.{◌≡◌, ◌≤◌, ◌-◌, [], ◌∷◌, ◌+
 use Rattle.std.specs.Prelude.{◌==◌, if◌then◌else◌, map, flat_map, replicate, cond}
 use Rattle.std.specs.List.{list_all}
 use Rattle.std.specs.Option.{unwrap_or}
-use Rattle.std.proofs.lemmas.Bool.{leb-true, eqb-true, ne_eqb}
+use Rattle.std.proofs.lemmas.Bool.{leb-true, eqb-true, ne_eqb, and_parts}
 use Rattle.dill_ws.specs.declared.side.Side.{Side}
 use Rattle.dill_ws.specs.Frames.{Part, Frame, Joined, data_parts, may_follow}
 use Rattle.dill_stack.specs.WsReading.{is_data}
@@ -51,18 +51,14 @@ open_fin part p d =
     let l : part.opcode ≤ 2 = leb-true part.opcode 2 d in
     not_last (part.opcode == 9) (part.opcode == 10) (is_data part.opcode) part.fin (ne_eqb part.opcode 9 (λ q. omega arith)) (ne_eqb part.opcode 10 (λ q. omega arith)) d p
 
-pub both_true : (a b : Bool) → (a && b) ≡ true → (a ≡ true) × (b ≡ true)
-both_true true b e = (refl, e)
-both_true false b e = cc
-
 -- the parts of messages among those that are passed
 open_parts : (joining : Bool) (parts : List Part) → AreFollowing joining parts → list_all is_passing parts ≡ true → Open joining (data_parts parts)
 open_parts joining [] f p = tt
-open_parts joining (part ∷ parts) f p = by_kind (is_data part.opcode) refl (open_parts (is_joining joining part) parts f.1 (both_true (is_passing part) (list_all is_passing parts) p).1)
+open_parts joining (part ∷ parts) f p = by_kind (is_data part.opcode) refl (open_parts (is_joining joining part) parts f.1 (and_parts (is_passing part) (list_all is_passing parts) p).1)
   where
     by_kind : (d : Bool) → is_data part.opcode ≡ d → Open (if is_data part.opcode then not part.fin else joining) (data_parts parts) → Open joining (cond d (part ∷ data_parts parts) (data_parts parts))
     by_kind true d rest =
-        let fin : part.fin ≡ false = open_fin part (both_true (is_passing part) (list_all is_passing parts) p).0 d in
+        let fin : part.fin ≡ false = open_fin part (and_parts (is_passing part) (list_all is_passing parts) p).0 d in
         let at : OpcodeAt joining part.opcode = opcode_at joining part.fin part.opcode (length part.payload) f.0 (leb-true part.opcode 2 d) in
         (at, fin, subst (λ b. Open b (data_parts parts)) (taken (is_data part.opcode) part.fin d fin) rest)
       where
@@ -91,10 +87,10 @@ or_true false = refl
 -- a message is being joined where one was, or where a part of one came
 pub joining_is : (joining : Bool) (parts : List Part) → list_all is_passing parts ≡ true → joining_behind joining parts ≡ (joining || is_some_part (data_parts parts))
 joining_is joining [] p = or_false joining
-joining_is joining (part ∷ parts) p = joining_is (is_joining joining part) parts (both_true (is_passing part) (list_all is_passing parts) p).1 ∙ by_kind (is_data part.opcode) refl
+joining_is joining (part ∷ parts) p = joining_is (is_joining joining part) parts (and_parts (is_passing part) (list_all is_passing parts) p).1 ∙ by_kind (is_data part.opcode) refl
   where
     by_kind : (d : Bool) → is_data part.opcode ≡ d → ((if is_data part.opcode then not part.fin else joining) || is_some_part (data_parts parts)) ≡ (joining || is_some_part (cond d (part ∷ data_parts parts) (data_parts parts)))
-    by_kind true d = taken (is_data part.opcode) part.fin d (open_fin part (both_true (is_passing part) (list_all is_passing parts) p).0 d)
+    by_kind true d = taken (is_data part.opcode) part.fin d (open_fin part (and_parts (is_passing part) (list_all is_passing parts) p).0 d)
       where
         taken : (c x : Bool) → c ≡ true → x ≡ false → ((if c then not x else joining) || is_some_part (data_parts parts)) ≡ (joining || true)
         taken true false h i = or_true joining
@@ -201,4 +197,4 @@ data_is joining fin opcode n m a b c = by_kind (leb 8 opcode) refl m
       where
         by_zero : (z : Bool) → eqb opcode 0 ≡ z → (if z then joining else leb opcode 2 && not joining) ≡ true → is_data opcode ≡ true
         by_zero true z h = ap (λ o. is_data o) (eqb-true opcode 0 z)
-        by_zero false z h = (both_true (leb opcode 2) (not joining) h).0
+        by_zero false z h = (and_parts (leb opcode 2) (not joining) h).0

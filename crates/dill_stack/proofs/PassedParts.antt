@@ -2,7 +2,7 @@
 use Rattle.std.proofs.Common.{slice_index, ◌%◌, ◌≡◌, ◌≤◌, ◌+◌, [], ◌∷◌, ◌++◌, List, ℕ, zero, suc, length, take, drop, arith, sym, ap, ◌∙◌, refl, subst, Bool, true, false, not, ◌&&◌, ◌||◌, Some, None, append_assoc, length-append, le-ltb}
 use Rattle.std.specs.Prelude.{◌==◌, if◌then◌else◌, is_some, nat_lt}
 use Rattle.std.specs.List.{list_all}
-use Rattle.std.proofs.lemmas.Bool.{leb-true, ne_eqb}
+use Rattle.std.proofs.lemmas.Bool.{leb-true, ne_eqb, and_parts}
 use Rattle.std.proofs.lemmas.List.{length-take-le, length-drop}
 use Rattle.std.proofs.Math.Seq.{drop-append_seam}
 use Rattle.dill_base.specs.declared.errno.Errno.TheVariants.{Emsgsize}
@@ -12,7 +12,6 @@ use Rattle.dill_ws.specs.FrameLaws.{FrameLaws, ReadsFrame, payload_at}
 use Rattle.dill_stack.specs.Layers.{WsLayer}
 use Rattle.dill_stack.specs.WsReading.{Passed, passed, passed_within, after_pass, then_passed, nothing_passed, pass_by_front, pass_of, ws_front, Whole, Short, Refused, judged, passes_limit, has_length, length_at, part_of, is_data, with_part}
 use Rattle.dill_stack.specs.Passing.{AreFrames, AreFollowing, is_passing, is_joining, joining_behind, KeepsWithin, pings_of, with_parts}
-use Rattle.dill_stack.proofs.OneMessage.{both_true}
 use Rattle.dill_stack.proofs.Limits.{HeadShown, head_shown, length_masked, within_first, within_less}
 use Rattle.dill_stack.proofs.Passings.{PassIs, pass_is, parts_more, pings_more, grows, unjoined}
 
@@ -96,7 +95,7 @@ last_stays ws last used d e =
 pub joins_behind : (ws : WsLayer) (parts : List Part) → list_all is_passing parts ≡ true → is_some (with_parts parts ws).joining ≡ joining_behind (is_some ws.joining) parts
 joins_behind ws [] p = refl
 joins_behind ws (part ∷ parts) p =
-    let both : (is_passing part ≡ true) × (list_all is_passing parts ≡ true) = both_true (is_passing part) (list_all is_passing parts) p in
+    let both : (is_passing part ≡ true) × (list_all is_passing parts ≡ true) = and_parts (is_passing part) (list_all is_passing parts) p in
     let first : Passes ws part 0 = passes ws part 0 both.0 in
     ap (λ (x : WsLayer). is_some x.joining) (parts_more part parts ws) ∙ joins_behind (with_parts (part ∷ []) ws) parts both.1 ∙ ap (λ j. joining_behind j parts) first.joins
 
@@ -128,7 +127,7 @@ passed_parts laws zero limit ws (part ∷ parts) w rest a l =
 passed_parts laws (suc most) limit ws (part ∷ parts) w rest a l =
     let f : List ℕ = a.frames.0 in
     let x : List ℕ = a.frames.1 ++ rest in
-    let both : (is_passing part ≡ true) × (list_all is_passing parts ≡ true) = both_true (is_passing part) (list_all is_passing parts) a.passing in
+    let both : (is_passing part ≡ true) × (list_all is_passing parts ≡ true) = and_parts (is_passing part) (list_all is_passing parts) a.passing in
     let p : Passes ws part (length f) = passes ws part (length f) both.0 in
     let behind : WsLayer = with_parts (part ∷ []) ws in
     let front : ws_front limit ws (f ++ x) ≡ Whole part (length f) = front_whole laws limit ws part f x a.frames.2 a.follows.0 (within_first limit ws part parts a.within) in

@@ -1,5 +1,6 @@
 -- Where all stand plainly, nobody's stack is looked at, and so to settle is to take its steps.
 use Rattle.std.proofs.Common.{◌≡◌, ◌∙◌, ℕ, zero, suc, List, [], ◌∷◌, length, fold, Bool, true, false, ◌&&◌, refl, sym, ap}
+use Rattle.std.proofs.lemmas.Bool.{and_parts}
 use Rattle.std.specs.List.{list_all}
 use Rattle.dill_calls.specs.declared.call.Call.TheVariants as calls
 use Rattle.dill_rules.specs.declared.coroutine.Coroutine.{Coroutine}
@@ -8,10 +9,6 @@ use Rattle.dill_rules.specs.declared.coroutine.Mode.TheVariants as modes
 use Rattle.dill_rules.specs.World.{World}
 use Rattle.dill_rules.specs.Settling.{pass_one, pass_all, settle_one, settle_within, settle, IsSettled}
 use Rattle.dill_world.specs.Store.{Store, world_of, is_plain_mode, is_plain_row, ArePlain}
-
-both : (a b : Bool) → (a && b) ≡ true → (a ≡ true) × (b ≡ true)
-both true b h = (refl, h)
-both false b h = cc
 
 module _ {V : Type 0} where
   pass_mode : (w : World V) (c : Coroutine V) (mode : Mode) → c.mode ≡ mode → is_plain_mode mode ≡ true → pass_one w c ≡ w
@@ -27,7 +24,7 @@ module _ {V : Type 0} where
   pass_list : (w : World V) (cs : List (Coroutine V)) → list_all is_plain_row cs ≡ true → fold pass_one w cs ≡ w
   pass_list w [] h = refl
   pass_list w (c ∷ cs) h =
-      let parts : (is_plain_row c ≡ true) × (list_all is_plain_row cs ≡ true) = both (is_plain_row c) (list_all is_plain_row cs) h in
+      let parts : (is_plain_row c ≡ true) × (list_all is_plain_row cs ≡ true) = and_parts (is_plain_row c) (list_all is_plain_row cs) h in
       ap (λ v. fold pass_one v cs) (pass_mode w c c.mode refl parts.0) ∙ pass_list w cs parts.1
 
   pub pass_plain : (k : Store V) → ArePlain k.coroutines → pass_all (world_of k) ≡ world_of k

@@ -1,5 +1,6 @@
 -- What a call that isn't refused may rely on: there is room, and the program that it starts is known.
 use Rattle.std.proofs.Common.{◌≡◌, ◌+◌, ◌<◌, ◌≤◌, ◌^◌, ℕ, List, [], ◌∷◌, length, find, Bool, true, false, not, ◌&&◌, ◌||◌, cond, Option, Some, None, refl, ap, sym, ◌∙◌, nat_le, arith}
+use Rattle.std.proofs.lemmas.Bool.{or_parts}
 use Rattle.std.proofs.lemmas.Bool.Decides.{nat_tests}
 use Rattle.dill_base.specs.declared.errno.Errno.{Errno}
 use Rattle.dill_base.specs.declared.errno.Errno.TheVariants as errnos
@@ -17,10 +18,6 @@ use Rattle.dill_steps.specs.Needs.{needs_memory}
 picks_none : {A : Type 0} (b : Bool) (x : A) (rest : Option A) → cond b (Some x) rest ≡ None → (b ≡ false) × (rest ≡ None)
 picks_none true x rest e = cc
 picks_none false x rest e = (refl, e)
-
-or_false : (a b : Bool) → (a || b) ≡ false → (a ≡ false) × (b ≡ false)
-or_false true b e = cc
-or_false false b e = (refl, e)
 
 not_false : (a : Bool) → not a ≡ false → a ≡ true
 not_false true e = refl
@@ -46,13 +43,13 @@ module _ (f : Errno → Bool) where
 
 module _ {V : Type 0} (p : Program V) (w : World V) (who : ℕ) (view : V) where
   short_none : (call : Call) → find (holds p w who view call) order ≡ None → is_short w call ≡ false
-  short_none call e = (or_false (is_short w call) (is_refused_by_stack w call errnos.Emfile) (none_holds (holds p w who view call) e).1).0
+  short_none call e = (or_parts (is_short w call) (is_refused_by_stack w call errnos.Emfile) (none_holds (holds p w who view call) e).1).0
 
   invalid_none : (call : Call) → find (holds p w who view call) order ≡ None → is_invalid p view call ≡ false
-  invalid_none call e = (or_false (is_invalid p view call) (is_refused_by_stack w call errnos.Einval) (none_holds (holds p w who view call) e).0).0
+  invalid_none call e = (or_parts (is_invalid p view call) (is_refused_by_stack w call errnos.Einval) (none_holds (holds p w who view call) e).0).0
 
   room_of : (call : Call) → find (holds p w who view call) order ≡ None → handles.has_room w.handles (draws_of call) ≡ true
-  room_of call e = not_false (handles.has_room w.handles (draws_of call)) (or_false (not (handles.has_room w.handles (draws_of call))) ((bears (word_of call) && has_no_coroutine w) || (links (word_of call) && has_no_link w)) (short_none call e)).0
+  room_of call e = not_false (handles.has_room w.handles (draws_of call)) (or_parts (not (handles.has_room w.handles (draws_of call))) ((bears (word_of call) && has_no_coroutine w) || (links (word_of call) && has_no_link w)) (short_none call e)).0
 
   -- there is room for the numbers that it draws
   pub unrefused_room : (call : Call) → needs_memory call ≡ true → refuse p w who view call ≡ None → handles.has_room w.handles (draws_of call) ≡ true
@@ -69,8 +66,8 @@ module _ {V : Type 0} (p : Program V) (w : World V) (who : ℕ) (view : V) where
 
   few_of : (call : Call) → (bears (word_of call) ≡ true) → find (holds p w who view call) order ≡ None → w.last_coroutine + 1 < 2 ^ 64
   few_of call b e =
-      let rest = (or_false (not (handles.has_room w.handles (draws_of call))) ((bears (word_of call) && has_no_coroutine w) || (links (word_of call) && has_no_link w)) (short_none call e)).1 in
-      let mine = (or_false (bears (word_of call) && has_no_coroutine w) (links (word_of call) && has_no_link w) rest).0 in
+      let rest = (or_parts (not (handles.has_room w.handles (draws_of call))) ((bears (word_of call) && has_no_coroutine w) || (links (word_of call) && has_no_link w)) (short_none call e)).1 in
+      let mine = (or_parts (bears (word_of call) && has_no_coroutine w) (links (word_of call) && has_no_link w) rest).0 in
       let none : has_no_coroutine w ≡ false = sym (ap (λ t. t && has_no_coroutine w) b) ∙ mine in
       below_last w.last_coroutine (nat_le 65536 (length w.coroutines)) none
 

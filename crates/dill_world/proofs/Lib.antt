@@ -7,7 +7,6 @@ pub mod Gathered
 pub mod Leaving
 pub mod LinedUp
 pub mod Picking
-pub mod Places
 pub mod Quiet
 pub mod Releasing
 pub mod Running

@@ -10,7 +10,7 @@ use Rattle.dill_rules.specs.World.{is_coroutine}
 use Rattle.dill_rules.specs.Turning.{as_running}
 use Rattle.dill_world.specs.Store.{Store, world_of}
 use Rattle.dill_world.specs.Steps.{WentOn, RunsOn, Resumed}
-use Rattle.dill_world.proofs.Places.{place, no_place}
+use Rattle.dill_base.proofs.Places.{place, no_place}
 
 module _ {V : Type 0} (p : Program V) (xs : List (Coroutine V)) (who at : ℕ) (old new : Coroutine V) where
   pub found_at : position_from (is_coroutine who) 0 xs ≡ Some at → old ≡ get_or xs at old → find (is_coroutine who) xs ≡ Some old
@@ -31,7 +31,7 @@ module _ {V : Type 0} (p : Program V) where
   pub nobody_runs : (xs : List (Coroutine V)) (who : ℕ) (given : Answer) → position_from (is_coroutine who) 0 xs ≡ None → RunsOn p xs xs who given None
   nobody_runs xs who given gone =
       let none : Option Next = None in
-      subst (λ o. MatchOption o ((none ≡ None) × (xs ≡ xs)) (λ c. WentOn p c given None (λ view. xs ≡ change (is_coroutine who) (as_running view) xs))) (sym (no_place (is_coroutine who) (λ x. x) xs 0 gone).0) (refl, refl)
+      subst (λ o. MatchOption o ((none ≡ None) × (xs ≡ xs)) (λ c. WentOn p c given None (λ view. xs ≡ change (is_coroutine who) (as_running view) xs))) (sym (no_place (is_coroutine who) (λ x. x) xs 0 gone).none) (refl, refl)
 
   went : (c : Coroutine V) (given : Answer) (said : Option Next) (A B : V → Type 0) → ((view : V) → A view → B view) → WentOn p c given said A → WentOn p c given said B
   went c given None A B f h = h

@@ -3,7 +3,7 @@ use Rattle.std.proofs.Common.{◌≡◌, ◌<◌, ◌≤◌, ◌+◌, ◌-◌, �
 use Rattle.std.specs.Prelude.{is_some, nat_eq, nat_lt}
 use Rattle.std.specs.Cmp.Lexicographic.{pointwise}
 use Rattle.std.specs.List.{list_all, list_any, cons_option, starts_with}
-use Rattle.std.proofs.lemmas.Bool.{and_parts, and_from, ltb-false}
+use Rattle.std.proofs.lemmas.Bool.{and_parts, and_from, ltb-false, or_parts}
 use Rattle.std.proofs.lemmas.List.{append-nil, drop_at}
 use Rattle.base64.specs.GeneralPurpose.{encode_of}
 use Rattle.base64.specs.Engines.{standard}
@@ -117,10 +117,6 @@ within resource host h =
     let k = within_by (is_resource resource) (is_resource host) (are_too_long (client_lines resource host any_key)) h in
     record { resource_right = k.0; host_right = k.1; short = k.2 }
 
-either_false : (a b : Bool) → (a || b) ≡ false → (a ≡ false) × (b ≡ false)
-either_false true b h = absurd (cc h)
-either_false false b h = (refl, h)
-
 due_ok : (o : Option Errno) (x w : List ℕ) → unless o x ≡ Ok w → (o ≡ None) × (w ≡ x)
 due_ok None x w h = (refl, cc)
 due_ok (Some e) x w h = absurd (cc h)
@@ -140,9 +136,9 @@ long_line line h = ltb-false line_limit (length line) h
 
 lines_full : (resource host key : List ℕ) → Within resource host → AreSeen key → length key ≡ 24 → are_full (client_lines resource host key) ≡ true
 lines_full resource host key w k n =
-    let a = either_false (list_any (λ line. nat_lt line_limit (length line)) (client_lines resource host any_key)) (nat_lt head_limit (length (head_of_lines (client_lines resource host any_key)))) w.short in
-    let b = either_false (nat_lt line_limit (length (get_line resource))) _ a.0 in
-    let c = either_false (nat_lt line_limit (length (codes "Host: " ++ host))) _ b.1 in
+    let a = or_parts (list_any (λ line. nat_lt line_limit (length line)) (client_lines resource host any_key)) (nat_lt head_limit (length (head_of_lines (client_lines resource host any_key)))) w.short in
+    let b = or_parts (nat_lt line_limit (length (get_line resource))) _ a.0 in
+    let c = or_parts (nat_lt line_limit (length (codes "Host: " ++ host))) _ b.1 in
     let r = (and_parts (nat_lt 0 (length resource)) (list_all is_resource_byte resource) w.resource_right).1 in
     let h = (and_parts (nat_lt 0 (length host)) (list_all is_resource_byte host) w.host_right).1 in
     let key_full : is_full (codes "Sec-WebSocket-Key: " ++ key ++ []) ≡ true = full_line (codes "Sec-WebSocket-Key: ") key [] (omega arith) refl k refl (simp length-append (omega arith)) in
@@ -154,7 +150,7 @@ lines_full resource host key w k n =
 
 short_head : (resource host key : List ℕ) → Within resource host → length key ≡ 24 → length (head_of_lines (client_lines resource host key)) ≤ head_limit
 short_head resource host key w n =
-    let a = either_false (list_any (λ line. nat_lt line_limit (length line)) (client_lines resource host any_key)) (nat_lt head_limit (length (head_of_lines (client_lines resource host any_key)))) w.short in
+    let a = or_parts (list_any (λ line. nat_lt line_limit (length line)) (client_lines resource host any_key)) (nat_lt head_limit (length (head_of_lines (client_lines resource host any_key)))) w.short in
     let l : length (head_of_lines (client_lines resource host any_key)) ≤ head_limit = ltb-false head_limit (length (head_of_lines (client_lines resource host any_key))) a.1 in
     let same : length any_key ≡ 24 = refl in
     omega (arith, l, total resource host any_key, total resource host key, same)

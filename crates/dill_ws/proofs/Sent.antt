@@ -2,7 +2,7 @@
 use Rattle.std.proofs.Common.{◌≡◌, ◌<◌, ◌≤◌, ◌+◌, ◌*◌, ◌/◌, ◌%◌, ◌++◌, ◌∷◌, [], ◌&&◌, ◌||◌, not, ℕ, suc, zero, List, Bool, true, false, eqb, length, replicate, get_or, Option, Some, None, Ok, arith, sym, ap, ◌∙◌, refl, if◌then◌else◌, length-append}
 use Rattle.std.specs.Prelude.{is_some, nat_eq, nat_le, slice_index}
 use Rattle.std.specs.List.{list_all}
-use Rattle.std.proofs.lemmas.Bool.{and_parts, and_from, leb-true, le-leb, ne_eqb}
+use Rattle.std.proofs.lemmas.Bool.{and_parts, and_from, leb-true, le-leb, ne_eqb, or_from, or_right}
 use Rattle.std.proofs.lemmas.List.{append-nil}
 use Rattle.base64.specs.Rfc4648.{encode_symbols, padding_len}
 use Rattle.base64.specs.GeneralPurpose.{encode_of, decode_of}
@@ -25,21 +25,14 @@ seen_of b h =
     let k = and_parts (nat_le 33 b) (nat_le b 126) h in
     record { low = leb-true 33 b k.0; high = leb-true b 126 k.1 }
 
-or_right : (a b : Bool) → b ≡ true → (a || b) ≡ true
-or_right true b h = refl
-or_right false b h = h
-
-neither : (a b : Bool) → a ≡ false → b ≡ false → (a || b) ≡ false
-neither a b p q = rw (p, q) refl
-
 seen_text : (b : ℕ) → Seen b → is_text_byte b ≡ true
 seen_text b s = or_right (eqb b 9) (nat_le 32 b && not (eqb b 127)) (and_from _ _ (le-leb 32 b (omega (arith, s.low))) (ap not (ne_eqb b 127 (λ q. omega (arith, s.high)))))
 
 seen_unblank : (b : ℕ) → Seen b → is_blank b ≡ false
-seen_unblank b s = neither (eqb b 32) (eqb b 9) (ne_eqb b 32 (λ q. omega (arith, s.low))) (ne_eqb b 9 (λ q. omega (arith, s.low)))
+seen_unblank b s = or_from (eqb b 32) (eqb b 9) (ne_eqb b 32 (λ q. omega (arith, s.low))) (ne_eqb b 9 (λ q. omega (arith, s.low)))
 
 pub seen_inner : (b : ℕ) → Seen b → is_inner b ≡ true
-seen_inner b s = ap not (neither (eqb b 13) (eqb b 10) (ne_eqb b 13 (λ q. omega (arith, s.low))) (ne_eqb b 10 (λ q. omega (arith, s.low))))
+seen_inner b s = ap not (or_from (eqb b 13) (eqb b 10) (ne_eqb b 13 (λ q. omega (arith, s.low))) (ne_eqb b 10 (λ q. omega (arith, s.low))))
 
 abbrev pub AreSeen : List ℕ → Type 0
 AreSeen v = list_all is_resource_byte v ≡ true

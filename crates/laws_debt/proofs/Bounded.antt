@@ -1,5 +1,6 @@
 -- What is owed is bounded, and who is queued is early where the root begins to close.
 use Rattle.std.proofs.Common.{◌≡◌, ◌∙◌, ◌+◌, ◌*◌, ◌^◌, ◌≤◌, ◌<◌, ◌==◌, ℕ, zero, suc, List, [], ◌∷◌, length, find, Bool, true, false, Some, if◌then◌else◌, refl, ap, arith}
+use Rattle.std.proofs.lemmas.Bool.{and_parts}
 use Rattle.std.specs.List.{AllByRecursion, list_all, list_any}
 use Rattle.dill_calls.specs.Program.{Program, IsLawful}
 use Rattle.dill_base.specs.Maps.{if_some}
@@ -11,7 +12,6 @@ use Rattle.laws_queue.specs.Well.{IsAlive, Lives, Numbered, bit, occurs, is_at, 
 use Rattle.laws_sound.specs.Laws.{is_resting}
 use Rattle.laws_debt.specs.Owed.{share_by}
 use Rattle.laws_debt.specs.Says.{LowersIn, AllLower}
-use Rattle.laws_queue.proofs.Settles.{both}
 use Rattle.laws_debt.proofs.Lists.{total, all_to, equal_number, above_of, above}
 use Rattle.laws_debt.proofs.Walking.{unlike}
 
@@ -80,7 +80,7 @@ module _ {V : Type 0} (ready : List ℕ) (all : List (Coroutine V)) (q : IsQueue
   lower_each : (cs : List (Coroutine V)) → list_all (λ c. is_resting c.mode) cs ≡ true → AllByRecursion (λ c. find (is_coroutine c.number) all ≡ Some c) cs → AllLower (λ n. list_any (λ m. m == n) ready) cs
   lower_each [] r f = tt
   lower_each (c ∷ cs) r f =
-      let h = both (is_resting c.mode) (list_all (λ d. is_resting d.mode) cs) r in
+      let h = and_parts (is_resting c.mode) (list_all (λ d. is_resting d.mode) cs) r in
       ((λ e. early_lowers c.mode (list_any (λ m. m == c.number) ready) h.0 (λ a. queued_early c f.0 a) e), lower_each cs h.1 f.1)
 
 -- every answer that is queued is early

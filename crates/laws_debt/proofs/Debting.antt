@@ -1,5 +1,6 @@
 -- The laws of the debt of a bundle that is closing.
 use Rattle.std.proofs.Common.{◌≡◌, ◌∙◌, ◌+◌, ◌-◌, ◌≤◌, ◌<◌, ◌==◌, ℕ, List, [], ◌∷◌, length, filter, fold, find, sum_by, Bool, true, false, not, cond, Option, Some, None, is_some, if◌then◌else◌, refl, sym, ap, subst, arith}
+use Rattle.std.proofs.lemmas.Bool.{and_parts, and_from}
 use Rattle.std.specs.List.{AllByRecursion, list_all, list_any}
 use Rattle.std.specs.Option.{option_or}
 use Rattle.dill_calls.specs.declared.ran.LackPlace.{LackPlace}
@@ -31,8 +32,6 @@ use Rattle.laws_queue.specs.Stands.{StandsFor}
 use Rattle.laws_queue.specs.Well.{bit}
 use Rattle.laws_queue.proofs.Following.{follows_states, next_is, nobody_next, expired_next, settled_after}
 use Rattle.laws_queue.proofs.Keeping.{steps_keep_well}
-use Rattle.laws_queue.proofs.Lists.{join}
-use Rattle.laws_queue.proofs.Settles.{both}
 use Rattle.laws_queue.proofs.Settling.{settles_all}
 use Rattle.laws_queue.proofs.Plainly.{begin_plain}
 use Rattle.laws_queue.proofs.Turns.{root_closed, closed_plain, go_on_plain}
@@ -169,9 +168,9 @@ module _ {V : Type 0} (p : Program V) (law : IsLawful p) (plainly : MakesPlain p
         λ i. let none : if_some (next_turn s) false (is_inside s.world.scopes b) ≡ false = ap (λ o. if_some o false (is_inside s.world.scopes b)) (nobody_next st.even.kept s st.even.stands e) in unlike (if_some (next_turn s) false (is_inside s.world.scopes b)) none i,
       )
       at (who ∷ rest) e =
-          let both = turn_comes s lack st who rest b e c in (
-            subst (λ t. Comes s t b) (sym (turned_is s lack st.even who rest e)) both.0,
-            λ i. subst (λ t. debt p t b < debt p s b) (sym (turned_is s lack st.even who rest e)) (both.1 (sym (ap (λ o. if_some o false (is_inside s.world.scopes b)) (next_is st.even.kept s who rest st.even.stands e)) ∙ i)),
+          let and_parts = turn_comes s lack st who rest b e c in (
+            subst (λ t. Comes s t b) (sym (turned_is s lack st.even who rest e)) and_parts.0,
+            λ i. subst (λ t. debt p t b < debt p s b) (sym (turned_is s lack st.even who rest e)) (and_parts.1 (sym (ap (λ o. if_some o false (is_inside s.world.scopes b)) (next_is st.even.kept s who rest st.even.stands e)) ∙ i)),
           )
 
   -- ---- steps in which no answer is taken
@@ -220,8 +219,8 @@ module _ {V : Type 0} (p : Program V) (law : IsLawful p) (plainly : MakesPlain p
   all_follow : (test more : ℕ → Bool) (xs : List ℕ) → ((n : ℕ) → test n ≡ true → more n ≡ true) → list_all test xs ≡ true → list_all more xs ≡ true
   all_follow test more [] h e = refl
   all_follow test more (x ∷ xs) h e =
-      let b = both (test x) (list_all test xs) e in
-      join (more x) (list_all more xs) (h x b.0) (all_follow test more xs h b.1)
+      let b = and_parts (test x) (list_all test xs) e in
+      and_from (more x) (list_all more xs) (h x b.0) (all_follow test more xs h b.1)
 
   -- between two expiries
   record Expires (s t : State V) (xs : List ℕ) : Type 0 where
@@ -236,7 +235,7 @@ module _ {V : Type 0} (p : Program V) (law : IsLawful p) (plainly : MakesPlain p
       let even = m.even_now in
       let k = even.kept in
       let w = k.world in
-      let b = both (is_timed w x) (list_all (is_timed w) xs) m.timed in
+      let b = and_parts (is_timed w x) (list_all (is_timed w) xs) m.timed in
       let v = expire_one w x in
       let sits = (good_stable p k even.stable).sits in
       let steps = expire_steps p law plainly k t x even.stable even.stands even.stamps even.lowers m.hushed b.0 in

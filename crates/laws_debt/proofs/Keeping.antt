@@ -1,5 +1,6 @@
 -- Each step keeps what holds between steps.
 use Rattle.std.proofs.Common.{◌≡◌, ◌∙◌, inl, ◌-◌, ◌≤◌, ℕ, zero, suc, List, [], ◌∷◌, length, map, fold, Bool, true, false, Option, Some, refl, sym, ap, subst, arith}
+use Rattle.std.proofs.lemmas.Bool.{and_parts, and_from}
 use Rattle.std.specs.List.{AllByRecursion, list_all}
 use Rattle.dill_calls.specs.declared.ran.LackPlace.{LackPlace}
 use Rattle.dill_calls.specs.declared.word.Word.{Word}
@@ -28,8 +29,6 @@ use Rattle.laws_debt.specs.Closing.{IsStable}
 use Rattle.laws_debt.specs.Flags.{IsFlagged, HasFlags}
 use Rattle.laws_debt.specs.Laws.{KeepsStable}
 use Rattle.laws_debt.specs.Says.{SaysIn, Says, AllSay, IsProper}
-use Rattle.laws_queue.proofs.Lists.{join}
-use Rattle.laws_queue.proofs.Settles.{both}
 use Rattle.laws_queue.proofs.Turns.{root_closed}
 use Rattle.laws_debt.proofs.Entering.{start_only}
 use Rattle.laws_debt.proofs.Flagging.{all_picked, ranked_change}
@@ -103,7 +102,7 @@ module _ {V : Type 0} (p : Program V) where
 
   all_sit : (cs : List (Coroutine V)) → list_all waits_plainly cs ≡ true → AllSay p cs → AllSit p cs
   all_sit [] e a = tt
-  all_sit (c ∷ cs) e a = let h = both (waits_plainly c) (list_all waits_plainly cs) e in ((h.0, a.0), all_sit cs h.1 a.1)
+  all_sit (c ∷ cs) e a = let h = and_parts (waits_plainly c) (list_all waits_plainly cs) e in ((h.0, a.0), all_sit cs h.1 a.1)
 
   resting_stands : (mode : Mode) → is_resting mode ≡ true → stands mode ≡ true
   resting_stands (modes.Pending call) e = refl
@@ -114,7 +113,7 @@ module _ {V : Type 0} (p : Program V) where
 
   all_standing : (cs : List (Coroutine V)) → list_all (λ c. is_resting c.mode) cs ≡ true → AllByRecursion IsStanding cs
   all_standing [] e = tt
-  all_standing (c ∷ cs) e = let h = both (is_resting c.mode) (list_all (λ d. is_resting d.mode) cs) e in (resting_stands c.mode h.0, all_standing cs h.1)
+  all_standing (c ∷ cs) e = let h = and_parts (is_resting c.mode) (list_all (λ d. is_resting d.mode) cs) e in (resting_stands c.mode h.0, all_standing cs h.1)
 
   pub good_stable : (k : Kept V) → IsStable p k → IsGood k.world
   good_stable k s = record {
@@ -140,7 +139,7 @@ module _ {V : Type 0} (p : Program V) where
 
   all_rest : (cs : List (Coroutine V)) → AllByRecursion IsStanding cs → list_all (λ c. is_resting c.mode) (map lined cs) ≡ true
   all_rest [] a = refl
-  all_rest (c ∷ cs) a = join (is_resting (lined_mode c.mode)) (list_all (λ d. is_resting d.mode) (map lined cs)) (rests_lined c c.mode refl a.0) (all_rest cs a.1)
+  all_rest (c ∷ cs) a = and_from (is_resting (lined_mode c.mode)) (list_all (λ d. is_resting d.mode) (map lined cs)) (rests_lined c c.mode refl a.0) (all_rest cs a.1)
 
   -- who was answered in a step is queued
   pub stable_queued : (v : World V) (ready : List ℕ) (early : ℕ) → IsWell p (queued v ready early) → IsInOrder (queued v ready early).world → IsGood v → IsStable p (queued v ready early)

@@ -1,5 +1,6 @@
 -- A turn, as a step of a state.
 use Rattle.std.proofs.Common.{◌≡◌, ◌∙◌, ◌≤◌, ◌<◌, ◌==◌, ℕ, zero, suc, List, [], ◌∷◌, length, filter, find, Bool, true, false, not, Option, Some, None, is_some, if◌then◌else◌, refl, sym, ap, subst, arith}
+use Rattle.std.proofs.lemmas.Bool.{and_parts}
 use Rattle.std.specs.List.{AllByRecursion, list_any, list_all}
 use Rattle.dill_calls.specs.declared.ran.LackPlace.{LackPlace}
 use Rattle.dill_calls.specs.Program.{Program, IsLawful}
@@ -21,7 +22,6 @@ use Rattle.laws_queue.specs.Plain.{IsPlain}
 use Rattle.laws_queue.specs.Stands.{StandsFor}
 use Rattle.laws_queue.specs.Well.{Numbered}
 use Rattle.laws_queue.proofs.Plainly.{begin_plain}
-use Rattle.laws_queue.proofs.Settles.{both}
 use Rattle.laws_queue.proofs.Turns.{go_on_plain}
 use Rattle.laws_sound.specs.Laws.{is_closing, is_resting}
 use Rattle.laws_sound.specs.Order.{IsInOrder}
@@ -87,7 +87,7 @@ rest_unfresh (modes.Ending outcome) e = refl
 
 pub unfresh_all : {V : Type 0} (cs : List (Coroutine V)) → list_all (λ c. is_resting c.mode) cs ≡ true → AllByRecursion NoAnswer cs
 unfresh_all [] e = tt
-unfresh_all (c ∷ cs) e = let h = both (is_resting c.mode) (list_all (λ d. is_resting d.mode) cs) e in (rest_unfresh c.mode h.0, unfresh_all cs h.1)
+unfresh_all (c ∷ cs) e = let h = and_parts (is_resting c.mode) (list_all (λ d. is_resting d.mode) cs) e in (rest_unfresh c.mode h.0, unfresh_all cs h.1)
 
 module _ {V : Type 0} (p : Program V) where
   -- what an answer in this step must be, of who is inside

@@ -1,5 +1,6 @@
 -- The worlds of a step in which a bundle is closing: who is inside it stays the same, but for who is gone, and is cancelled.
 use Rattle.std.proofs.Common.{◌≡◌, ◌∙◌, ◌⊎◌, inl, inr, ◌+◌, ◌≤◌, ◌==◌, ℕ, zero, suc, List, [], ◌∷◌, length, map, fold, filter, reverse, find, Bool, true, false, ◌&&◌, Option, Some, None, option_map, is_some, nat_le, if◌then◌else◌, refl, sym, ap, subst, arith}
+use Rattle.std.proofs.lemmas.Bool.{and_parts}
 use Rattle.std.specs.Prelude.{option_and_then}
 use Rattle.std.specs.List.{AllByRecursion}
 use Rattle.dill_calls.specs.declared.answer.Answer.{Answer}
@@ -37,7 +38,6 @@ use Rattle.dill_rules.specs.Turning.{is_build, is_entry, may_lack_build, resume,
 use Rattle.laws_queue.specs.Plain.{may_wait, IsPlain}
 use Rattle.laws_queue.specs.Well.{Numbered, bit, occurs}
 use Rattle.laws_queue.proofs.Lists.{all_found}
-use Rattle.laws_queue.proofs.Settles.{both}
 use Rattle.laws_queue.proofs.Steps.{settle_one_plain}
 use Rattle.laws_sound.specs.Laws.{is_closing}
 use Rattle.laws_sound.specs.Order.{is_there, is_held, has_bundle, IsInOrder}
@@ -100,7 +100,7 @@ module _ {V : Type 0} where
   held_owned : (w : World V) → IsInOrder w → (n : ℕ) (x : Entry Thing) (name : ℕ) → entry_of w n ≡ Some x → bundle_of x.thing ≡ Some name → owner_of w.scopes name ≡ Some x.owner
   held_owned w o n x name e f =
       let held = all_found (is_held w) (handles.is_entry n) w.handles.entries x o.fits.held e in
-      let part = both (is_there w x.owner) (if_some (bundle_of x.thing) true (has_bundle w x.owner)) held in
+      let part = and_parts (is_there w x.owner) (if_some (bundle_of x.thing) true (has_bundle w x.owner)) held in
       let has : has_bundle w x.owner name ≡ true = sym (ap (λ q. if_some q true (has_bundle w x.owner)) f) ∙ part.1 in
       owner_is (owner_of w.scopes name) x.owner has
 

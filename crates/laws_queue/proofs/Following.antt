@@ -1,5 +1,6 @@
 -- Steps over the queue are steps over the stamps.
 use Rattle.std.proofs.Common.{◌≡◌, ◌∙◌, ◌+◌, ◌-◌, ◌==◌, ◌≤◌, ℕ, List, [], ◌∷◌, ◌++◌, length, map, filter, filter_map, fold, find, Bool, true, false, not, ◌&&◌, ◌||◌, Option, Some, None, if◌then◌else◌, refl, sym, ap, subst, arith, nat_lt, max, IfSome, lit≤, is_some, is_none}
+use Rattle.std.proofs.lemmas.Bool.{and_parts}
 use Rattle.std.proofs.lemmas.Bool.Decides.{nat_tests}
 use Rattle.std.specs.Option.{option_map}
 use Rattle.std.specs.List.{list_all}
@@ -33,7 +34,6 @@ use Rattle.laws_queue.specs.Stands.{Rise, StandsFor}
 use Rattle.laws_queue.specs.Well.{bit, occurs, IsQueue, IsWell}
 use Rattle.laws_queue.proofs.Keeping.{steps_keep_well}
 use Rattle.laws_queue.proofs.Blind.{fold_blind}
-use Rattle.laws_queue.proofs.Settles.{both}
 use Rattle.laws_queue.proofs.Steps.{settle_blind}
 use Rattle.laws_queue.proofs.Turns.{turn_blind, expire_one_blind, shut_blind, root_closed}
 
@@ -239,7 +239,7 @@ module _ {V : Type 0} where
   nothing_in : (f : ℕ → Call → Option Try) (cs : List (Coroutine V)) → ((n : ℕ) (call : Call) → may_wait call ≡ true → f n call ≡ None) → list_all waits_plainly cs ≡ true → filter_map (λ (c : Coroutine V). if_some (pending_call c.mode) None (f c.number)) cs ≡ []
   nothing_in f [] h e = refl
   nothing_in f (c ∷ cs) h e =
-      let b = both (waits_plainly c) (list_all waits_plainly cs) e in
+      let b = and_parts (waits_plainly c) (list_all waits_plainly cs) e in
       let none = nothing_at (f c.number) (pending_call c.mode) (h c.number) b.0 in
       rw none (nothing_in f cs h b.1)
 

@@ -1,5 +1,6 @@
 -- What keeps a world plain.
 use Rattle.std.proofs.Common.{◌≡◌, ◌∙◌, ◌+◌, ℕ, List, [], ◌∷◌, fold, true, Option, Some, None, refl, ap}
+use Rattle.std.proofs.lemmas.Bool.{and_from}
 use Rattle.std.specs.List.{list_all}
 use Rattle.dill_calls.specs.declared.answer.Answer.{Answer}
 use Rattle.dill_calls.specs.declared.answer.Answer.TheVariants.{Number}
@@ -22,7 +23,7 @@ use Rattle.dill_rules.specs.World.{World, is_coroutine, set_mode, with_mode, rep
 use Rattle.dill_rules.specs.Owning.{entry_of, take_thing, move, drop, release, close_bundle, free_bundle}
 use Rattle.dill_rules.specs.Effects.{make, add_bundle, bear, give_all}
 use Rattle.laws_queue.specs.Plain.{may_wait, waits_plainly, is_plain_thing, is_plain_entry, IsPlain}
-use Rattle.laws_queue.proofs.Lists.{join, all_append, all_without, all_change, all_found}
+use Rattle.laws_queue.proofs.Lists.{all_append, all_without, all_change, all_found}
 
 module _ {V : Type 0} where
   -- a step that touches neither channels nor links
@@ -63,7 +64,7 @@ module _ {V : Type 0} where
 
   pub make_plain : (w : World V) (thing : Thing) (owner : ℕ) → is_plain_thing thing ≡ true → IsPlain w → IsPlain (make w thing owner)
   make_plain w thing owner e plain =
-      plain_with w (make w thing owner) refl refl refl refl (λ h. all_append is_plain_entry w.handles.entries (record { number = handles.next_number w.handles; thing = thing; owner = owner } ∷ []) h (join (is_plain_thing thing) true e refl)) (λ h. h) plain
+      plain_with w (make w thing owner) refl refl refl refl (λ h. all_append is_plain_entry w.handles.entries (record { number = handles.next_number w.handles; thing = thing; owner = owner } ∷ []) h (and_from (is_plain_thing thing) true e refl)) (λ h. h) plain
 
   pub add_bundle_plain : (w : World V) (who : ℕ) → IsPlain w → IsPlain (add_bundle w who)
   add_bundle_plain w who plain =
@@ -95,7 +96,7 @@ module _ {V : Type 0} where
       let it = thing_plain w number x plain e in
       let less : World V = record w { handles = handles.renumber w.handles number x.thing owner } in
       let moved : IsPlain less = plain_with w less refl refl refl refl
-      (λ h. all_append is_plain_entry (without (handles.is_entry number) w.handles.entries) (record { number = handles.next_number w.handles; thing = x.thing; owner = owner } ∷ []) (all_without is_plain_entry (handles.is_entry number) w.handles.entries h) (join (is_plain_thing x.thing) true it refl))
+      (λ h. all_append is_plain_entry (without (handles.is_entry number) w.handles.entries) (record { number = handles.next_number w.handles; thing = x.thing; owner = owner } ∷ []) (all_without is_plain_entry (handles.is_entry number) w.handles.entries h) (and_from (is_plain_thing x.thing) true it refl))
       (λ h. h) plain in
       note_plain (take_thing less x.thing owner) (Moved number (handles.next_number w.handles)) (take_thing_plain less x.thing owner moved))
 

@@ -1,5 +1,6 @@
 -- What settling and expiring do without looking at random numbers, in a plain world.
 use Rattle.std.proofs.Common.{◌≡◌, ◌∙◌, ◌==◌, ℕ, List, [], ◌∷◌, filter, reverse, find, Bool, true, false, ◌&&◌, Option, Some, None, refl, ap}
+use Rattle.std.proofs.lemmas.Bool.{and_parts}
 use Rattle.std.specs.List.{list_all}
 use Rattle.std.specs.Option.{option_or}
 use Rattle.dill_calls.specs.declared.answer.Answer.{Answer}
@@ -21,11 +22,6 @@ use Rattle.dill_rules.specs.Settling.{close_owned, close_all, highest_first, is_
 use Rattle.laws_queue.specs.Plain.{lent, may_wait, waits_plainly}
 use Rattle.laws_queue.proofs.Blind.{some_blind, if_blind, fold_blind, release_blind}
 
-pub both : (a b : Bool) → (a && b) ≡ true → (a ≡ true) × (b ≡ true)
-both true true e = (refl, refl)
-both true false e = cc
-both false b e = cc
-
 module _ {V : Type 0} where
   pub answer_blind : (u : Stream) (w : World V) (who : ℕ) (call : Call) → may_wait call ≡ true → answer_of ((lent u) w) who call ≡ answer_of w who call
   answer_blind u w who (calls.Msleep deadline) e = refl
@@ -40,7 +36,7 @@ module _ {V : Type 0} where
   pub first_blind : (u : Stream) (w : World V) (cs : List (Coroutine V)) → list_all waits_plainly cs ≡ true → first_some (answer_due ((lent u) w)) cs ≡ first_some (answer_due w) cs
   first_blind u w [] e = refl
   first_blind u w (c ∷ cs) e =
-      let h = both (waits_plainly c) (list_all waits_plainly cs) e in
+      let h = and_parts (waits_plainly c) (list_all waits_plainly cs) e in
       ap (λ o. option_or o (first_some (answer_due ((lent u) w)) cs)) ((due_blind u) w c.number (pending_call c.mode) h.0) ∙ ap (λ o. option_or (answer_due w c) o) ((first_blind u) w cs h.1)
 
   pub give_blind : (u : Stream) (w : World V) (who : ℕ) (call : Call) (answer : Answer) → may_wait call ≡ true → give ((lent u) w) who call answer ≡ (lent u) (give w who call answer)

@@ -1,5 +1,6 @@
 -- The steps of a plain world look at no random number, and leave it plain.
 use Rattle.std.proofs.Common.{◌≡◌, ◌∙◌, ◌==◌, ℕ, zero, suc, List, [], ◌∷◌, length, fold, filter, reverse, find, Bool, true, false, Option, Some, None, if◌then◌else◌, refl, sym, ap, subst}
+use Rattle.std.proofs.lemmas.Bool.{and_parts}
 use Rattle.std.specs.List.{list_all}
 use Rattle.std.specs.Option.{option_or}
 use Rattle.dill_calls.specs.declared.answer.Answer.{Answer}
@@ -19,7 +20,7 @@ use Rattle.laws_queue.specs.Plain.{lent, may_wait, waits_plainly, IsPlain}
 use Rattle.laws_queue.proofs.Blind.{some_blind}
 use Rattle.laws_queue.proofs.Lists.{all_without, all_found}
 use Rattle.laws_queue.proofs.Plainly.{plain_with, reply_plain, release_plain, free_bundle_plain, fold_plain}
-use Rattle.laws_queue.proofs.Settles.{both, first_blind, give_blind, finish_blind}
+use Rattle.laws_queue.proofs.Settles.{first_blind, give_blind, finish_blind}
 
 pub some_blind_at : {V A : Type 0} (u : Stream) (o : Option A) (n w : World V) (g f : A → World V) → n ≡ (lent u) w → ((a : A) → o ≡ Some a → g a ≡ (lent u) (f a)) → if_some o n g ≡ (lent u) (if_some o w f)
 some_blind_at u None n w g f e h = e
@@ -61,7 +62,7 @@ module _ {V : Type 0} where
   pub first_waits : (w : World V) (cs : List (Coroutine V)) (x : ℕ × Call × Answer) → list_all waits_plainly cs ≡ true → first_some (answer_due w) cs ≡ Some x → may_wait x.1 ≡ true
   first_waits w [] x e f = cc
   first_waits w (c ∷ cs) x e f =
-      let h = both (waits_plainly c) (list_all waits_plainly cs) e in
+      let h = and_parts (waits_plainly c) (list_all waits_plainly cs) e in
       due_at w c (answer_due w c) (first_some (answer_due w) cs) x f (λ g. due_call w c.number (pending_call c.mode) x g h.0) (first_waits w cs x h.1)
 
   pub give_plain : (w : World V) (who : ℕ) (call : Call) (answer : Answer) → may_wait call ≡ true → IsPlain w → IsPlain (give w who call answer)
@@ -127,7 +128,7 @@ module _ {V : Type 0} where
   pass_list : (w : World V) (cs : List (Coroutine V)) → list_all waits_plainly cs ≡ true → fold pass_one w cs ≡ w
   pass_list w [] e = refl
   pass_list w (c ∷ cs) e =
-      let h = both (waits_plainly c) (list_all waits_plainly cs) e in
+      let h = and_parts (waits_plainly c) (list_all waits_plainly cs) e in
       ap (λ v. fold pass_one v cs) (pass_call w (pending_call c.mode) c refl h.0) ∙ pass_list w cs h.1
 
   -- in a plain world nobody's stack is looked at

@@ -1,5 +1,6 @@
 -- Closing the root once more changes nothing but the notes.
 use Rattle.std.proofs.Common.{◌≡◌, ◌∙◌, ℕ, zero, suc, List, [], ◌∷◌, ◌++◌, length, map, find, filter, Bool, true, false, cond, Option, Some, None, refl, sym, ap, subst}
+use Rattle.std.proofs.lemmas.Bool.{and_parts}
 use Rattle.std.proofs.lemmas.List.{append-nil}
 use Rattle.std.specs.List.{list_all}
 use Rattle.std.specs.Option.{option_or}
@@ -20,7 +21,6 @@ use Rattle.dill_rules.specs.Giving.{give}
 use Rattle.dill_rules.specs.State.{lined, lined_mode, is_fresh, fresh}
 use Rattle.laws_queue.specs.Kept.{Kept, queued, kept_shut}
 use Rattle.laws_queue.specs.Plain.{IsPlain, may_wait, waits_plainly}
-use Rattle.laws_queue.proofs.Settles.{both}
 use Rattle.laws_queue.proofs.Steps.{pass_plain}
 use Rattle.laws_sound.specs.Laws.{is_closing, is_resting, IsAtRest}
 use Rattle.laws_debt.specs.Closing.{IsClosing}
@@ -67,7 +67,7 @@ module _ {V : Type 0} where
   first_begun : (w : World V) (cs : List (Coroutine V)) → list_all waits_plainly cs ≡ true → first_some (answer_due (begin w)) cs ≡ first_some (answer_due w) cs
   first_begun w [] e = refl
   first_begun w (c ∷ cs) e =
-      let h = both (waits_plainly c) (list_all waits_plainly cs) e in
+      let h = and_parts (waits_plainly c) (list_all waits_plainly cs) e in
       ap (λ o. option_or o (first_some (answer_due (begin w)) cs)) (due_begun w c.number (pending_call c.mode) h.0) ∙ ap (λ o. option_or (answer_due w c) o) (first_begun w cs h.1)
 
   begun_settled : (w : World V) → IsPlain w → IsSettled w → IsSettled (begin w)
@@ -99,13 +99,13 @@ module _ {V : Type 0} where
   lined_same : (cs : List (Coroutine V)) → list_all (λ c. is_resting c.mode) cs ≡ true → map lined cs ≡ cs
   lined_same [] e = refl
   lined_same (c ∷ cs) e =
-      let h = both (is_resting c.mode) (list_all (λ c. is_resting c.mode) cs) e in
+      let h = and_parts (is_resting c.mode) (list_all (λ c. is_resting c.mode) cs) e in
       ap (λ m. record c { mode = m } ∷ map lined cs) (lined_rest c.mode h.0) ∙ ap (λ ds. c ∷ ds) (lined_same cs h.1)
 
   nobody_fresh : (cs : List (Coroutine V)) → list_all (λ c. is_resting c.mode) cs ≡ true → filter (λ c. is_fresh c.mode) cs ≡ []
   nobody_fresh [] e = refl
   nobody_fresh (c ∷ cs) e =
-      let h = both (is_resting c.mode) (list_all (λ c. is_resting c.mode) cs) e in
+      let h = and_parts (is_resting c.mode) (list_all (λ c. is_resting c.mode) cs) e in
       ap (λ b. cond b (c ∷ filter (λ c. is_fresh c.mode) cs) (filter (λ c. is_fresh c.mode) cs)) (fresh_rest c.mode h.0) ∙ nobody_fresh cs h.1
 
   queued_same : (w : World V) (ready : List ℕ) (early : ℕ) → IsAtRest w → queued w ready early ≡ record { world = w; ready = ready; early = early }

@@ -1,5 +1,6 @@
 -- After each step that settles nothing is due, and all are at rest.
 use Rattle.std.proofs.Common.{◌≡◌, ◌∙◌, ℕ, ◌-◌, List, [], ◌∷◌, length, map, find, fold, Bool, true, false, ◌&&◌, cond, Option, Some, None, refl, sym, ap, subst}
+use Rattle.std.proofs.lemmas.Bool.{and_parts}
 use Rattle.std.specs.Prelude.{max}
 use Rattle.std.specs.List.{list_all}
 use Rattle.std.specs.Option.{option_or}
@@ -37,7 +38,6 @@ use Rattle.laws_sound.specs.Order.{IsInOrder}
 use Rattle.laws_sound.proofs.Going.{or_none}
 use Rattle.laws_sound.proofs.Keeping.{order_go_on, turn_is}
 use Rattle.laws_sound.proofs.Leaving.{lined_ends}
-use Rattle.laws_sound.proofs.Lists.{both}
 use Rattle.laws_sound.proofs.Resting.{Still, still_settle, still_expire, still_go_on, still_rests, rests_lined}
 use Rattle.laws_sound.proofs.Stepping.{lined_pending}
 
@@ -68,7 +68,7 @@ module _ {V : Type 0} where
   none_due : (w v : World V) (f : Coroutine V → Coroutine V) → ((c : Coroutine V) → waits_plainly c ≡ true → answer_due v (f c) ≡ answer_due w c) → (cs : List (Coroutine V)) → list_all waits_plainly cs ≡ true → first_some (answer_due w) cs ≡ None → first_some (answer_due v) (map f cs) ≡ None
   none_due w v f same [] p e = refl
   none_due w v f same (c ∷ cs) p e =
-      let b = both (waits_plainly c) (list_all waits_plainly cs) p in
+      let b = and_parts (waits_plainly c) (list_all waits_plainly cs) p in
       let o = or_none (answer_due w c) (first_some (answer_due w) cs) e in
       ap (λ r. option_or r (first_some (answer_due v) (map f cs))) (same c b.0 ∙ o.0) ∙ none_due w v f same cs b.1 o.1
 

@@ -1,5 +1,6 @@
 -- New coroutines, and coroutines that are gone: what keeps a world fitting together.
 use Rattle.std.proofs.Common.{◌≡◌, ◌∙◌, ℕ, ◌+◌, ◌<◌, ◌==◌, List, [], ◌∷◌, ◌++◌, length, find, Bool, true, false, not, Option, Some, None, if◌then◌else◌, refl, sym, ap, subst, arith}
+use Rattle.std.proofs.lemmas.Bool.{and_parts, and_from}
 use Rattle.std.specs.Prelude.{is_some, is_none}
 use Rattle.std.specs.List.{list_all}
 use Rattle.std.proofs.lemmas.Bool.Decides.{nat_tests}
@@ -30,7 +31,7 @@ use Rattle.laws_sound.proofs.Counting.{found_push, length_without, length_push, 
 use Rattle.laws_sound.proofs.Crews.{gone_without, other_without}
 use Rattle.laws_sound.proofs.Fitting.{next_is_new, fits_anyway}
 use Rattle.laws_sound.proofs.Handing.{equal, unequal}
-use Rattle.laws_sound.proofs.Lists.{both, join, all_follow, all_from}
+use Rattle.laws_sound.proofs.Lists.{all_follow, all_from}
 
 module _ {V : Type 0} where
   numbered_push : (c : Coroutine V) (cs : List (Coroutine V)) (low high : ℕ) → Numbered low cs high → c.number ≡ high + 1 → Numbered low (cs ++ c ∷ []) (high + 1)
@@ -60,8 +61,8 @@ module _ {V : Type 0} where
         names = f.names;
         kinds = f.kinds;
         held = all_follow (is_held w) (is_held (bear w view home)) w.handles.entries (λ x g.
-            let b = both (is_there w x.owner) (if_some (bundle_of x.thing) true (has_bundle w x.owner)) g in
-            join (is_there (bear w view home) x.owner) (if_some (bundle_of x.thing) true (has_bundle w x.owner)) (some_stays (coroutine_of w x.owner) (coroutine_of (bear w view home) x.owner) (λ d e. found_push (is_coroutine x.owner) w.coroutines c d e) b.0) b.1) f.held;
+            let b = and_parts (is_there w x.owner) (if_some (bundle_of x.thing) true (has_bundle w x.owner)) g in
+            and_from (is_there (bear w view home) x.owner) (if_some (bundle_of x.thing) true (has_bundle w x.owner)) (some_stays (coroutine_of w x.owner) (coroutine_of (bear w view home) x.owner) (λ d e. found_push (is_coroutine x.owner) w.coroutines c d e) b.0) b.1) f.held;
       }
 
   held_without : (w v : World V) (who : ℕ) (es : List (Entry Thing)) → ((n : ℕ) → (n ≡ who → ⊥) → is_there v n ≡ is_there w n) → ((x : Entry Thing) → if_some (bundle_of x.thing) true (has_bundle v x.owner) ≡ if_some (bundle_of x.thing) true (has_bundle w x.owner)) → list_all (λ x. not (x.owner == who)) es ≡ true → list_all (is_held w) es ≡ true → list_all (is_held v) es ≡ true

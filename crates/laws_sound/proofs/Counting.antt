@@ -1,11 +1,11 @@
 -- Sums over lists, and what is left of them where one record is added, changed or taken away.
 use Rattle.std.proofs.Common.{◌≡◌, ◌∙◌, ℕ, ◌+◌, ◌≤◌, ◌==◌, List, [], ◌∷◌, ◌++◌, length, map, find, filter_map, Bool, true, false, not, ◌&&◌, cond, Option, Some, None, refl, sym, ap, arith}
+use Rattle.std.proofs.lemmas.Bool.{and_parts, and_from}
 use Rattle.std.specs.Prelude.{filter, nat_le}
 use Rattle.std.specs.List.{list_all}
 use Rattle.std.proofs.lemmas.Bool.Decides.{nat_tests}
 use Rattle.dill_base.specs.Maps.{if_some, without}
 use Rattle.laws_queue.specs.Well.{bit, occurs}
-use Rattle.laws_sound.proofs.Lists.{both, join}
 
 -- the sum of what each weighs
 abbrev pub weigh : {X : Type 0} → (X → ℕ) → List X → ℕ
@@ -149,10 +149,10 @@ module _ {X : Type 0} where
       at false g rest = rest g f
 
   pub all_push : (test : X → Bool) (xs : List X) (y : X) → list_all test xs ≡ true → test y ≡ true → list_all test (xs ++ y ∷ []) ≡ true
-  all_push test [] y e f = join (test y) true f refl
+  all_push test [] y e f = and_from (test y) true f refl
   all_push test (x ∷ xs) y e f =
-      let b = both (test x) (list_all test xs) e in
-      join (test x) (list_all test (xs ++ y ∷ [])) b.0 (all_push test xs y b.1 f)
+      let b = and_parts (test x) (list_all test xs) e in
+      and_from (test x) (list_all test (xs ++ y ∷ [])) b.0 (all_push test xs y b.1 f)
 
   pub length_push : (xs : List X) (y : X) → length (xs ++ y ∷ []) ≡ length xs + 1
   length_push [] y = refl
@@ -252,7 +252,7 @@ module _ {X : Type 0} (key : X → ℕ) (p : X → Bool) where
   all_unique test [] w h = refl
   all_unique test (x ∷ xs) w h =
       let same : (key x == key x) ≡ true = grind (arith, nat_tests) in
-      join (test x) (list_all test xs) (h x (rw same refl))
+      and_from (test x) (list_all test xs) (h x (rw same refl))
       (all_unique test xs (λ n. let l = w n in omega (arith, l)) (λ y e. h y (skip y e (key x == key y) refl)))
     where
       skip : (y : X) → find (λ z. key z == key y) xs ≡ Some y → (b : Bool) → (key x == key y) ≡ b → cond (key x == key y) (Some x) (find (λ z. key z == key y) xs) ≡ Some y

@@ -1,5 +1,6 @@
 -- Each plain call that is entered keeps a world in order.
 use Rattle.std.proofs.Common.{◌≡◌, ◌∙◌, ℕ, ◌+◌, ◌<◌, ◌≤◌, ◌==◌, List, [], ◌∷◌, ◌++◌, length, find, Bool, true, false, not, ◌&&◌, ◌||◌, cond, inl, inr, Option, Some, None, if◌then◌else◌, refl, sym, ap, subst, arith}
+use Rattle.std.proofs.lemmas.Bool.{or_parts}
 use Rattle.std.specs.Prelude.{is_some, is_none, nat_le, nat_lt}
 use Rattle.std.specs.List.{list_any}
 use Rattle.std.proofs.lemmas.Bool.Decides.{nat_tests}
@@ -58,10 +59,6 @@ use Rattle.laws_sound.proofs.Sound.{same_there}
 
 -- ---- what a call isn't refused for
 
-pub or_nots : (a b : Bool) → (a || b) ≡ false → (a ≡ false) × (b ≡ false)
-or_nots true b e = cc
-or_nots false b e = (refl, e)
-
 none_first : (f : Errno → Bool) (e : Errno) (es : List Errno) → find f (e ∷ es) ≡ None → (f e ≡ false) × (find f es ≡ None)
 none_first f e es h = at (f e) h
   where
@@ -114,16 +111,16 @@ module _ {V : Type 0} (p : Program V) where
   pub may : (w : World V) (who : ℕ) (view : V) (call : Call) → refuse p w who view call ≡ None → May w who view call
   may w who view call e =
       let u = unrefused (holds p w who view call) (gives_up (word_of call)) e in
-      let short = (or_nots (holds_of_itself p w who view call errnos.Emfile) (is_refused_by_stack w call errnos.Emfile) u.short).0 in
-      let busy = (or_nots (holds_of_itself p w who view call errnos.Ebusy) (is_refused_by_stack w call errnos.Ebusy) u.busy).0 in
-      let shorts = or_nots (not (handles.has_room w.handles (draws_of call))) ((bears (word_of call) && has_no_coroutine w) || (links (word_of call) && has_no_link w)) short in
+      let short = (or_parts (holds_of_itself p w who view call errnos.Emfile) (is_refused_by_stack w call errnos.Emfile) u.short).0 in
+      let busy = (or_parts (holds_of_itself p w who view call errnos.Ebusy) (is_refused_by_stack w call errnos.Ebusy) u.busy).0 in
+      let shorts = or_parts (not (handles.has_room w.handles (draws_of call))) ((bears (word_of call) && has_no_coroutine w) || (links (word_of call) && has_no_link w)) short in
       record {
-        alive = (or_nots (holds_of_itself p w who view call errnos.Ebadf) (is_refused_by_stack w call errnos.Ebadf) u.dead).0;
-        other = (or_nots (holds_of_itself p w who view call errnos.Enotsup) (is_refused_by_stack w call errnos.Enotsup) u.other).0;
-        valid = (or_nots (holds_of_itself p w who view call errnos.Einval) (is_refused_by_stack w call errnos.Einval) u.invalid).0;
-        crew = (or_nots (bears (word_of call) && has_no_coroutine w) (links (word_of call) && has_no_link w) shorts.1).0;
+        alive = (or_parts (holds_of_itself p w who view call errnos.Ebadf) (is_refused_by_stack w call errnos.Ebadf) u.dead).0;
+        other = (or_parts (holds_of_itself p w who view call errnos.Enotsup) (is_refused_by_stack w call errnos.Enotsup) u.other).0;
+        valid = (or_parts (holds_of_itself p w who view call errnos.Einval) (is_refused_by_stack w call errnos.Einval) u.invalid).0;
+        crew = (or_parts (bears (word_of call) && has_no_coroutine w) (links (word_of call) && has_no_link w) shorts.1).0;
         room = room_is w.handles (draws_of call) shorts.0;
-        takes = (or_nots (list_any (cannot_take w who call) (taken_by call)) (is_occupied w call || (is_in_use w call || is_closed_bundle w who call)) busy).0;
+        takes = (or_parts (list_any (cannot_take w who call) (taken_by call)) (is_occupied w call || (is_in_use w call || is_closed_bundle w who call)) busy).0;
       }
 
 module _ {V : Type 0} where
@@ -131,9 +128,9 @@ module _ {V : Type 0} where
   not_within : (w : World V) (who : ℕ) (call : Call) (number name : ℕ) (x : Entry Thing) → cannot_take w who call number ≡ false → entry_of w number ≡ Some x → x.thing ≡ things.Bundle name → (is_inside w.scopes name who ≡ false) × (bears_inside w call name ≡ false)
   not_within w who call number name x e f t =
       let one : (is_within w who call x.thing || (is_held_back w who x || (is_awaited w call number || is_cancelled_taker w who call x))) ≡ false = ap (λ o. if_some o false (λ y. is_within w who call y.thing || (is_held_back w who y || (is_awaited w call number || is_cancelled_taker w who call y)))) (sym f) ∙ e in
-      let two = (or_nots (is_within w who call x.thing) (is_held_back w who x || (is_awaited w call number || is_cancelled_taker w who call x)) one).0 in
+      let two = (or_parts (is_within w who call x.thing) (is_held_back w who x || (is_awaited w call number || is_cancelled_taker w who call x)) one).0 in
       let three : (is_inside w.scopes name who || bears_inside w call name) ≡ false = ap (λ h. is_within w who call h) (sym t) ∙ two in
-      or_nots (is_inside w.scopes name who) (bears_inside w call name) three
+      or_parts (is_inside w.scopes name who) (bears_inside w call name) three
 
   outside : (w : World V) (name who : ℕ) → IsInOrder w → is_inside w.scopes name who ≡ false → Inside w.scopes name who → ⊥
   outside w name who o e i = let t = (search_is_inside w.scopes name who o.fits.forest.forest).1 i in cc
@@ -183,7 +180,7 @@ module _ {V : Type 0} where
       record { order = o; one = h.one; found = found_push (is_coroutine who) g.coroutines (newborn g view) h.one (ap (find (is_coroutine who)) (give_all_crew w ns owner).coroutines ∙ h.found); free = h.free }
 
   no_room : (w : World V) → has_no_coroutine w ≡ false → length w.coroutines < 65536
-  no_room w e = let b = (or_nots (nat_le 65536 (length w.coroutines)) (nat_le 18446744073709551615 w.last_coroutine) e).0 in grind (arith, nat_tests)
+  no_room w e = let b = (or_parts (nat_le 65536 (length w.coroutines)) (nat_le 18446744073709551615 w.last_coroutine) e).0 in grind (arith, nat_tests)
 
   bundle_entry : (w : World V) (number home : ℕ) → bundle_named w number ≡ Some home → (x : Entry Thing) × (entry_of w number ≡ Some x) × (x.thing ≡ things.Bundle home)
   bundle_entry w number home e = at (entry_of w number) refl e
@@ -203,7 +200,7 @@ pushed_same {X} pick xs z x e f = at (find pick xs) refl e
 any_false : (test : ℕ → Bool) (ns : List ℕ) (n : ℕ) → list_any test ns ≡ false → list_any (λ m. m == n) ns ≡ true → test n ≡ false
 any_false test [] n e f = cc
 any_false test (m ∷ ns) n e f =
-    let b = or_nots (test m) (list_any test ns) e in
+    let b = or_parts (test m) (list_any test ns) e in
     at (m == n) refl f b.0 (any_false test ns n b.1)
   where
     at : (t : Bool) → (m == n) ≡ t → (t || list_any (λ k. k == n) ns) ≡ true → test m ≡ false → (list_any (λ k. k == n) ns ≡ true → test n ≡ false) → test n ≡ false
@@ -237,7 +234,7 @@ module _ {V : Type 0} (p : Program V) where
       let call = calls.Go program args in
       let ns = gifts_of args in
       let new = w.last_bundle + 1 in
-      let none_dead : list_any (is_dead w) ns ≡ false = (or_nots (list_any (is_dead w) ns) false (sym (list_any-append (is_dead w) ns []) ∙ m.alive)).0 in
+      let none_dead : list_any (is_dead w) ns ≡ false = (or_parts (list_any (is_dead w) ns) false (sym (list_any-append (is_dead w) ns []) ∙ m.alive)).0 in
       let found : entry_of w n ≡ Some x = pushed_same (has_number n) w.handles.entries (record { number = handles.next_number w.handles; thing = things.Bundle new; owner = who }) x (any_false (is_dead w) ns n none_dead l) e in
       let owned = (live w n name x h.order.fits found t).owned in
       let free = new_is_free w.scopes new h.order.fits.bundles in
@@ -271,7 +268,7 @@ module _ {V : Type 0} (p : Program V) where
       let ns = gifts_of args in
       let inner = (not_within w who call n name x (any_false (cannot_take w who call) ns n m.takes l) f t).1 in
       let apart : (home == name || if_some (owner_of w.scopes home) false (is_inside w.scopes name)) ≡ false = ap (λ o. if_some o false (λ b. lives_inside w b name)) (sym e) ∙ inner in
-      let both = or_nots (home == name) (if_some (owner_of w.scopes home) false (is_inside w.scopes name)) apart in
+      let both = or_parts (home == name) (if_some (owner_of w.scopes home) false (is_inside w.scopes name)) apart in
       elim lived [
         | inl same ↦ unequal home name both.0 same
         | inr r ↦ outside w name r.0 h.order (ap (λ o. if_some o false (is_inside w.scopes name)) (sym r.1) ∙ both.1) r.2
@@ -294,7 +291,7 @@ module _ {V : Type 0} (p : Program V) where
           replied (start p k view home program args) who words.BundleGo (Number 0) (started k who child home (k.last_coroutine + 1) ns kept started_order)
 
   proper_kind : (kind : ℕ) → (nat_lt kind 256 || nat_lt 4294967295 kind) ≡ false → nat_le 256 kind ≡ true
-  proper_kind kind e = let b = (or_nots (nat_lt kind 256) (nat_lt 4294967295 kind) e).0 in grind (arith, nat_tests)
+  proper_kind kind e = let b = (or_parts (nat_lt kind 256) (nat_lt 4294967295 kind) e).0 in grind (arith, nat_tests)
 
   -- the effect of a call that isn't refused
   perform_order : (w : World V) (who : ℕ) (view : V) (call : Call) → is_plain call ≡ true → Caller w who → May p w who view call → IsInOrder (perform p (keep_for w call) who view call)

@@ -1,5 +1,6 @@
 -- Bundles that have closed, coroutines that come and go: what keeps a world in order.
 use Rattle.std.proofs.Common.{◌≡◌, ◌∙◌, ℕ, zero, suc, ◌≤◌, ◌==◌, List, [], ◌∷◌, ◌++◌, map, find, fold, Bool, true, false, not, ◌&&◌, ◌||◌, cond, Option, Some, None, refl, sym, ap, subst, arith}
+use Rattle.std.proofs.lemmas.Bool.{and_parts, and_from}
 use Rattle.std.specs.Prelude.{is_some, nat_le, filter, option_and_then}
 use Rattle.std.specs.List.{list_all}
 use Rattle.std.proofs.lemmas.Bool.Decides.{nat_tests}
@@ -31,7 +32,7 @@ use Rattle.laws_sound.proofs.Crews.{change_here}
 use Rattle.laws_sound.proofs.Fitting.{names_it, closes_it, died_as, used_is, named, named_is}
 use Rattle.laws_sound.proofs.Going.{its_number}
 use Rattle.laws_sound.proofs.Handing.{equal, unequal, same_number}
-use Rattle.laws_sound.proofs.Lists.{both, join, all_follow, all_both, all_from}
+use Rattle.laws_sound.proofs.Lists.{all_follow, all_both, all_from}
 use Rattle.laws_sound.proofs.Nearly.{Nearly, nearly, near_set, settle_in}
 use Rattle.laws_sound.proofs.Ordering.{apart, all_true, order_anyway, going_open}
 use Rattle.laws_sound.proofs.Owners.{owns, owns_is, owns_as, drop_other, drop_here}
@@ -102,7 +103,7 @@ module _ {V : Type 0} where
       let here = change_here (with_mode mode) (λ d. refl) who w.coroutines c e in
       let in_order = settle_in v who (with_mode mode c) near here
       (all_from (λ y. not (closes_it x.bundle y)) (λ y. has_waiter w y && not (died_as number y)) (λ y. not (owns freed.scopes who y.bundle) || waits_for y.number mode) ks
-      (λ y f g. let b = both (has_waiter w y) (not (died_as number y)) g in ap (λ t. t || waits_for y.number mode) (ap not (owns_as w.scopes freed.scopes who y.bundle (drop_other w.scopes x.bundle y.bundle (apart y.bundle x.bundle f))) ∙ not_waiting w who number c y e m b.0 b.1))
+      (λ y f g. let b = and_parts (has_waiter w y) (not (died_as number y)) g in ap (λ t. t || waits_for y.number mode) (ap not (owns_as w.scopes freed.scopes who y.bundle (drop_other w.scopes x.bundle y.bundle (apart y.bundle x.bundle f))) ∙ not_waiting w who number c y e m b.0 b.1))
       (weightless (closes_it x.bundle) ks gone) (all_both (has_waiter w) (λ y. not (died_as number y)) ks (all_without (has_waiter w) (closes_it x.bundle) w.closings o.closings) (weightless (died_as number) ks other)))
       refl (going_open v who (with_mode mode c) here refl) in
       subst (λ p. IsInOrder (reply (if_some p w (free_bundle w)) who words.Hclose answer)) (sym h.found) (order_anyway v (channels.leave w.channels who) w.links w.place w.wrote w.random w.moment (w.notes ++ Freed x.number ∷ []) in_order)
@@ -113,13 +114,13 @@ bundles_all test [] who name z e f g = cc
 bundles_all test (x ∷ bs) who name z e f g = at (is_bundle name x) (if_some x.owner false (λ o. o == who)) refl f e (bundles_all test bs who name z)
   where
     at : (t b : Bool) → (if_some x.owner false (λ o. o == who)) ≡ b → cond t (Some x) (find (is_bundle name) bs) ≡ Some z → list_all test (map (λ y. y.name) (cond b (x ∷ filter (λ y. if_some y.owner false (λ o. o == who)) bs) (filter (λ y. if_some y.owner false (λ o. o == who)) bs))) ≡ true → (list_all test (map (λ y. y.name) (filter (λ y. if_some y.owner false (λ o. o == who)) bs)) ≡ true → find (is_bundle name) bs ≡ Some z → z.owner ≡ Some who → test z.name ≡ true) → test z.name ≡ true
-    at true true h i j rest = let it : x ≡ z = cc in ap (λ y. test y.name) (sym it) ∙ (both (test x.name) (list_all test (map (λ y. y.name) (filter (λ y. if_some y.owner false (λ o. o == who)) bs))) j).0
+    at true true h i j rest = let it : x ≡ z = cc in ap (λ y. test y.name) (sym it) ∙ (and_parts (test x.name) (list_all test (map (λ y. y.name) (filter (λ y. if_some y.owner false (λ o. o == who)) bs))) j).0
     at true false h i j rest =
         let it : x ≡ z = cc in
         let n : if_some z.owner false (λ o. o == who) ≡ false = ap (λ y. if_some y.owner false (λ o. o == who)) (sym it) ∙ h in
         let t : if_some z.owner false (λ o. o == who) ≡ true = ap (λ p. if_some p false (λ o. o == who)) g ∙ same_number who in
         cc
-    at false true h i j rest = rest (both (test x.name) (list_all test (map (λ y. y.name) (filter (λ y. if_some y.owner false (λ o. o == who)) bs))) j).1 i g
+    at false true h i j rest = rest (and_parts (test x.name) (list_all test (map (λ y. y.name) (filter (λ y. if_some y.owner false (λ o. o == who)) bs))) j).1 i g
     at false false h i j rest = rest j i g
 
 -- all of its bundles are empty
@@ -139,7 +140,7 @@ module _ {V : Type 0} where
       at zero f = refl
       at (suc k) f =
           let y = heavy_found (names_it name) w.handles.entries (omega (arith, f)) in
-          let held = (both (is_there w y.0.owner) (if_some (bundle_of y.0.thing) true (has_bundle w y.0.owner)) (all_found (is_held w) (names_it name) w.handles.entries y.0 o.fits.held y.1)).1 in
+          let held = (and_parts (is_there w y.0.owner) (if_some (bundle_of y.0.thing) true (has_bundle w y.0.owner)) (all_found (is_held w) (names_it name) w.handles.entries y.0 o.fits.held y.1)).1 in
           let kept = all_found (is_kept_open w) (names_it name) w.handles.entries y.0 o.endings y.1 in
           absurd (by y.0 (bundle_of y.0.thing) y.2 held kept)
         where
@@ -175,9 +176,9 @@ module _ {V : Type 0} where
   unfolding ready
   free_each [] w who h = record { near = h.near; crew = refl; entries = refl; none = λ name e. let n = h.every name e in absurd (omega (arith, n)) }
   free_each (x ∷ xs) w who h =
-      let b = both (ready w who x) (list_all (ready w who) xs) h.fit in
-      let c = both (is_empty w.scopes x.bundle) (nat_le (weigh (λ y. bit (names_it x.bundle y)) w.handles.entries) 0) b.0 in
-      let o = both (owns w.scopes who x.bundle) (list_all (λ y. owns w.scopes who y.bundle) xs) h.owned in
+      let b = and_parts (ready w who x) (list_all (ready w who) xs) h.fit in
+      let c = and_parts (is_empty w.scopes x.bundle) (nat_le (weigh (λ y. bit (names_it x.bundle y)) w.handles.entries) 0) b.0 in
+      let o = and_parts (owns w.scopes who x.bundle) (list_all (λ y. owns w.scopes who y.bundle) xs) h.owned in
       let mine = owner_is (owner_of w.scopes x.bundle) who o.0 in
       let none : weigh (λ y. bit (names_it x.bundle y)) w.handles.entries ≡ 0 = no_more (weigh (λ y. bit (names_it x.bundle y)) w.handles.entries) c.1 in
       let v = free_bundle w x in
@@ -247,4 +248,4 @@ module _ {V : Type 0} where
       fit x false f = refl
       fit x true f =
           let owned = owner_is (owner_of w.scopes x.bundle) who f in
-          join (is_empty w.scopes x.bundle) (nat_le (weigh (λ y. bit (names_it x.bundle y)) w.handles.entries) 0) (clear_empty w.scopes who x.bundle clear owned) (none_le (weigh (λ y. bit (names_it x.bundle y)) w.handles.entries) (ending_unnamed w who x.bundle c o e ending owned))
+          and_from (is_empty w.scopes x.bundle) (nat_le (weigh (λ y. bit (names_it x.bundle y)) w.handles.entries) 0) (clear_empty w.scopes who x.bundle clear owned) (none_le (weigh (λ y. bit (names_it x.bundle y)) w.handles.entries) (ending_unnamed w who x.bundle c o e ending owned))

@@ -1,5 +1,6 @@
 -- What keeps coroutines, handles and bundles fitting together.
 use Rattle.std.proofs.Common.{◌≡◌, ◌∙◌, ℕ, ◌+◌, ◌<◌, ◌≤◌, ◌==◌, List, [], ◌∷◌, length, map, find, filter_map, Bool, true, false, not, ◌&&◌, Option, Some, None, refl, sym, ap, subst, arith}
+use Rattle.std.proofs.lemmas.Bool.{and_parts, and_from}
 use Rattle.std.specs.Prelude.{is_some, All}
 use Rattle.std.specs.List.{list_all}
 use Rattle.std.proofs.lemmas.Bool.Decides.{nat_tests}
@@ -26,7 +27,7 @@ use Rattle.laws_queue.specs.Well.{Numbered, bit, occurs}
 use Rattle.laws_sound.specs.Order.{is_there, has_bundle, is_held, FitsTogether}
 use Rattle.laws_sound.proofs.Counting.{weigh, holds, weigh_map, weigh_filter}
 use Rattle.laws_sound.proofs.Crews.{change_numbers, change_numbered, change_length}
-use Rattle.laws_sound.proofs.Lists.{both, join, all_follow, all_from}
+use Rattle.laws_sound.proofs.Lists.{all_follow, all_from}
 use Rattle.laws_sound.proofs.Sound.{same_there, there_home}
 
 -- a live number names the bundle
@@ -61,11 +62,11 @@ held_by there owner x = there x.owner && if_some (bundle_of x.thing) true (λ na
 
 module _ (there more : ℕ → Bool) (owner other : ℕ → Option ℕ) where
   held_at : (name : ℕ) (x : Entry Thing) (o : Option ℕ) → (there x.owner ≡ true → more x.owner ≡ true) → ((at : ℕ) → (at ≡ name → ⊥) → other at ≡ owner at) → not (holds o name) ≡ true → (there x.owner && if_some o true (λ n. if_some (owner n) false (λ who. who == x.owner))) ≡ true → (more x.owner && if_some o true (λ n. if_some (other n) false (λ who. who == x.owner))) ≡ true
-  held_at name x None h same e f = let b = both (there x.owner) true f in join (more x.owner) true (h b.0) refl
+  held_at name x None h same e f = let b = and_parts (there x.owner) true f in and_from (more x.owner) true (h b.0) refl
   held_at name x (Some n) h same e f =
-      let b = both (there x.owner) (if_some (owner n) false (λ who. who == x.owner)) f in
+      let b = and_parts (there x.owner) (if_some (owner n) false (λ who. who == x.owner)) f in
       let ne : n ≡ name → ⊥ = λ g. let t : (n == name) ≡ true = grind (arith, nat_tests) in let u : not true ≡ true = ap not (sym t) ∙ e in cc in
-      join (more x.owner) (if_some (other n) false (λ who. who == x.owner)) (h b.0) (ap (λ p. if_some p false (λ who. who == x.owner)) (same n ne) ∙ b.1)
+      and_from (more x.owner) (if_some (other n) false (λ who. who == x.owner)) (h b.0) (ap (λ p. if_some p false (λ who. who == x.owner)) (same n ne) ∙ b.1)
 
   -- all are still held, where none names the bundle whose owner changes
   pub held_follow : (name : ℕ) (es : List (Entry Thing)) → ((n : ℕ) → there n ≡ true → more n ≡ true) → ((at : ℕ) → (at ≡ name → ⊥) → other at ≡ owner at) → list_all (λ x. not (names_it name x)) es ≡ true → list_all (held_by there owner) es ≡ true → list_all (held_by more other) es ≡ true

@@ -1,5 +1,6 @@
 -- Where a bundle is closing in which somebody lives, somebody inside it has an answer: else each of them would wait for one deeper.
 use Rattle.std.proofs.Common.{◌≡◌, ◌∙◌, ℕ, zero, suc, ◌+◌, ◌<◌, ◌==◌, List, [], ◌∷◌, length, get_or, map, find, Bool, true, false, not, ◌&&◌, ◌||◌, cond, ◌⊎◌, inl, inr, Option, Some, None, refl, sym, ap, subst, arith}
+use Rattle.std.proofs.lemmas.Bool.{and_parts}
 use Rattle.std.specs.Prelude.{is_some, is_none, option_map, option_and_then, filter}
 use Rattle.std.specs.List.{list_all, list_any}
 use Rattle.std.specs.List.Sorted.{IsStrictlyIncreasing}
@@ -33,7 +34,6 @@ use Rattle.laws_queue.proofs.Lists.{all_found}
 use Rattle.laws_queue.proofs.Stepping.{passes}
 use Rattle.laws_sound.specs.Laws.{is_closing, is_resting, IsAtRest, HasGoing, GoesOn, RootGoesOn, BundleGoesOn}
 use Rattle.laws_sound.specs.Order.{is_there, has_bundle, has_closing, closes, FitsTogether, IsInOrder}
-use Rattle.laws_sound.proofs.Lists.{both}
 use Rattle.laws_sound.proofs.Sound.{owner_is, same_there, inside_cancelled, there_inside}
 
 number_is : (a b : ℕ) → (a == b) ≡ true → a ≡ b
@@ -206,7 +206,7 @@ module _ {V : Type 0} where
   ending_deeper w who fits e =
       let any = lived_in w.scopes who w.scopes.bundles e in
       let r = found_passing (λ (x : Bundle). x.name) (λ x. has_owner who x && not (is_empty w.scopes x.name)) w.scopes.bundles fits.forest.ordered.bundles any in
-      let b = both (has_owner who r.one) (not (is_empty w.scopes r.one.name)) r.passed in
+      let b = and_parts (has_owner who r.one) (not (is_empty w.scopes r.one.name)) r.passed in
       record {
         name = r.one.name;
         owned = ap (λ o. option_and_then (λ x. x.owner) o) r.found ∙ owner_is r.one.owner who b.0;

@@ -1,5 +1,6 @@
 -- New handles, handles that get another number and owner, and handles that are released: what keeps a world fitting together.
 use Rattle.std.proofs.Common.{◌≡◌, ◌∙◌, ℕ, ◌+◌, ◌<◌, ◌≤◌, ◌==◌, List, [], ◌∷◌, ◌++◌, find, Bool, true, false, not, Some, None, refl, sym, ap, subst, arith}
+use Rattle.std.proofs.lemmas.Bool.{and_parts, and_from}
 use Rattle.std.specs.Prelude.{is_some, nat_le}
 use Rattle.std.specs.List.{list_all}
 use Rattle.std.proofs.lemmas.Bool.Decides.{nat_tests}
@@ -23,7 +24,6 @@ use Rattle.laws_queue.proofs.Lists.{all_found}
 use Rattle.laws_sound.specs.Order.{is_there, has_bundle, is_held, is_proper_thing, is_proper, FitsTogether}
 use Rattle.laws_sound.proofs.Counting.{weigh, holds, weigh_push, weigh_found, weigh_without, length_push, weightless, used_more, all_push}
 use Rattle.laws_sound.proofs.Fitting.{names_it, closes_it, has_number, used, named, used_is, named_is, held_follow, there_is}
-use Rattle.laws_sound.proofs.Lists.{both, join}
 use Rattle.laws_sound.proofs.Owners.{owns_is, new_is_free, bundle_other, bundle_new}
 use Rattle.laws_sound.proofs.Sound.{owner_is}
 
@@ -94,7 +94,7 @@ module _ {V : Type 0} where
   pub live : (w : World V) (number name : ℕ) (x : Entry Thing) → FitsTogether w → entry_of w number ≡ Some x → x.thing ≡ things.Bundle name → Live w number name x
   live w number name x f e t =
       let h : is_held w x ≡ true = all_found (is_held w) (has_number number) w.handles.entries x f.held e in
-      let b = (both (is_there w x.owner) (if_some (bundle_of x.thing) true (has_bundle w x.owner)) h).1 in
+      let b = (and_parts (is_there w x.owner) (if_some (bundle_of x.thing) true (has_bundle w x.owner)) h).1 in
       let once = named_once w.handles.entries w.closings x number name (is_some (owner_of w.scopes name)) e (thing_names x name t) (sym (named_is w.handles.entries w.closings name) ∙ f.names name) in
       record {
         owned = owner_is (owner_of w.scopes name) x.owner (ap (λ s. if_some (bundle_of s) true (has_bundle w x.owner)) (sym t) ∙ b);
@@ -104,7 +104,7 @@ module _ {V : Type 0} where
 
   -- the owner of a live number is there
   pub live_there : (w : World V) (number : ℕ) (x : Entry Thing) → FitsTogether w → entry_of w number ≡ Some x → is_there w x.owner ≡ true
-  live_there w number x f e = (both (is_there w x.owner) (if_some (bundle_of x.thing) true (has_bundle w x.owner)) (all_found (is_held w) (has_number number) w.handles.entries x f.held e)).0
+  live_there w number x f e = (and_parts (is_there w x.owner) (if_some (bundle_of x.thing) true (has_bundle w x.owner)) (all_found (is_held w) (has_number number) w.handles.entries x f.held e)).0
 
   -- nobody names a bundle without an owner
   pub unnamed : (w : World V) → FitsTogether w → (name : ℕ) → owner_of w.scopes name ≡ None → weigh (λ x. bit (names_it name x)) w.handles.entries ≡ 0
@@ -134,7 +134,7 @@ module _ {V : Type 0} where
             let b : bit (names_it name y) ≡ 0 = ap (λ o. bit (holds o name)) none in
             named_is (es ++ y ∷ []) w.closings name ∙ (let q : named (es ++ y ∷ []) w.closings name ≡ named es w.closings name = omega (arith, p, b) in q) ∙ sym (named_is es w.closings name) ∙ f.names name;
         kinds = all_push is_proper es y f.kinds proper;
-        held = all_push (is_held w) es y f.held (join (is_there w who) (if_some (bundle_of thing) true (has_bundle w who)) there (ap (λ o. if_some o true (has_bundle w who)) none));
+        held = all_push (is_held w) es y f.held (and_from (is_there w who) (if_some (bundle_of thing) true (has_bundle w who)) there (ap (λ o. if_some o true (has_bundle w who)) none));
       }
 
   -- a new bundle
@@ -159,7 +159,7 @@ module _ {V : Type 0} where
         held =
             let none : weigh (λ x. bit (names_it new x)) es ≡ 0 = unnamed w f new (new_is_free w.scopes new f.bundles) in
             let kept = held_follow (is_there w) (is_there w) (owner_of w.scopes) (owner_of (scopes.bundle w.scopes new who)) new es (λ n h. h) (λ at ne. bundle_other w.scopes new who at ne) (weightless (names_it new) es none) f.held in
-            all_push (is_held (add_bundle w who)) es y kept (join (is_there w who) (has_bundle (add_bundle w who) who new) there (owns_is (scopes.bundle w.scopes new who) who new (bundle_new w.scopes new who f.bundles)));
+            all_push (is_held (add_bundle w who)) es y kept (and_from (is_there w who) (has_bundle (add_bundle w who) who new) there (owns_is (scopes.bundle w.scopes new who) who new (bundle_new w.scopes new who f.bundles)));
       }
     where
       new_named : (v : World V) (who : ℕ) → FitsTogether v → (name : ℕ) (b : Bool) → (v.last_bundle + 1 == name) ≡ b → named v.handles.entries v.closings name + bit b ≡ bit (is_some (owner_of (scopes.bundle v.scopes (v.last_bundle + 1) who) name))

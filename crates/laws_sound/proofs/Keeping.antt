@@ -1,5 +1,6 @@
 -- Settling, turns, expiries and the other steps keep a world in order.
 use Rattle.std.proofs.Common.{◌≡◌, ◌∙◌, ℕ, zero, suc, List, [], ◌∷◌, length, find, Bool, true, false, ◌&&◌, Option, Some, None, if◌then◌else◌, refl, sym, ap, subst}
+use Rattle.std.proofs.lemmas.Bool.{and_parts}
 use Rattle.std.specs.Option.{option_or}
 use Rattle.dill_calls.specs.declared.answer.Answer.{Answer}
 use Rattle.dill_calls.specs.declared.answer.Answer.TheVariants.{Fault}
@@ -33,7 +34,6 @@ use Rattle.laws_sound.proofs.Crews.{change_here}
 use Rattle.laws_sound.proofs.Entering.{order_enter, found_call}
 use Rattle.laws_sound.proofs.Finishing.{order_give_close}
 use Rattle.laws_sound.proofs.Leaving.{order_finish}
-use Rattle.laws_sound.proofs.Lists.{both}
 use Rattle.laws_sound.proofs.Nearly.{is_free}
 use Rattle.laws_sound.proofs.Ordering.{order_anyway, order_free, order_reply}
 use Rattle.laws_sound.proofs.Shutting.{order_end}
@@ -106,7 +106,7 @@ module _ {V : Type 0} where
       at : (p : Option (Coroutine V)) → find (can_finish w) w.coroutines ≡ p → IsInOrder (if_some p (give_first w) (finish w))
       at None e = order_give_first w plain o
       at (Some c) e =
-          let b = both (is_ending c.mode) (is_clear w c.number) (passes (can_finish w) w.coroutines c e) in
+          let b = and_parts (is_ending c.mode) (is_clear w c.number) (passes (can_finish w) w.coroutines c e) in
           order_finish w c o (by_number 0 w.last_coroutine (can_finish w) w.coroutines c e o.fits.numbered) b.0 b.1
 
   order_within : (k : ℕ) (w : World V) → IsPlain w → IsInOrder w → IsInOrder (settle_within k w)

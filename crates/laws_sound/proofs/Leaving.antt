@@ -1,5 +1,6 @@
 -- Coroutines that come and go, and answers that get their places: what keeps a world in order.
 use Rattle.std.proofs.Common.{◌≡◌, ◌∙◌, ℕ, ◌<◌, ◌==◌, List, [], ◌∷◌, ◌++◌, length, map, find, fold, Bool, true, false, not, ◌||◌, cond, Option, Some, None, if◌then◌else◌, refl, sym, ap, subst}
+use Rattle.std.proofs.lemmas.Bool.{and_parts, and_from, or_right}
 use Rattle.std.specs.Prelude.{filter, reverse}
 use Rattle.std.specs.List.{list_all, list_any}
 use Rattle.dill_calls.specs.declared.ran.Note.TheVariants.{Freed}
@@ -31,8 +32,8 @@ use Rattle.laws_sound.proofs.Crews.{other_without, map_numbers, map_numbered, ma
 use Rattle.laws_sound.proofs.Finishing.{free_bare}
 use Rattle.laws_sound.proofs.Fitting.{has_number, fits_crew}
 use Rattle.laws_sound.proofs.Handing.{equal, unequal, same_number, tell}
-use Rattle.laws_sound.proofs.Lists.{both, join, all_follow, all_from}
-use Rattle.laws_sound.proofs.Nearly.{or_second, settle_in}
+use Rattle.laws_sound.proofs.Lists.{all_follow, all_from}
+use Rattle.laws_sound.proofs.Nearly.{settle_in}
 use Rattle.laws_sound.proofs.Ordering.{apart, all_true, order_release}
 use Rattle.laws_sound.proofs.Owners.{owns}
 use Rattle.laws_sound.proofs.Shutting.{is_mine, once}
@@ -91,7 +92,7 @@ module _ {V : Type 0} where
   release_each : (ns : List ℕ) (w : World V) (who : ℕ) (c : Coroutine V) → IsInOrder w → coroutine_of w who ≡ Some c → is_ending c.mode ≡ true → list_all (held_as who w.handles.entries) ns ≡ true → list_all (listed who ns) w.handles.entries ≡ true → Handless w (fold release w ns) who
   release_each [] w who c o e ending held lists = record { order = o; coroutines = refl; scopes = refl; none = all_follow (listed who []) (λ y. not (is_mine who y)) w.handles.entries (λ y f. or_none (not (is_mine who y)) f) lists }
   release_each (n ∷ ns) w who c o e ending held lists =
-      let b = both (held_as who w.handles.entries n) (list_all (held_as who w.handles.entries) ns) held in
+      let b = and_parts (held_as who w.handles.entries n) (list_all (held_as who w.handles.entries) ns) held in
       let r = released w n in
       let v = release w n in
       let order = order_release w n o (λ x f. no_bundle w who c x e ending (ap (λ p. if_some p true (is_mine who)) (sym f) ∙ b.0) (all_found (is_kept_open w) (has_number n) w.handles.entries x o.endings f)) in
@@ -177,7 +178,7 @@ module _ {V : Type 0} where
       (all_follow (λ x. true) (λ x. not (owns freed.scopes who x.bundle) || waits_for x.number c.mode) freed.closings (λ x f. ap (λ t. not t || waits_for x.number c.mode) (not_owned freed who (owner_of freed.scopes x.bundle) (b.none x.bundle))) (all_true freed.closings))
       (no_call freed c.mode ending)
       (ap (λ h. list_all (λ x. not (x.owner == who) || is_kept_open freed x) h.entries) b.entries
-      ∙ all_follow (is_kept_open w) (λ x. not (x.owner == who) || is_kept_open freed x) w.handles.entries (λ x f. or_second (not (x.owner == who)) (is_kept_open freed x) (ap (λ cs. if_some (bundle_of x.thing) true (λ name. not (is_at is_ending cs x.owner))) b.crew ∙ f)) o.endings) in
+      ∙ all_follow (is_kept_open w) (λ x. not (x.owner == who) || is_kept_open freed x) w.handles.entries (λ x f. or_right (not (x.owner == who)) (is_kept_open freed x) (ap (λ cs. if_some (bundle_of x.thing) true (λ name. not (is_at is_ending cs x.owner))) b.crew ∙ f)) o.endings) in
       let r = release_bare freed who c free_order there ending in
       let bare = release_all freed who in
       order_left bare c r.order (ap (find (is_coroutine who)) r.coroutines ∙ there) (λ name f. b.none name (ap (λ s. owner_of s name) (sym r.scopes) ∙ f)) r.none
@@ -242,7 +243,7 @@ lined_ends (modes.Ending outcome) = refl
 module _ {V : Type 0} where
   all_lined : (test : Coroutine V → Bool) (cs : List (Coroutine V)) → ((c : Coroutine V) → test c ≡ true → test (lined c) ≡ true) → list_all test cs ≡ true → list_all test (map lined cs) ≡ true
   all_lined test [] h e = refl
-  all_lined test (c ∷ cs) h e = let b = both (test c) (list_all test cs) e in join (test (lined c)) (list_all test (map lined cs)) (h c b.0) (all_lined test cs h b.1)
+  all_lined test (c ∷ cs) h e = let b = and_parts (test c) (list_all test cs) e in and_from (test (lined c)) (list_all test (map lined cs)) (h c b.0) (all_lined test cs h b.1)
 
   -- the answers of a step get their places
   pub order_lined : (w : World V) → IsInOrder w → IsInOrder (record w { coroutines = map lined w.coroutines })

@@ -1,5 +1,6 @@
 -- Handles that get another number and owner, or that are released, bundles that begin to close or are gone: what keeps a world fitting together.
 use Rattle.std.proofs.Common.{◌≡◌, ◌∙◌, ℕ, ◌+◌, ◌-◌, ◌<◌, ◌≤◌, ◌==◌, List, [], ◌∷◌, ◌++◌, length, map, find, filter_map, Bool, true, false, ◌&&◌, cond, Option, Some, None, refl, sym, ap, subst, arith}
+use Rattle.std.proofs.lemmas.Bool.{and_from}
 use Rattle.std.specs.Prelude.{is_some, nat_le, All}
 use Rattle.std.specs.List.{list_all}
 use Rattle.std.proofs.lemmas.List.Elements.{All-cons, All-head, All-tail}
@@ -26,7 +27,7 @@ use Rattle.laws_sound.specs.Order.{is_there, has_bundle, is_held, is_proper, Fit
 use Rattle.laws_sound.proofs.Counting.{weigh, holds, weigh_push, weigh_found, weigh_without, length_without, length_push, none_left, others_left, small_bit, weightless, all_push}
 use Rattle.laws_sound.proofs.Fitting.{names_it, closes_it, has_number, died_as, named, used_is, named_is, held_by, held_follow, there_is}
 use Rattle.laws_sound.proofs.Handing.{unequal, equal, tell, renumber_used, renumber_named, live}
-use Rattle.laws_sound.proofs.Lists.{join, all_follow}
+use Rattle.laws_sound.proofs.Lists.{all_follow}
 use Rattle.laws_sound.proofs.Owners.{owns_is, take_other, take_here, close_same, drop_other, drop_here, shut_other, shut_here, owned_same}
 
 -- names stay below a bound as bundles change and go
@@ -108,7 +109,7 @@ module _ {V : Type 0} where
       numbers = moved_used;
       names = moved_named;
       kinds = moved_kinds;
-      held = all_push (is_held w) (without (has_number number) es) new (all_without (is_held w) (has_number number) es f.held) (join (is_there w owner) (if_some (bundle_of x.thing) true (has_bundle w owner)) there (ap (λ o. if_some o true (has_bundle w owner)) none));
+      held = all_push (is_held w) (without (has_number number) es) new (all_without (is_held w) (has_number number) es f.held) (and_from (is_there w owner) (if_some (bundle_of x.thing) true (has_bundle w owner)) there (ap (λ o. if_some o true (has_bundle w owner)) none));
     }
 
     -- a bundle, whose new owner isn't inside it
@@ -132,7 +133,7 @@ module _ {V : Type 0} where
           held =
               let kept = held_follow (is_there w) (is_there w) (owner_of w.scopes) (owner_of s) name (without (has_number number) es) (λ n h. h) (λ at ne. take_other w.scopes name owner at ne) l.others (all_without (is_held w) (has_number number) es f.held) in
               all_push (is_held v) (without (has_number number) es) new kept
-              (join (is_there w owner) (if_some (bundle_of x.thing) true (has_bundle v owner)) there (ap (λ h. if_some (bundle_of h) true (has_bundle v owner)) t ∙ owns_is s owner name (take_here w.scopes name owner x.owner l.owned)));
+              (and_from (is_there w owner) (if_some (bundle_of x.thing) true (has_bundle v owner)) there (ap (λ h. if_some (bundle_of h) true (has_bundle v owner)) t ∙ owns_is s owner name (take_here w.scopes name owner x.owner l.owned)));
         }
 
     -- a number that names no bundle is dead

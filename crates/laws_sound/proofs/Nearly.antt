@@ -1,5 +1,6 @@
 -- A world that is in order but for what one coroutine waits for, and how it gets in order again.
 use Rattle.std.proofs.Common.{◌≡◌, ◌∙◌, ℕ, ◌≤◌, ◌==◌, List, [], ◌∷◌, find, Bool, true, false, not, ◌&&◌, ◌||◌, cond, Option, Some, None, refl, sym, ap, subst, arith}
+use Rattle.std.proofs.lemmas.Bool.{and_parts, and_from, or_right}
 use Rattle.std.specs.Prelude.{is_none}
 use Rattle.std.specs.List.{list_all}
 use Rattle.std.proofs.lemmas.Bool.Decides.{nat_tests}
@@ -20,12 +21,8 @@ use Rattle.laws_sound.specs.Order.{closes, waits_for, is_kept_open, has_waiter, 
 use Rattle.laws_sound.proofs.Crews.{change_numbers, change_numbered, change_length, change_other}
 use Rattle.laws_sound.proofs.Fitting.{fits_crew}
 use Rattle.laws_sound.proofs.Handing.{equal, unequal, same_number}
-use Rattle.laws_sound.proofs.Lists.{both, join, all_follow, all_from}
+use Rattle.laws_sound.proofs.Lists.{all_follow, all_from}
 use Rattle.laws_sound.proofs.Owners.{owns}
-
-pub or_second : (a b : Bool) → b ≡ true → (a || b) ≡ true
-or_second true b e = refl
-or_second false b e = e
 
 pub or_false : (a b : Bool) → (a || b) ≡ true → a ≡ false → b ≡ true
 or_false true b e f = cc
@@ -58,7 +55,7 @@ module _ {V : Type 0} where
   pub all_by_number : (test : Coroutine V → Bool) (cs : List (Coroutine V)) (low high : ℕ) → Numbered low cs high → ((c : Coroutine V) → find (is_coroutine c.number) cs ≡ Some c → test c ≡ true) → list_all test cs ≡ true
   all_by_number test [] low high n h = refl
   all_by_number test (x ∷ cs) low high n h =
-      join (test x) (list_all test cs) (h x (rw (same_number x.number) refl))
+      and_from (test x) (list_all test cs) (h x (rw (same_number x.number) refl))
       (all_by_number test cs x.number high n.1 (λ c e. h c (skip c e (x.number == c.number) refl)))
     where
       skip : (c : Coroutine V) → find (is_coroutine c.number) cs ≡ Some c → (b : Bool) → (x.number == c.number) ≡ b → cond (x.number == c.number) (Some x) (find (is_coroutine c.number) cs) ≡ Some c
@@ -78,20 +75,20 @@ module _ {V : Type 0} where
   pub nearly : (w : World V) (who : ℕ) → IsInOrder w → Nearly w who
   nearly w who order = record {
     fits = order.fits;
-    closings = all_follow (has_waiter w) (λ x. mine_or who (owner_of w.scopes x.bundle) (is_at (waits_for x.number) w.coroutines)) w.closings (λ x e. or_second (owns w.scopes who x.bundle) (has_waiter w x) e) order.closings;
-    waiters = all_follow (has_closing w) (λ c. c.number == who || has_closing w c) w.coroutines (λ c e. or_second (c.number == who) (has_closing w c) e) order.waiters;
-    endings = all_follow (is_kept_open w) (λ x. x.owner == who || is_kept_open w x) w.handles.entries (λ x e. or_second (x.owner == who) (is_kept_open w x) e) order.endings;
+    closings = all_follow (has_waiter w) (λ x. mine_or who (owner_of w.scopes x.bundle) (is_at (waits_for x.number) w.coroutines)) w.closings (λ x e. or_right (owns w.scopes who x.bundle) (has_waiter w x) e) order.closings;
+    waiters = all_follow (has_closing w) (λ c. c.number == who || has_closing w c) w.coroutines (λ c e. or_right (c.number == who) (has_closing w c) e) order.waiters;
+    endings = all_follow (is_kept_open w) (λ x. x.owner == who || is_kept_open w x) w.handles.entries (λ x e. or_right (x.owner == who) (is_kept_open w x) e) order.endings;
   }
 
   all_change_at : (test pick : Coroutine V → Bool) (f : Coroutine V → Coroutine V) (cs : List (Coroutine V)) → ((c : Coroutine V) → pick c ≡ true → test (f c) ≡ true) → list_all test cs ≡ true → list_all test (change pick f cs) ≡ true
   all_change_at test pick f [] h e = refl
   all_change_at test pick f (c ∷ cs) h e =
-      let b = both (test c) (list_all test cs) e in
+      let b = and_parts (test c) (list_all test cs) e in
       at (pick c) refl b.0 b.1 (all_change_at test pick f cs h b.1)
     where
       at : (t : Bool) → pick c ≡ t → test c ≡ true → list_all test cs ≡ true → list_all test (change pick f cs) ≡ true → list_all test (cond t (f c ∷ cs) (c ∷ change pick f cs)) ≡ true
-      at true g i j r = join (test (f c)) (list_all test cs) (h c g) j
-      at false g i j r = join (test c) (list_all test (change pick f cs)) i r
+      at true g i j r = and_from (test (f c)) (list_all test cs) (h c g) j
+      at false g i j r = and_from (test c) (list_all test (change pick f cs)) i r
 
   abbrev at_as : (test : Mode → Bool) → Option (Coroutine V) → Bool
   at_as test o = if_some o false (λ c. test c.mode)

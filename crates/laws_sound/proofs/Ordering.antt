@@ -1,5 +1,6 @@
 -- What keeps a world in order: answers and waits that close nothing, and handles that are made, moved and released.
 use Rattle.std.proofs.Common.{◌≡◌, ◌∙◌, ℕ, ◌+◌, ◌≤◌, ◌==◌, List, [], ◌∷◌, ◌++◌, find, Bool, true, false, not, ◌||◌, Option, Some, None, refl, sym, ap, subst, arith}
+use Rattle.std.proofs.lemmas.Bool.{and_parts}
 use Rattle.std.specs.Prelude.{is_some, is_none}
 use Rattle.std.specs.List.{list_all}
 use Rattle.std.proofs.lemmas.Bool.Decides.{nat_tests}
@@ -34,14 +35,14 @@ use Rattle.laws_sound.proofs.Counting.{weigh, weightless, all_push}
 use Rattle.laws_sound.proofs.Crews.{change_here}
 use Rattle.laws_sound.proofs.Fitting.{closes_it, has_number, named, named_is, fits_anyway}
 use Rattle.laws_sound.proofs.Handing.{equal, live, live_there, fits_make, fits_add_bundle}
-use Rattle.laws_sound.proofs.Lists.{both, all_follow, all_from}
+use Rattle.laws_sound.proofs.Lists.{all_follow, all_from}
 use Rattle.laws_sound.proofs.Moving.{renumbered, fits_renumbered, fits_taken, fits_retired, fits_closed}
 use Rattle.laws_sound.proofs.Nearly.{is_free, free_waits, nearly, near_change, settle_in}
 use Rattle.laws_sound.proofs.Owners.{owns, new_is_free, bundle_other, take_other, close_same}
 
 pub free_closes : (mode : Mode) → is_free mode ≡ true → (closes mode ≡ None) × (is_ending mode ≡ false)
 free_closes mode e =
-    let b = both (is_none (closes mode)) (not (is_ending mode)) e in
+    let b = and_parts (is_none (closes mode)) (not (is_ending mode)) e in
     (none (closes mode) b.0, is_not (is_ending mode) b.1)
   where
     none : (o : Option ℕ) → is_none o ≡ true → o ≡ None

@@ -1,5 +1,6 @@
 -- After each step nobody is making a call, and whoever was answered has a place in the queue.
 use Rattle.std.proofs.Common.{◌≡◌, ◌∙◌, ℕ, zero, suc, ◌+◌, ◌==◌, List, [], ◌∷◌, ◌++◌, length, map, find, Bool, true, false, not, ◌&&◌, ◌||◌, cond, Option, Some, None, if◌then◌else◌, refl, sym, ap, subst, arith}
+use Rattle.std.proofs.lemmas.Bool.{and_parts, and_from, or_parts}
 use Rattle.std.specs.Prelude.{is_none}
 use Rattle.std.specs.List.{list_all, list_any}
 use Rattle.std.proofs.lemmas.Bool.Decides.{nat_tests}
@@ -43,8 +44,8 @@ use Rattle.laws_queue.proofs.Turns.{entered_plain}
 use Rattle.laws_sound.specs.Laws.{is_resting, IsAtRest}
 use Rattle.laws_sound.specs.Order.{is_proper, is_proper_thing}
 use Rattle.laws_sound.proofs.Counting.{all_push}
-use Rattle.laws_sound.proofs.Entering.{May, may, or_nots}
-use Rattle.laws_sound.proofs.Lists.{both, join, all_follow}
+use Rattle.laws_sound.proofs.Entering.{May, may}
+use Rattle.laws_sound.proofs.Lists.{all_follow}
 
 -- it isn't making a call
 abbrev pub is_still : Mode → Bool
@@ -66,43 +67,43 @@ module _ {V : Type 0} where
   still_set : (who : ℕ) (mode : Mode) (cs : List (Coroutine V)) → is_still mode ≡ true → Still cs → Still (change (is_coroutine who) (with_mode mode) cs)
   still_set who mode [] e s = refl
   still_set who mode (c ∷ cs) e s =
-      let b = both (is_still c.mode) (list_all (λ d. is_still d.mode) cs) s in
+      let b = and_parts (is_still c.mode) (list_all (λ d. is_still d.mode) cs) s in
       at (is_coroutine who c) (still_set who mode cs e b.1)
     where
       at : (t : Bool) → Still (change (is_coroutine who) (with_mode mode) cs) → Still (cond t (with_mode mode c ∷ cs) (c ∷ change (is_coroutine who) (with_mode mode) cs))
-      at true r = let b = both (is_still c.mode) (list_all (λ d. is_still d.mode) cs) s in join (is_still mode) (list_all (λ d. is_still d.mode) cs) e b.1
-      at false r = let b = both (is_still c.mode) (list_all (λ d. is_still d.mode) cs) s in join (is_still c.mode) (list_all (λ d. is_still d.mode) (change (is_coroutine who) (with_mode mode) cs)) b.0 r
+      at true r = let b = and_parts (is_still c.mode) (list_all (λ d. is_still d.mode) cs) s in and_from (is_still mode) (list_all (λ d. is_still d.mode) cs) e b.1
+      at false r = let b = and_parts (is_still c.mode) (list_all (λ d. is_still d.mode) cs) s in and_from (is_still c.mode) (list_all (λ d. is_still d.mode) (change (is_coroutine who) (with_mode mode) cs)) b.0 r
 
   almost_set : (who : ℕ) (mode : Mode) (cs : List (Coroutine V)) → is_still mode ≡ true → Almost cs who → Still (change (is_coroutine who) (with_mode mode) cs)
   almost_set who mode [] e s = refl
   almost_set who mode (c ∷ cs) e s = at (is_coroutine who c) s (almost_set who mode cs e)
     where
       at : (t : Bool) → Still (cond t (with_mode idle c ∷ cs) (c ∷ change (is_coroutine who) (with_mode idle) cs)) → (Almost cs who → Still (change (is_coroutine who) (with_mode mode) cs)) → Still (cond t (with_mode mode c ∷ cs) (c ∷ change (is_coroutine who) (with_mode mode) cs))
-      at true r rest = join (is_still mode) (list_all (λ d. is_still d.mode) cs) e r
-      at false r rest = let b = both (is_still c.mode) (list_all (λ d. is_still d.mode) (change (is_coroutine who) (with_mode idle) cs)) r in join (is_still c.mode) (list_all (λ d. is_still d.mode) (change (is_coroutine who) (with_mode mode) cs)) b.0 (rest b.1)
+      at true r rest = and_from (is_still mode) (list_all (λ d. is_still d.mode) cs) e r
+      at false r rest = let b = and_parts (is_still c.mode) (list_all (λ d. is_still d.mode) (change (is_coroutine who) (with_mode idle) cs)) r in and_from (is_still c.mode) (list_all (λ d. is_still d.mode) (change (is_coroutine who) (with_mode mode) cs)) b.0 (rest b.1)
 
   almost_push : (who : ℕ) (cs : List (Coroutine V)) (d : Coroutine V) → is_still d.mode ≡ true → Almost cs who → Almost (cs ++ d ∷ []) who
   almost_push who [] d e s = at (is_coroutine who d)
     where
       at : (t : Bool) → Still (cond t (with_mode idle d ∷ []) (d ∷ []))
       at true = refl
-      at false = join (is_still d.mode) true e refl
+      at false = and_from (is_still d.mode) true e refl
   almost_push who (c ∷ cs) d e s = at (is_coroutine who c) s (almost_push who cs d e)
     where
       at : (t : Bool) → Still (cond t (with_mode idle c ∷ cs) (c ∷ change (is_coroutine who) (with_mode idle) cs)) → (Almost cs who → Almost (cs ++ d ∷ []) who) → Still (cond t (with_mode idle c ∷ cs ++ d ∷ []) (c ∷ change (is_coroutine who) (with_mode idle) (cs ++ d ∷ [])))
       at true r rest = all_push (λ k. is_still k.mode) cs d r e
-      at false r rest = let b = both (is_still c.mode) (list_all (λ k. is_still k.mode) (change (is_coroutine who) (with_mode idle) cs)) r in join (is_still c.mode) (list_all (λ k. is_still k.mode) (change (is_coroutine who) (with_mode idle) (cs ++ d ∷ []))) b.0 (rest b.1)
+      at false r rest = let b = and_parts (is_still c.mode) (list_all (λ k. is_still k.mode) (change (is_coroutine who) (with_mode idle) cs)) r in and_from (is_still c.mode) (list_all (λ k. is_still k.mode) (change (is_coroutine who) (with_mode idle) (cs ++ d ∷ []))) b.0 (rest b.1)
 
   -- who is given its answer alone makes a call
   resumed_almost : (who : ℕ) (view : V) (cs : List (Coroutine V)) → Still cs → Almost (change (is_coroutine who) (as_running view) cs) who
   resumed_almost who view [] s = refl
   resumed_almost who view (c ∷ cs) s =
-      let b = both (is_still c.mode) (list_all (λ d. is_still d.mode) cs) s in
+      let b = and_parts (is_still c.mode) (list_all (λ d. is_still d.mode) cs) s in
       at (is_coroutine who c) refl b.0 b.1 (resumed_almost who view cs b.1)
     where
       at : (t : Bool) → is_coroutine who c ≡ t → is_still c.mode ≡ true → Still cs → Almost (change (is_coroutine who) (as_running view) cs) who → Almost (cond t (as_running view c ∷ cs) (c ∷ change (is_coroutine who) (as_running view) cs)) who
       at true e f g r = let h : is_coroutine who (as_running view c) ≡ true = e in rw h g
-      at false e f g r = rw e (join (is_still c.mode) (list_all (λ d. is_still d.mode) (change (is_coroutine who) (with_mode idle) (change (is_coroutine who) (as_running view) cs))) f r)
+      at false e f g r = rw e (and_from (is_still c.mode) (list_all (λ d. is_still d.mode) (change (is_coroutine who) (with_mode idle) (change (is_coroutine who) (as_running view) cs))) f r)
 
   -- ---- settling
 
@@ -220,8 +221,8 @@ module _ {V : Type 0} (p : Program V) where
   still_perform w who view (calls.BundleGo number program args) e plain proper m a =
       let call = calls.BundleGo number program args in
       let k = keep_for w call in
-      let x = alive w number (or_nots (is_dead w number) (list_any (is_dead w) (gifts_of args ++ [])) m.alive).0 in
-      let other = (or_nots (is_other_kind w call) (is_other_top w call || false) m.other).0 in
+      let x = alive w number (or_parts (is_dead w number) (list_any (is_dead w) (gifts_of args ++ [])) m.alive).0 in
+      let other = (or_parts (is_other_kind w call) (is_other_top w call || false) m.other).0 in
       let kind : (kind_of w x.0.thing == 1) ≡ true = not_not (kind_of w x.0.thing == 1) (ap (λ o. not (if_some o false (λ y. kind_of w y.thing == 1))) (sym x.1) ∙ other) in
       let home = bundle_kind w x.0 x.0.thing refl (all_found is_plain_entry (λ y. y.number == number) w.handles.entries x.0 plain x.1) (all_found is_proper (λ y. y.number == number) w.handles.entries x.0 proper x.1) kind in
       let named : bundle_named w number ≡ Some home.0 = ap (λ o. if_some o None (λ y. bundle_of y.thing)) x.1 ∙ home.1 in
@@ -296,4 +297,4 @@ module _ {V : Type 0} where
   -- where nobody is making a call, all are at rest once the answers have their places
   pub rests_lined : (cs : List (Coroutine V)) → Still cs → list_all (λ c. is_resting c.mode) (map lined cs) ≡ true
   rests_lined [] s = refl
-  rests_lined (c ∷ cs) s = let b = both (is_still c.mode) (list_all (λ d. is_still d.mode) cs) s in join (is_resting (lined_mode c.mode)) (list_all (λ d. is_resting d.mode) (map lined cs)) (lined_rests c.mode b.0) (rests_lined cs b.1)
+  rests_lined (c ∷ cs) s = let b = and_parts (is_still c.mode) (list_all (λ d. is_still d.mode) cs) s in and_from (is_resting (lined_mode c.mode)) (list_all (λ d. is_resting d.mode) (map lined cs)) (lined_rests c.mode b.0) (rests_lined cs b.1)

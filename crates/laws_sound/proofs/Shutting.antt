@@ -1,5 +1,6 @@
 -- Bundles that begin to close or are gone, and coroutines that come and go: what keeps a world in order.
 use Rattle.std.proofs.Common.{◌≡◌, ◌∙◌, ℕ, ◌≤◌, ◌==◌, List, [], ◌∷◌, ◌++◌, find, fold, Bool, true, false, not, ◌&&◌, ◌||◌, Option, Some, None, refl, sym, ap, subst, arith}
+use Rattle.std.proofs.lemmas.Bool.{and_parts, or_right}
 use Rattle.std.specs.Prelude.{is_some, nat_le, filter}
 use Rattle.std.specs.List.{list_all}
 use Rattle.dill_base.specs.declared.errno.Errno.{Errno}
@@ -28,9 +29,9 @@ use Rattle.laws_sound.proofs.Crews.{change_here}
 use Rattle.laws_sound.proofs.Fitting.{names_it, closes_it, has_number, died_as, used_is, named, named_is, fits_anyway}
 use Rattle.laws_sound.proofs.Going.{its_number, found_there}
 use Rattle.laws_sound.proofs.Handing.{equal, unequal, same_number, tell, live}
-use Rattle.laws_sound.proofs.Lists.{both, all_follow, all_from}
+use Rattle.laws_sound.proofs.Lists.{all_follow, all_from}
 use Rattle.laws_sound.proofs.Moving.{fits_shut, fits_freed}
-use Rattle.laws_sound.proofs.Nearly.{is_free, mine_or, or_second, Nearly, nearly, near_set, settle_in}
+use Rattle.laws_sound.proofs.Nearly.{is_free, mine_or, Nearly, nearly, near_set, settle_in}
 use Rattle.laws_sound.proofs.Ordering.{apart, all_true, free_owns, going_open}
 use Rattle.laws_sound.proofs.Owners.{owns, owns_is, owned_no_root, shut_other, shut_here, drop_other}
 use Rattle.laws_sound.proofs.Sound.{owner_is}
@@ -137,7 +138,7 @@ module _ {V : Type 0} where
       (all_push (λ y. not (owns s who y.bundle) || waits_for y.number mode) w.closings dead
       (all_from (λ y. not (closes_it name y)) (λ y. not (owns w.scopes who y.bundle)) (λ y. not (owns s who y.bundle) || waits_for y.number mode) w.closings
       (λ y g h. ap (λ b. b || waits_for y.number mode) (ap (λ p. not (if_some p false (λ owner. owner == who))) (shut_other w.scopes name who y.bundle (apart y.bundle name g)) ∙ h)) l.closings (free_owns w who c o e free))
-      (or_second (not (owns s who name)) (number == number) (same_number number)))
+      (or_right (not (owns s who name)) (number == number) (same_number number)))
       (ap (λ p. if_some p false (λ y. has_bundle v c.number y.bundle)) (pushed_found (is_dead_as number) w.closings dead (fresh_number w number x o.fits f) (same_number number)) ∙ owns_is s c.number name mine)
       (going_open v who (with_mode mode c) here refl)
 
@@ -168,7 +169,7 @@ module _ {V : Type 0} where
           let first = filter_first (λ (y : Entry Thing). y.number) (λ y. is_mine who y && is_bundle_entry y) w.handles.entries x (filter is_bundle_entry xs) here (once w x.number near.fits) in
           let thing = bundle_is x.thing name f in
           let l = live w x.number name x near.fits first.found thing in
-          let mine : x.owner ≡ who = equal x.owner who (both (is_mine who x) (is_bundle_entry x) first.passed).0 in
+          let mine : x.owner ≡ who = equal x.owner who (and_parts (is_mine who x) (is_bundle_entry x) first.passed).0 in
           let owned : owner_of w.scopes name ≡ Some who = l.owned ∙ ap (λ n. Some n) mine in
           next (close_bundle w who name x.number) who c (near_shut w who x.number name x near first.found thing (found_there w who c e) (near.fits.forest.forest.outside name who owned)) e first.left
 
@@ -180,7 +181,7 @@ module _ {V : Type 0} where
       let r = shut_all (filter (is_mine who) w.handles.entries) w who c (nearly w who o) e (filter_both (is_mine who) is_bundle_entry w.handles.entries) in
       let v = set_mode shut who mode in
       settle_in v who (with_mode mode c) (near_set shut who mode r.near) (change_here (with_mode mode) (λ d. refl) who shut.coroutines c r.here)
-      (all_follow (λ x. true) (λ x. not (owns shut.scopes who x.bundle) || true) shut.closings (λ x f. or_second (not (owns shut.scopes who x.bundle)) true refl) (all_true shut.closings))
+      (all_follow (λ x. true) (λ x. not (owns shut.scopes who x.bundle) || true) shut.closings (λ x f. or_right (not (owns shut.scopes who x.bundle)) true refl) (all_true shut.closings))
       refl
       (all_follow (λ x. not (is_mine who x && is_bundle_entry x)) (λ x. not (x.owner == who) || is_kept_open v x) shut.handles.entries (λ x f. at (x.owner == who) (bundle_of x.thing) (not (is_at is_ending v.coroutines x.owner)) f) r.none)
     where

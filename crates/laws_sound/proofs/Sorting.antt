@@ -1,5 +1,6 @@
 -- Closings in their order, numbers in reverse, and what is picked from lists.
 use Rattle.std.proofs.Common.{◌≡◌, ◌∙◌, ℕ, ◌+◌, ◌≤◌, List, [], ◌∷◌, ◌++◌, map, find, Bool, true, false, not, ◌&&◌, ◌||◌, cond, Some, refl, sym, ap, arith}
+use Rattle.std.proofs.lemmas.Bool.{and_parts, and_from}
 use Rattle.std.specs.Prelude.{filter, reverse, nat_lt}
 use Rattle.std.specs.List.{list_all, list_any}
 use Rattle.std.proofs.lemmas.List.{reverse-append}
@@ -8,7 +9,6 @@ use Rattle.dill_rules.specs.declared.coroutine.Closing.{Closing}
 use Rattle.dill_rules.specs.Settling.{placed, highest_first}
 use Rattle.laws_queue.specs.Well.{bit}
 use Rattle.laws_sound.proofs.Counting.{weigh}
-use Rattle.laws_sound.proofs.Lists.{both, join}
 
 module _ (f : Closing → ℕ) where
   placed_weight : (x : Closing) (xs : List Closing) → weigh f (placed x xs) ≡ f x + weigh f xs
@@ -25,18 +25,18 @@ module _ (f : Closing → ℕ) where
 
 module _ (test : Closing → Bool) where
   placed_all : (x : Closing) (xs : List Closing) → test x ≡ true → list_all test xs ≡ true → list_all test (placed x xs) ≡ true
-  placed_all x [] e f = join (test x) true e refl
+  placed_all x [] e f = and_from (test x) true e refl
   placed_all x (y ∷ ys) e f =
-      let b = both (test y) (list_all test ys) f in
+      let b = and_parts (test y) (list_all test ys) f in
       at (nat_lt x.number y.number) b.0 b.1 (placed_all x ys e b.1)
     where
       at : (b : Bool) → test y ≡ true → list_all test ys ≡ true → list_all test (placed x ys) ≡ true → list_all test (cond b (y ∷ placed x ys) (x ∷ y ∷ ys)) ≡ true
-      at true g h r = join (test y) (list_all test (placed x ys)) g r
-      at false g h r = join (test x) (test y && list_all test ys) e (join (test y) (list_all test ys) g h)
+      at true g h r = and_from (test y) (list_all test (placed x ys)) g r
+      at false g h r = and_from (test x) (test y && list_all test ys) e (and_from (test y) (list_all test ys) g h)
 
   pub sorted_all : (xs : List Closing) → list_all test xs ≡ true → list_all test (highest_first xs) ≡ true
   sorted_all [] e = refl
-  sorted_all (x ∷ xs) e = let b = both (test x) (list_all test xs) e in placed_all x (highest_first xs) b.0 (sorted_all xs b.1)
+  sorted_all (x ∷ xs) e = let b = and_parts (test x) (list_all test xs) e in placed_all x (highest_first xs) b.0 (sorted_all xs b.1)
 
 reverse_cons : (n : ℕ) (ns : List ℕ) → reverse (n ∷ ns) ≡ reverse ns ++ n ∷ []
 reverse_cons n ns = reverse-append (n ∷ []) ns
@@ -45,8 +45,8 @@ module _ (test : ℕ → Bool) where
   pub reverse_all : (ns : List ℕ) → list_all test ns ≡ true → list_all test (reverse ns) ≡ true
   reverse_all [] e = refl
   reverse_all (n ∷ ns) e =
-      let b = both (test n) (list_all test ns) e in
-      ap (list_all test) (reverse_cons n ns) ∙ list_all-append test (reverse ns) (n ∷ []) ∙ join (list_all test (reverse ns)) (test n && true) (reverse_all ns b.1) (join (test n) true b.0 refl)
+      let b = and_parts (test n) (list_all test ns) e in
+      ap (list_all test) (reverse_cons n ns) ∙ list_all-append test (reverse ns) (n ∷ []) ∙ and_from (list_all test (reverse ns)) (test n && true) (reverse_all ns b.1) (and_from (test n) true b.0 refl)
 
   pub reverse_any : (ns : List ℕ) → list_any test ns ≡ true → list_any test (reverse ns) ≡ true
   reverse_any [] e = cc
@@ -82,19 +82,19 @@ module _ {X : Type 0} (p : X → Bool) where
 
   pub picked_all : (test : X → Bool) (xs : List X) → list_all (λ x. not (p x) || test x) xs ≡ true → list_all test (filter p xs) ≡ true
   picked_all test [] e = refl
-  picked_all test (x ∷ xs) e = let b = both (not (p x) || test x) (list_all (λ y. not (p y) || test y) xs) e in at (p x) b.0 (picked_all test xs b.1)
+  picked_all test (x ∷ xs) e = let b = and_parts (not (p x) || test x) (list_all (λ y. not (p y) || test y) xs) e in at (p x) b.0 (picked_all test xs b.1)
     where
       at : (b : Bool) → (not b || test x) ≡ true → list_all test (filter p xs) ≡ true → list_all test (cond b (x ∷ filter p xs) (filter p xs)) ≡ true
-      at true f r = join (test x) (list_all test (filter p xs)) f r
+      at true f r = and_from (test x) (list_all test (filter p xs)) f r
       at false f r = r
 
   module _ (key : X → ℕ) (test : ℕ → Bool) where
     pub keys_all : (xs : List X) → list_all (λ x. not (p x) || test (key x)) xs ≡ true → list_all test (map key (filter p xs)) ≡ true
     keys_all [] e = refl
-    keys_all (x ∷ xs) e = let b = both (not (p x) || test (key x)) (list_all (λ y. not (p y) || test (key y)) xs) e in at (p x) b.0 (keys_all xs b.1)
+    keys_all (x ∷ xs) e = let b = and_parts (not (p x) || test (key x)) (list_all (λ y. not (p y) || test (key y)) xs) e in at (p x) b.0 (keys_all xs b.1)
       where
         at : (b : Bool) → (not b || test (key x)) ≡ true → list_all test (map key (filter p xs)) ≡ true → list_all test (map key (cond b (x ∷ filter p xs) (filter p xs))) ≡ true
-        at true f r = join (test (key x)) (list_all test (map key (filter p xs))) f r
+        at true f r = and_from (test (key x)) (list_all test (map key (filter p xs))) f r
         at false f r = r
 
     pub keys_any : (pick : X → Bool) (xs : List X) (y : X) → find pick xs ≡ Some y → p y ≡ true → test (key y) ≡ true → list_any test (map key (filter p xs)) ≡ true

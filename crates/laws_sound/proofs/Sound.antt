@@ -1,5 +1,6 @@
 -- A world in order is sound, and where its root is closing everybody is cancelled.
 use Rattle.std.proofs.Common.{◌≡◌, ◌∙◌, ℕ, ◌+◌, ◌≤◌, ◌==◌, List, [], ◌∷◌, map, find, Bool, true, false, cond, Option, Some, None, refl, sym, ap, subst, arith}
+use Rattle.std.proofs.lemmas.Bool.{and_parts}
 use Rattle.std.specs.Prelude.{is_some, option_map, nat_le}
 use Rattle.std.proofs.lemmas.Bool.Decides.{nat_tests}
 use Rattle.dill_handles.specs.declared.entry.Entry.{Entry}
@@ -18,7 +19,7 @@ use Rattle.laws_queue.specs.Well.{bit, occurs}
 use Rattle.laws_queue.proofs.Lists.{all_found}
 use Rattle.laws_sound.specs.Order.{is_there, has_bundle, is_held, FitsTogether}
 use Rattle.laws_sound.specs.Laws.{is_closing, OrderIsSound, CancelsAll}
-use Rattle.laws_sound.proofs.Lists.{both, occurs_found}
+use Rattle.laws_sound.proofs.Lists.{occurs_found}
 
 pub owner_is : (o : Option ℕ) (who : ℕ) → if_some o false (λ owner. owner == who) ≡ true → o ≡ Some who
 owner_is None who e = cc
@@ -36,10 +37,10 @@ module _ (V : Type 0) where
   pub order_is_sound : OrderIsSound V
   order_is_sound w order = record {
     forest = order.fits.forest.forest;
-    owned = λ number x e. (both (is_there w x.owner) (if_some (bundle_of x.thing) true (has_bundle w x.owner)) (held number x e)).0;
+    owned = λ number x e. (and_parts (is_there w x.owner) (if_some (bundle_of x.thing) true (has_bundle w x.owner)) (held number x e)).0;
     given = λ number x e. within (occurs number (map (λ y. y.number) w.handles.entries)) number w.handles.last (occurs number (map (λ y. y.number) w.closings)) (occurs_found (λ y. y.number) number w.handles.entries x e) (order.fits.numbers number);
     room = order.fits.room;
-    one = record { bundles = λ number name x e f. owner_is (owner_of w.scopes name) x.owner (ap (λ t. if_some (bundle_of t) true (has_bundle w x.owner)) (sym f) ∙ (both (is_there w x.owner) (if_some (bundle_of x.thing) true (has_bundle w x.owner)) (held number x e)).1) };
+    one = record { bundles = λ number name x e f. owner_is (owner_of w.scopes name) x.owner (ap (λ t. if_some (bundle_of t) true (has_bundle w x.owner)) (sym f) ∙ (and_parts (is_there w x.owner) (if_some (bundle_of x.thing) true (has_bundle w x.owner)) (held number x e)).1) };
   }
     where
       held : (number : ℕ) (x : Entry Thing) → entry_of w number ≡ Some x → is_held w x ≡ true

@@ -1,5 +1,6 @@
 -- Each step keeps what a core keeps in order.
 use Rattle.std.proofs.Common.{◌≡◌, ◌∙◌, ℕ, ◌+◌, ◌-◌, ◌<◌, ◌==◌, List, [], ◌∷◌, length, map, find, fold, filter_map, Bool, true, false, ◌&&◌, cond, Option, Some, None, if◌then◌else◌, refl, sym, ap, subst, arith, lit≤}
+use Rattle.std.proofs.lemmas.Bool.{and_parts, and_from}
 use Rattle.std.specs.Prelude.{is_some, max, nat_le, option_and_then}
 use Rattle.std.specs.List.{list_all}
 use Rattle.std.proofs.lemmas.List.Elements.{All-cons, All-nil}
@@ -41,7 +42,7 @@ use Rattle.laws_sound.proofs.Entering.{found_call}
 use Rattle.laws_sound.proofs.Handing.{equal, unequal}
 use Rattle.laws_sound.proofs.Keeping.{order_give, order_settle, order_begin, order_turn}
 use Rattle.laws_sound.proofs.Leaving.{order_lined}
-use Rattle.laws_sound.proofs.Lists.{both, join, all_follow}
+use Rattle.laws_sound.proofs.Lists.{all_follow}
 use Rattle.laws_sound.proofs.Nearly.{all_by_number}
 use Rattle.laws_sound.proofs.Ordering.{order_anyway, order_closed}
 
@@ -58,26 +59,26 @@ lined_pending (modes.Ending outcome) = refl
 
 module _ (test : Timer → Bool) where
   placed_all : (x : Timer) (xs : List Timer) → test x ≡ true → list_all test xs ≡ true → list_all test (placed x xs) ≡ true
-  placed_all x [] e f = join (test x) true e refl
+  placed_all x [] e f = and_from (test x) true e refl
   placed_all x (y ∷ ys) e f =
-      let b = both (test y) (list_all test ys) f in
+      let b = and_parts (test y) (list_all test ys) f in
       at (is_earlier x y) b.0 b.1 (placed_all x ys e b.1)
     where
       at : (b : Bool) → test y ≡ true → list_all test ys ≡ true → list_all test (placed x ys) ≡ true → list_all test (cond b (x ∷ y ∷ ys) (y ∷ placed x ys)) ≡ true
-      at true g h r = join (test x) (test y && list_all test ys) e (join (test y) (list_all test ys) g h)
-      at false g h r = join (test y) (list_all test (placed x ys)) g r
+      at true g h r = and_from (test x) (test y && list_all test ys) e (and_from (test y) (list_all test ys) g h)
+      at false g h r = and_from (test y) (list_all test (placed x ys)) g r
 
   in_order_all : (xs : List Timer) → list_all test xs ≡ true → list_all test (in_order xs) ≡ true
   in_order_all [] e = refl
-  in_order_all (x ∷ xs) e = let b = both (test x) (list_all test xs) e in placed_all x (in_order xs) b.0 (in_order_all xs b.1)
+  in_order_all (x ∷ xs) e = let b = and_parts (test x) (list_all test xs) e in placed_all x (in_order xs) b.0 (in_order_all xs b.1)
 
   given_all : {V : Type 0} (f : Coroutine V → Option Timer) (cs : List (Coroutine V)) → list_all (λ c. if_some (f c) true test) cs ≡ true → list_all test (filter_map f cs) ≡ true
   given_all f [] e = refl
-  given_all f (c ∷ cs) e = at (f c) refl (both (if_some (f c) true test) (list_all (λ d. if_some (f d) true test) cs) e) (given_all f cs)
+  given_all f (c ∷ cs) e = at (f c) refl (and_parts (if_some (f c) true test) (list_all (λ d. if_some (f d) true test) cs) e) (given_all f cs)
     where
       at : (o : Option Timer) → f c ≡ o → (if_some (f c) true test ≡ true) × (list_all (λ d. if_some (f d) true test) cs ≡ true) → (list_all (λ d. if_some (f d) true test) cs ≡ true → list_all test (filter_map f cs) ≡ true) → list_all test (filter_map f (c ∷ cs)) ≡ true
       at None g h rest = rw g (rest h.1)
-      at (Some x) g h rest = let t : test x ≡ true = ap (λ o. if_some o true test) (sym g) ∙ h.0 in rw g (join (test x) (list_all test (filter_map f cs)) t (rest h.1))
+      at (Some x) g h rest = let t : test x ≡ true = ap (λ o. if_some o true test) (sym g) ∙ h.0 in rw g (and_from (test x) (list_all test (filter_map f cs)) t (rest h.1))
 
 abbrev timed : Option Call → Bool
 timed o = if_some o true (λ call. is_some (due_of call))
@@ -218,7 +219,7 @@ module _ {V : Type 0} (p : Program V) (law : IsLawful p) (plainly : MakesPlain p
   expire_all : (xs : List ℕ) (k : Kept V) → Keeps k → list_all (is_timed k.world) xs ≡ true → Keeps (fold kept_expire_next k xs)
   expire_all [] k h t = h
   expire_all (x ∷ xs) k h t =
-      let b = both (is_timed k.world x) (list_all (is_timed k.world) xs) t in
+      let b = and_parts (is_timed k.world x) (list_all (is_timed k.world) xs) t in
       let next = kept_expire_next k x in
       expire_all xs next (record { well = well.expires k x h.well; order = expires k x h.well h.order b.0 })
       (all_follow (is_timed k.world) (is_timed next.world) xs (λ n e. ap timed (calls_lined (expire_one k.world x).coroutines n) ∙ expire_timed k.world x n h.well.plain b.0 e) b.1)

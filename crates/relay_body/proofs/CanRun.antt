@@ -1,5 +1,6 @@
 -- A script that was read can be run, and begins at its `main`.
 use Rattle.std.proofs.Common.{◌≡◌, ℕ, ◌≤◌, List, [], ◌∷◌, length, Bool, true, false, ◌&&◌, nat_le, Ok, refl, arith}
+use Rattle.std.proofs.lemmas.Bool.{and_from, and_parts}
 use Rattle.std.specs.List.{list_all}
 use Rattle.std.proofs.lemmas.Bool.Decides.{nat_tests}
 use Rattle.dill_calls.specs.Program.{Begins}
@@ -19,28 +20,21 @@ statement_plain : (statement : Statement) → says_built is_built statement ≡ 
 statement_plain (statements.Call tried dest form) e = e
 statement_plain _ e = refl
 
-and_parts : (a b : Bool) → (a && b) ≡ true → (a ≡ true) × (b ≡ true)
-and_parts true b e = (refl, e)
-and_parts false b e = cc
-
-and_true : (a b : Bool) → a ≡ true → b ≡ true → (a && b) ≡ true
-and_true a b e f = rw e f
-
 all_more : {X : Type 0} (p q : X → Bool) → ((x : X) → p x ≡ true → q x ≡ true) → (xs : List X) → list_all p xs ≡ true → list_all q xs ≡ true
 all_more p q h [] e = refl
 all_more p q h (x ∷ xs) e =
     let a = and_parts (p x) (list_all p xs) e in
-    and_true (q x) (list_all q xs) (h x a.0) (all_more p q h xs a.1)
+    and_from (q x) (list_all q xs) (h x a.0) (all_more p q h xs a.1)
 
 few : (n : ℕ) → n ≤ 256 → nat_le n 256 ≡ true
 few n l = grind (arith, nat_tests)
 
 pub runs : ReadsWithin → ReadsFormed → ReadsMains → ReadsBuilt → (text : List ℕ) (script : List Program) → script_with is_built text ≡ Ok script → is_runnable script ≡ true
 runs within formed mains built text script e =
-    and_true (nat_le (length script) 256) (list_all is_sized script && (list_all takes_its script && (all_say is_formed script && all_say says_plain script))) (few (length script) (within is_built text script e).programs)
-    (and_true (list_all is_sized script) (list_all takes_its script && (all_say is_formed script && all_say says_plain script)) (within is_built text script e).places
-    (and_true (list_all takes_its script) (all_say is_formed script && all_say says_plain script) (mains is_built text script e)
-    (and_true (all_say is_formed script) (all_say says_plain script) (formed is_built text script e)
+    and_from (nat_le (length script) 256) (list_all is_sized script && (list_all takes_its script && (all_say is_formed script && all_say says_plain script))) (few (length script) (within is_built text script e).programs)
+    (and_from (list_all is_sized script) (list_all takes_its script && (all_say is_formed script && all_say says_plain script)) (within is_built text script e).places
+    (and_from (list_all takes_its script) (all_say is_formed script && all_say says_plain script) (mains is_built text script e)
+    (and_from (all_say is_formed script) (all_say says_plain script) (formed is_built text script e)
     (all_more (λ program. list_all (says_built is_built) program.statements) (λ program. list_all says_plain program.statements)
     (λ program. all_more (says_built is_built) says_plain statement_plain program.statements) script (built is_built text script e)))))
 
@@ -50,7 +44,7 @@ begins main script r =
     let few = and_parts (nat_le (length script) 256) (list_all is_sized script && (list_all takes_its script && (all_say is_formed script && all_say says_plain script))) r in
     let sized = and_parts (list_all is_sized script) (list_all takes_its script && (all_say is_formed script && all_say says_plain script)) few.1 in
     let b = main script sized.0 in
-    record { real = and_true (is_runnable script) true r refl; start = b.start; some = b.some; whole = b.whole }
+    record { real = and_from (is_runnable script) true r refl; start = b.start; some = b.some; whole = b.whole }
 
 pub scripts_begin : ReadsWithin → ReadsFormed → ReadsMains → ReadsBuilt → MainBegins → ScriptsBegin
 scripts_begin within formed mains built main text script e =

@@ -10,10 +10,6 @@ pub and_right : (a b : Bool) → (a && b) ≡ true → b ≡ true
 and_right true b e = e
 and_right false b e = cc
 
-pub and_both : (a b : Bool) → a ≡ true → b ≡ true → (a && b) ≡ true
-and_both true b e h = h
-and_both false b e h = cc
-
 pub le_holds : (a b : ℕ) → a ≤ b → nat_le a b ≡ true
 le_holds a b h = grind (arith, nat_tests)
 

@@ -1,5 +1,6 @@
 -- The programs of scripts that can be run keep the law of programs, and make plain calls only.
 use Rattle.std.proofs.Common.{◌≡◌, ℕ, List, true, Option, Some, None, refl, sym, ◌∙◌, subst}
+use Rattle.std.proofs.lemmas.Bool.{and_from}
 use Rattle.dill_base.specs.declared.errno.Errno.{Errno}
 use Rattle.dill_calls.specs.CallTable.{word_of}
 use Rattle.dill_calls.specs.declared.answer.Answer.{Answer}
@@ -20,7 +21,7 @@ use Rattle.dill_meaning.proofs.Lawful.{scripts_lawful}
 use Rattle.dill_meaning.proofs.Walking.{statements_kept}
 use Rattle.relay_body.specs.Running.{says_plain, is_runnable, has_open, is_running, running}
 use Rattle.relay_body.specs.Answered.{Opens, given_opens}
-use Rattle.relay_body.specs.Bools.{and_left, and_right, and_both}
+use Rattle.relay_body.specs.Bools.{and_left, and_right}
 use Rattle.relay_body.specs.Plainly.{says_makes}
 use Rattle.relay_body.specs.Runnable.{Runnable, runs, pending_says}
 use Rattle.relay_body.specs.Walked.{Stops, MadeThere, walk_stops}
@@ -42,7 +43,7 @@ runnable_same s t e r = rw e r
 -- a view of the same program with open loops can be run as well
 pub running_on : (old new : ScriptView) → is_running old ≡ true → new.script ≡ old.script → new.program ≡ old.program → Opens (statements_of old) new → is_running new ≡ true
 running_on old new r s p o =
-    and_both (is_runnable new.script) (has_open new) (runnable_same new.script old.script s (and_left (is_runnable old.script) (has_open old) r)) (open_of (statements_of old) new (statements_kept old new s p) o)
+    and_from (is_runnable new.script) (has_open new) (runnable_same new.script old.script s (and_left (is_runnable old.script) (has_open old) r)) (open_of (statements_of old) new (statements_kept old new s p) o)
 
 appended_running : (view : ScriptView) (place : ℕ) (more : List ℕ) (fault : Option Errno) → is_running view ≡ true → is_running (appended view place more fault) ≡ true
 appended_running view place more None r = r
@@ -71,7 +72,7 @@ real_of view r = let p : Runnable view.script = runs view r in p.sized
 
 -- a coroutine of such a program begins with no loop open
 begins : (view : ScriptView) (program : ℕ) (args : List ℕ) → is_running view ≡ true → Begins scripts (scripts.child view program args) → Begins running (running.child view program args)
-begins view program args r b = record { real = and_both (is_runnable view.script) true (and_left (is_runnable view.script) (has_open view) r) refl; start = b.start; some = b.some; whole = b.whole }
+begins view program args r b = record { real = and_from (is_runnable view.script) true (and_left (is_runnable view.script) (has_open view) r) refl; start = b.start; some = b.some; whole = b.whole }
 
 -- they keep the law of programs
 pub running_lawful : IsLawful running

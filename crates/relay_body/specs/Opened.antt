@@ -1,5 +1,6 @@
 -- The loops that are open stay so over each statement.
 use Rattle.std.proofs.Common.{◌≡◌, ◌≤◌, ℕ, zero, suc, pred, List, [], ◌∷◌, slice_get, cond, true, ◌&&◌, nat_le, Option, Some, None, refl, ap, arith}
+use Rattle.std.proofs.lemmas.Bool.{and_from}
 use Rattle.dill_script.specs.declared.operand.Num.{Num}
 use Rattle.dill_script.specs.declared.statement.Statement.{Statement}
 use Rattle.dill_script.specs.declared.statement.Statement.TheVariants as statements
@@ -8,7 +9,7 @@ use Rattle.dill_meaning.specs.Values.{num_value}
 use Rattle.dill_meaning.specs.Views.{ScriptView, Round, last_of}
 use Rattle.dill_meaning.specs.Walks.{Mode, Runs, passing, behind, run, begin_loop}
 use Rattle.relay_body.specs.Running.{begins_loop, are_open}
-use Rattle.relay_body.specs.Bools.{and_left, and_right, and_both, le_holds, le_of}
+use Rattle.relay_body.specs.Bools.{and_left, and_right, le_holds, le_of}
 
 -- they are open further on
 pub open_more : (list : List Statement) (p q : ℕ) (rounds : List Round) → p ≤ q → are_open list p rounds ≡ true → are_open list q rounds ≡ true
@@ -17,7 +18,7 @@ open_more list p q (round ∷ outer) h o =
     let rest = begins_loop (last_of list round.first) && are_open list (pred round.first) outer in
     let first : round.first ≤ p = le_of round.first p (and_left (nat_le round.first p) rest o) in
     let within : round.first ≤ q = omega arith in
-    and_both (nat_le round.first q) rest (le_holds round.first q within) (and_right (nat_le round.first p) rest o)
+    and_from (nat_le round.first q) rest (le_holds round.first q within) (and_right (nat_le round.first p) rest o)
 
 pred_le : (n p : ℕ) → n ≤ p → pred n ≤ p
 pred_le zero p h = h
@@ -37,14 +38,14 @@ pub open_again : (list : List Statement) (p : ℕ) (round : Round) (outer : List
 open_again list p round outer rounds o =
     let rest = begins_loop (last_of list round.first) && are_open list (pred round.first) outer in
     let same : round.first ≤ round.first = omega arith in
-    and_both (nat_le round.first round.first) rest (le_holds round.first round.first same) (and_right (nat_le round.first p) rest o)
+    and_from (nat_le round.first round.first) rest (le_holds round.first round.first same) (and_right (nat_le round.first p) rest o)
 
 -- a loop that begins here is open behind its line
 pub open_entered : (list : List Statement) (p : ℕ) (rounds : List Round) (left : Option ℕ) (times : Option Num) → slice_get list p ≡ Some (statements.Loop times) → are_open list p rounds ≡ true → are_open list (suc p) (record { first = suc p; left = left } ∷ rounds) ≡ true
 open_entered list p rounds left times e o =
     let same : suc p ≤ suc p = omega arith in
     let here : begins_loop (slice_get list p) ≡ true = ap begins_loop e in
-    and_both (nat_le (suc p) (suc p)) (begins_loop (slice_get list p) && are_open list p rounds) (le_holds (suc p) (suc p) same) (and_both (begins_loop (slice_get list p)) (are_open list p rounds) here o)
+    and_from (nat_le (suc p) (suc p)) (begins_loop (slice_get list p) && are_open list p rounds) (le_holds (suc p) (suc p) same) (and_from (begins_loop (slice_get list p)) (are_open list p rounds) here o)
 
 pub next_open : (list : List Statement) (p : ℕ) (rounds : List Round) → are_open list p rounds ≡ true → are_open list (suc p) rounds ≡ true
 next_open list p rounds o = let h : p ≤ suc p = omega arith in open_more list p (suc p) rounds h o

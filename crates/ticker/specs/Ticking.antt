@@ -1,5 +1,6 @@
 -- A program that sleeps so many times, 10 milliseconds each, and ends: what it does, and that it keeps the law of programs.
 use Rattle.std.proofs.Common.{◌≡◌, ◌≤◌, ◌<◌, ◌+◌, ℕ, zero, suc, Bool, true, false, ◌&&◌, ◌==◌, Some, None, nat_le, nat_lt, if◌then◌else◌, refl, arith}
+use Rattle.std.proofs.lemmas.Bool.{and_from, and_parts}
 use Rattle.std.proofs.lemmas.Bool.Decides.{nat_tests}
 use Rattle.dill_base.specs.declared.deadline.Deadline.TheVariants.{After}
 use Rattle.dill_calls.specs.declared.answer.Answer.{Answer}
@@ -53,20 +54,13 @@ record Bounds (view : View) : Type 0 where
   less : view.to_come ≤ view.all
   small : view.all < 4294967295
 
-and_parts : (a b : Bool) → (a && b) ≡ true → (a ≡ true) × (b ≡ true)
-and_parts true b e = (refl, e)
-and_parts false b e = cc
-
-and_true : (a b : Bool) → a ≡ true → b ≡ true → (a && b) ≡ true
-and_true a b e f = rw e f
-
 bounds : (view : View) → is_real view ≡ true → Bounds view
 bounds view real =
     let p = and_parts (nat_le view.to_come view.all) (nat_lt view.all 4294967295) real in
     record { less = grind (arith, nat_tests); small = grind (arith, nat_tests) }
 
 real_of : (to_come all : ℕ) (begun : Bool) → to_come ≤ all → all < 4294967295 → is_real (record { to_come = to_come; all = all; begun = begun }) ≡ true
-real_of to_come all begun less small = and_true (nat_le to_come all) (nat_lt all 4294967295) (grind (arith, nat_tests)) (grind (arith, nat_tests))
+real_of to_come all begun less small = and_from (nat_le to_come all) (nat_lt all 4294967295) (grind (arith, nat_tests)) (grind (arith, nat_tests))
 
 ends_real : (view : View) → is_real view ≡ true → is_real (record view { begun = true }) ≡ true
 ends_real view real = let b = bounds view real in real_of view.to_come view.all true b.less b.small

@@ -1,17 +1,17 @@
 use Rattle.std.proofs.Common.{Some, sym, ap, ◌∙◌, option_map}
 use Rattle.dill_handles.specs.Handles.{is_entry}
-use Rattle.dill_handles.proofs.Places.{place, no_place}
+use Rattle.dill_base.proofs.Places.{place, no_place}
 use Rattle.dill_handles.proofs.handles.drop_entry.Goals as goal
 
 pub returns-in-None-clause-items : goal.returns-in-None-clause-items
 returns-in-None-clause-items g c =
     let gone = no_place (is_entry c.args.number) (λ x. x) c.args.entries.now.items 0 (rw c.deref.ensures.value at (sym c.in-None.ensures.place)) in
-    sym gone.2
+    sym gone.whole
 
 pub returns-in-None-clause-thing : goal.returns-in-None-clause-thing
 returns-in-None-clause-thing g c =
     let gone = no_place (is_entry c.args.number) (λ x. x) c.args.entries.now.items 0 (rw c.deref.ensures.value at (sym c.in-None.ensures.place)) in
-    sym (ap (option_map (λ x. x.thing)) gone.0)
+    sym (ap (option_map (λ x. x.thing)) gone.none)
 
 pub returns-in-Some-clause-items : goal.returns-in-Some-clause-items
 returns-in-Some-clause-items g c =

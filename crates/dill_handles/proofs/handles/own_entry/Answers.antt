@@ -1,6 +1,6 @@
 use Rattle.std.proofs.Common.{sym, ap, ◌∙◌, slice_set}
 use Rattle.dill_handles.specs.Handles.{is_entry, with_owner}
-use Rattle.dill_handles.proofs.Places.{place, no_place}
+use Rattle.dill_base.proofs.Places.{place, no_place}
 use Rattle.dill_handles.proofs.handles.own_entry.Goals as goal
 
 pub returns-in-Some-clause-items : goal.returns-in-Some-clause-items
@@ -12,4 +12,4 @@ returns-in-Some-clause-items g c =
 pub returns-in_default-clause-items : goal.returns-in_default-clause-items
 returns-in_default-clause-items g c =
     let gone = no_place (is_entry c.args.number) (with_owner c.args.owner) c.args.entries.now.items 0 (rw c.deref.ensures.value at (sym c.place_of.ensures.place ∙ c.in_default.is)) in
-    sym gone.1
+    sym gone.same

@@ -1,6 +1,6 @@
 use Rattle.std.proofs.Common.{sym, ap, ◌∙◌, slice_set}
 use Rattle.dill_scope.specs.Scopes.{is_bundle, with_owner}
-use Rattle.dill_scope.proofs.Found.{place, no_place}
+use Rattle.dill_base.proofs.Places.{place, no_place}
 use Rattle.dill_scope.proofs.places.note_owner.Goals as goal
 
 pub returns-in-Some : goal.returns-in-Some
@@ -11,5 +11,5 @@ returns-in-Some c =
 
 pub returns-in_default : goal.returns-in_default
 returns-in_default c =
-    let gone = no_place (is_bundle c.args.name) (with_owner c.args.owner) c.args.bundles.now.items (rw c.deref.ensures.value at (sym c.bundle_place.ensures.place ∙ c.in_default.is)) in
+    let gone = no_place (is_bundle c.args.name) (with_owner c.args.owner) c.args.bundles.now.items 0 (rw c.deref.ensures.value at (sym c.bundle_place.ensures.place ∙ c.in_default.is)) in
     sym gone.same

@@ -1,7 +1,7 @@
 use Rattle.std.proofs.Common.{sym, ◌∙◌, subst}
 use Rattle.dill_rules.specs.World.{is_coroutine}
 use Rattle.dill_world.specs.Store.{is_plain_row, ArePlain}
-use Rattle.dill_world.proofs.Places.{place, no_place}
+use Rattle.dill_base.proofs.Places.{place, no_place}
 use Rattle.dill_world.proofs.Each.{all_without}
 use Rattle.dill_world.proofs.rows.drop_coroutine.Goals as goal
 
@@ -16,4 +16,4 @@ returns-in-Some-clause-plain g c = λ plain. subst (λ ys. ArePlain ys) (sym (re
 pub returns-in_default-clause-rows : goal.returns-in_default-clause-rows
 returns-in_default-clause-rows g c =
     let gone = no_place (is_coroutine c.args.who) (λ x. x) c.args.coroutines.now.items 0 (rw c.deref.ensures.value at (sym c.place_of.ensures.place ∙ c.in_default.is)) in
-    sym gone.2
+    sym gone.whole

@@ -1,7 +1,7 @@
 use Rattle.std.proofs.Common.{sym, ap, ◌∙◌, slice_set, subst}
 use Rattle.dill_rules.specs.World.{is_coroutine, with_mode}
 use Rattle.dill_world.specs.Store.{is_plain_row, ArePlain}
-use Rattle.dill_world.proofs.Places.{place, no_place}
+use Rattle.dill_base.proofs.Places.{place, no_place}
 use Rattle.dill_world.proofs.Each.{all_change}
 use Rattle.dill_world.proofs.rows.put_mode.Goals as goal
 
@@ -17,4 +17,4 @@ returns-in-Some-clause-plain g c = λ plain. subst (λ ys. ArePlain ys) (sym (re
 pub returns-in_default-clause-rows : goal.returns-in_default-clause-rows
 returns-in_default-clause-rows g c =
     let gone = no_place (is_coroutine c.args.who) (with_mode c.args.mode) c.args.coroutines.now.items 0 (rw c.deref.ensures.value at (sym c.place_of.ensures.place ∙ c.in_default.is)) in
-    sym gone.1
+    sym gone.same

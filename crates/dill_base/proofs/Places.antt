@@ -1,4 +1,4 @@
--- Where a test finds an element, and what is changed there.
+-- Where a test finds an element, and what is changed or removed there.
 use Rattle.std.proofs.Common.{◌≡◌, ℕ, suc, ◌+◌, ◌<◌, Bool, true, false, List, [], ◌∷◌, length, get_or, refl, ap, cond, Some, None, arith, subst}
 use Rattle.std.proofs.Math.ListN.{set}
 use Rattle.std.specs.List.{position_from, find, remove}
@@ -46,13 +46,19 @@ module _ {X : Type 0} (test : X → Bool) (f : X → X) (d : X) where
       let e : r.0 ≡ i = omega (arith, r.1) in
       subst (λ k. Place test f xs k d) e r.2
 
+-- what a test that finds nothing changes
+pub record NoPlace {X : Type 0} (test : X → Bool) (f : X → X) (xs : List X) : Type 0 where
+  pub none : find test xs ≡ None
+  pub same : change test f xs ≡ xs
+  pub whole : without test xs ≡ xs
+
 module _ {X : Type 0} (test : X → Bool) (f : X → X) where
-  no_cons : (x : X) (xs : List X) (j : ℕ) (b : Bool) → test x ≡ b → cond b (Some j) (position_from test (j + 1) xs) ≡ None → (position_from test (j + 1) xs ≡ None → (find test xs ≡ None) × (change test f xs ≡ xs) × (without test xs ≡ xs)) → (find test (x ∷ xs) ≡ None) × (change test f (x ∷ xs) ≡ x ∷ xs) × (without test (x ∷ xs) ≡ x ∷ xs)
+  no_cons : (x : X) (xs : List X) (j : ℕ) (b : Bool) → test x ≡ b → cond b (Some j) (position_from test (j + 1) xs) ≡ None → (position_from test (j + 1) xs ≡ None → NoPlace test f xs) → NoPlace test f (x ∷ xs)
   no_cons x xs j true e h rest = cc
   no_cons x xs j false e h rest =
-      let r : (find test xs ≡ None) × (change test f xs ≡ xs) × (without test xs ≡ xs) = rest h in
-      (rw e r.0, rw e (ap (λ ys. x ∷ ys) r.1), rw e (ap (λ ys. x ∷ ys) r.2))
+      let r = rest h in
+      record { none = rw e r.none; same = rw e (ap (λ ys. x ∷ ys) r.same); whole = rw e (ap (λ ys. x ∷ ys) r.whole) }
 
-  pub no_place : (xs : List X) (j : ℕ) → position_from test j xs ≡ None → (find test xs ≡ None) × (change test f xs ≡ xs) × (without test xs ≡ xs)
-  no_place [] j h = (refl, refl, refl)
+  pub no_place : (xs : List X) (j : ℕ) → position_from test j xs ≡ None → NoPlace test f xs
+  no_place [] j h = record { none = refl; same = refl; whole = refl }
   no_place (x ∷ xs) j h = no_cons x xs j (test x) refl h (no_place xs (j + 1))
