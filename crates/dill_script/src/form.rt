@@ -1,10 +1,6 @@
-ghost use Rattle.std.specs.Prelude.{◌≡◌, ◌++◌, ◌∷◌, [], OnOk, OnErr};
-
 use crate::{Bytes, Mode, Num, Order, Role, Wait};
-use dill_base::{Address, NoMemory, Octets};
+use dill_base::{Address, Octets, Sequence};
 use dill_calls::Word;
-use std::alloc::Global;
-use std::marker::Model;
 
 /// What may stand as one operand of a call.
 #[derive(Clone, Copy, Debug, PartialEq, Eq)]
@@ -51,47 +47,7 @@ pub enum Operand {
 }
 
 /// The operands of a call, in their order.
-#[derive(Debug, Drop)]
-pub struct Operands {
-    operands: Vec<Operand>,
-}
-
-impl Model for Operands {
-    ghost use Rattle.std.specs.Prelude.{List};
-    ghost use Rattle.dill_script.specs.declared.form.Operand.{Operand};
-
-    ghost Value = { List Operand };
-
-    ghost view = { λ o. o.operands.items };
-}
-
-impl Operands {
-    /// None. It takes no memory.
-    pub fn new(alloc: Global) -> Operands
-        ensures { result ≡ [] }
-    {
-        Operands {
-            operands: Vec::new(alloc),
-        }
-    }
-
-    /// Adds one at the end. Refused, it changes nothing but that the operand is gone.
-    pub fn push(&mut self, operand: Operand) -> Result<(), NoMemory>
-        ensures ok { OnOk result (self.new ≡ self.old ++ operand ∷ []) }
-        ensures err { OnErr result (self.new ≡ self.old) }
-    {
-        match self.operands.push(operand) {
-            Ok(()) => Ok(()),
-            Err(_) => Err(NoMemory),
-        }
-    }
-
-    pub fn as_slice(&self) -> &[Operand]
-        ensures { result.now ≡ self.now }
-    {
-        self.operands.as_slice()
-    }
-}
+pub type Operands = Sequence<Operand>;
 
 /// A call as it is written: its word, and operands that are still to be evaluated.
 #[derive(Debug, Drop)]
