@@ -6,8 +6,8 @@ use Rattle.dill_base.specs.declared.status.Address.{Address}
 use Rattle.dill_script.specs.Lines.{longer}
 use Rattle.dill_script.specs.Numbers.{parts, each, number_up_to, address_with, address_in, address_of}
 use Rattle.dill_script.specs.Printing.{address_text}
-use Rattle.dill_script.proofs.Somes.{if_only, if_joined}
-use Rattle.dill_script.proofs.Words.{number_is}
+use Rattle.dill_script.proofs.Options.{if_only, if_joined}
+use Rattle.dill_script.proofs.PlainsWritten.{number_is}
 
 -- a byte at the front of the first of the parts
 longer_joined : (c byte : ℕ) (xs : List (List ℕ)) → join_with_byte c (longer byte xs) ≡ byte ∷ join_with_byte c xs

@@ -22,10 +22,10 @@ use Rattle.dill_script.specs.Table.{kinds_of, rest_kind}
 use Rattle.dill_script.specs.Tokens.{Token, Plain}
 use Rattle.dill_script.proofs.Formed.{always, mapped}
 use Rattle.dill_script.proofs.Judging.{leads_of}
-use Rattle.dill_script.proofs.LineWords.{two_is, none_is}
+use Rattle.dill_script.proofs.LinesWritten.{two_is, none_is}
 use Rattle.dill_script.proofs.Linking.{IsRead, is_read}
 use Rattle.dill_script.proofs.Saying.{says_well, line_says, reads_all}
-use Rattle.dill_script.proofs.Somes.{if_map, if_then, if_only, if_both}
+use Rattle.dill_script.proofs.Options.{if_map, if_then, if_only, if_both}
 use Rattle.dill_script.proofs.Spoken.{said_some, version_is}
 use Rattle.dill_script.proofs.Tokenwise.{Leads, after_by}
 

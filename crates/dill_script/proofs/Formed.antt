@@ -18,7 +18,7 @@ use Rattle.dill_script.specs.Numbers.{each, joined, is_decimal, value_of, number
 use Rattle.dill_script.specs.Operands.{operand_of, item_of, items_of, send_of, recv_of, args_of, clauses_of, rest_of, operands_of, dest_of, num_of, bytes_of, number_register}
 use Rattle.dill_script.specs.Statements.{dest_at}
 use Rattle.dill_script.specs.Tokens.{Token, is_plain}
-use Rattle.dill_script.proofs.Somes.{if_map, if_or, if_then, if_test, if_only, if_joined}
+use Rattle.dill_script.proofs.Options.{if_map, if_or, if_then, if_test, if_only, if_joined}
 
 pub always : {X : Type 0} (P : X → Type 0) (o : Option X) → ((x : X) → P x) → IfSome o P
 always P None h = tt

@@ -19,9 +19,9 @@ use Rattle.dill_script.specs.Statements.{Line, Opens, Ends, Says, both, set_at, 
 use Rattle.dill_script.specs.Table.{kinds_of, rest_kind}
 use Rattle.dill_script.specs.Tokens.{Token, is_plain}
 use Rattle.dill_script.proofs.Formed.{always, mapped, number_small, is_small, operands_fit, dest_at_fits}
-use Rattle.dill_script.proofs.LineWords.{two_is, none_is}
+use Rattle.dill_script.proofs.LinesWritten.{two_is, none_is}
 use Rattle.dill_script.proofs.Saying.{says_well, line_says, reads_all}
-use Rattle.dill_script.proofs.Somes.{if_map, if_then, if_test, if_only, if_both}
+use Rattle.dill_script.proofs.Options.{if_map, if_then, if_test, if_only, if_both}
 
 -- a line whose statement has its form
 abbrev Formed : Line → Type 0

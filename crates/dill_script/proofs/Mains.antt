@@ -19,10 +19,10 @@ use Rattle.dill_script.specs.Statements.{Line, Opens, Ends, Says, params_fit, pr
 use Rattle.dill_script.specs.Tokens.{Token}
 use Rattle.dill_script.proofs.Formed.{always, number_small}
 use Rattle.dill_script.proofs.Judging.{leads_of}
-use Rattle.dill_script.proofs.LineWords.{two_is}
+use Rattle.dill_script.proofs.LinesWritten.{two_is}
 use Rattle.dill_script.proofs.Linking.{IsRead, is_read}
 use Rattle.dill_script.proofs.Saying.{all_push}
-use Rattle.dill_script.proofs.Somes.{if_then, if_more, if_only}
+use Rattle.dill_script.proofs.Options.{if_then, if_more, if_only}
 use Rattle.dill_script.proofs.Tokenwise.{Leads, after_by}
 use Rattle.dill_script.proofs.Written.{Matches, keyword_line_matches}
 

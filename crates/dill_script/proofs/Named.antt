@@ -20,7 +20,7 @@ use Rattle.dill_script.proofs.Judging.{leads_of}
 use Rattle.dill_script.proofs.Linking.{IsRead, is_read}
 use Rattle.dill_script.proofs.Spoken.{matches_of, step_adds, said_some}
 use Rattle.dill_script.proofs.Tokenwise.{IsFine, Leads, said_by, after_by}
-use Rattle.dill_script.proofs.Words.{bytes_same}
+use Rattle.dill_script.proofs.PlainsWritten.{bytes_same}
 use Rattle.dill_script.proofs.Written.{Nested, Matches, Adds, StaysOpen, says_open}
 
 not_false : (b : Bool) → not b ≡ false → b ≡ true

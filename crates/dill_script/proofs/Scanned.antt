@@ -1,4 +1,4 @@
--- The tokens of a line: words of bytes that may stand in words, and texts of bytes.
+-- The tokens of a line: plain tokens of bytes that may stand in them, and texts of bytes.
 use Rattle.std.proofs.Common.{◌≡◌, ℕ, ◌+◌, ◌-◌, ◌*◌, ◌<◌, ◌≤◌, List, [], ◌∷◌, Bool, true, false, ◌&&◌, ◌||◌, ◌==◌, nat_le, if◌then◌else◌, Option, Some, None, IfSome, refl, sym, ◌∙◌, arith, leb-true, ◌≢◌}
 use Rattle.std.proofs.lemmas.Bool.{eqb-true, and_parts}
 use Rattle.std.specs.List.{list_all}

@@ -10,9 +10,9 @@ use Rattle.dill_script.specs.Printing.{program_lines, script_lines}
 use Rattle.dill_script.specs.Refusals.{is_version, is_some_with}
 use Rattle.dill_script.specs.Statements.{Line, keyword_line, line_of}
 use Rattle.dill_script.specs.Tokens.{Token, Plain, is_plain}
-use Rattle.dill_script.proofs.HeadWords.{line_is}
-use Rattle.dill_script.proofs.LineWords.{spelled}
-use Rattle.dill_script.proofs.OperandWords.{is_that_plain}
+use Rattle.dill_script.proofs.HeadsWritten.{line_is}
+use Rattle.dill_script.proofs.LinesWritten.{spelled}
+use Rattle.dill_script.proofs.OperandsWritten.{is_that_plain}
 use Rattle.dill_script.proofs.Tokenwise.{IsFine, Leads, said_by, after_by}
 use Rattle.dill_script.proofs.Written.{written, Nested, Matches, Adds, keyword_line_matches, added, nothing_open}
 

@@ -18,8 +18,8 @@ use Rattle.dill_script.specs.Operands.{plain_in, name_of, number_register, bytes
 use Rattle.dill_script.specs.Printing.{statement_tokens, program_lines}
 use Rattle.dill_script.specs.Statements.{Line, Opens, Ends, Says, both, set_at, with_two, program_of, params_fit, plain_line, keyword_line, cond_of, loop_of, fail_of, call_of_line}
 use Rattle.dill_script.specs.Tokens.{Token, Plain}
-use Rattle.dill_script.proofs.LineWords.{spelled, two_is, none_is}
-use Rattle.dill_script.proofs.Somes.{if_map, if_then, if_only}
+use Rattle.dill_script.proofs.LinesWritten.{spelled, two_is, none_is}
+use Rattle.dill_script.proofs.Options.{if_map, if_then, if_only}
 
 -- a program as far as it has come
 abbrev pub begun_lines : Program → List (List Token)

@@ -16,7 +16,7 @@ use Rattle.dill_script.specs.Reading.{script_with}
 use Rattle.relay_body.specs.Running.{running}
 use Rattle.dill_calls.specs.CallTable.{is_built}
 
--- A run after so many steps. Its state is steady, whoever waits for a bundle to be empty waits for somebody who lives in it, and whoever waits in `hclose` for a bundle that is closing, in which somebody goes on, and which closes within its debt. Turns after a stop are at most the debt of the root at that stop, and where the next step closes the open root the run ends within that debt.
+-- A run after so many steps. Its state is steady. Whoever waits for a bundle to be empty waits for somebody who lives in it. Whoever waits in `hclose` waits for a bundle that is closing, in which somebody goes on; it closes within its debt. The turns after a stop are at most the debt of the root at that stop. Where the next step closes the open root, the run ends within that debt.
 pub record RunsWell (traced : Bool) (most : ℕ) (begun : Playing (State ScriptView)) (n : ℕ) : Type 0 where
   pub steady : IsSteady running (play (machine_of running) traced most n begun).config.state
   pub waits : WaitsForSomebody (play (machine_of running) traced most n begun).config.state.world

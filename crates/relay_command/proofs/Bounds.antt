@@ -1,7 +1,7 @@
 -- The numbers of a command are within their bounds, and a load names its clients.
 use Rattle.std.proofs.Common.{◌≡◌, ℕ, ◌≤◌, List, [], ◌∷◌, Bool, true, false, ◌&&◌, nat_le, Option, Some, None, filter_map, codes, option_map, option_and_then, is_some, IfSome, IsSome, arith, refl, lit≤}
 use Rattle.std.proofs.lemmas.Bool.Decides.{nat_tests}
-use Rattle.dill_script.proofs.Somes.{if_only}
+use Rattle.dill_script.proofs.Options.{if_only}
 use Rattle.dill_script.specs.Numbers.{number_up_to, is_decimal, value_of, only_if}
 use Rattle.relay_command.specs.declared.command.Command as stated
 use Rattle.relay_command.specs.declared.command.Mode.{Mode}

@@ -1,7 +1,7 @@
 -- The pieces of arguments, from the first argument on.
 use Rattle.std.proofs.Common.{◌≡◌, ◌∙◌, ℕ, List, [], ◌∷◌, map, find, bytes_eq, codes, Bool, true, false, if◌then◌else◌, Option, Some, None, IfSome, refl, sym, ap, subst}
 use Rattle.dill_base.specs.Maps.{if_some, first_some}
-use Rattle.dill_script.proofs.Words.{find_passes, bytes_same}
+use Rattle.dill_script.proofs.PlainsWritten.{find_passes, bytes_same}
 use Rattle.relay_command.specs.Told.{alone}
 use Rattle.relay_command.specs.Arguments.{Piece, Value, Free, options, joined, behind, begins_with_dash, ends_options, piece_first, pieces}
 

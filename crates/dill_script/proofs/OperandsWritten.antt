@@ -21,8 +21,8 @@ use Rattle.dill_script.specs.Operands.{plain_in, number_place, bytes_place, numb
 use Rattle.dill_script.specs.Printing.{number_register_text, bytes_register_text, num_text, bytes_token, wait_text, address_text, operand_tokens, dest_tokens}
 use Rattle.dill_script.specs.Tokens.{Token, Plain, Text, is_plain}
 use Rattle.dill_script.proofs.Addresses.{address_is}
-use Rattle.dill_script.proofs.Somes.{if_map, if_or, if_then, if_more, if_test, if_only, if_joined}
-use Rattle.dill_script.proofs.Words.{named_is, bytes_same, lettered, number_register_is, bytes_register_is, num_is}
+use Rattle.dill_script.proofs.Options.{if_map, if_or, if_then, if_more, if_test, if_only, if_joined}
+use Rattle.dill_script.proofs.PlainsWritten.{named_is, bytes_same, lettered, number_register_is, bytes_register_is, num_is}
 
 -- what a word is read as, of a token
 pub of_plain : {X : Type 0} (f : List ℕ → Option X) (text : X → List ℕ) (token : Token) → ((word : List ℕ) → IfSome (f word) (λ x. text x ≡ word)) → IfSome (option_and_then f (plain_in token)) (λ x. Plain (text x) ≡ token)

@@ -18,9 +18,9 @@ use Rattle.dill_script.specs.Printing.{number_register_text, bytes_register_text
 use Rattle.dill_script.specs.Statements.{Line, Opens, Ends, Says, relation_text, relation_of, both, number_cond, bytes_cond, err_of, cond_of, with_two, with_none, fail_of, loop_of, params_fit, program_of, dest_at, call_of_line, plain_line}
 use Rattle.dill_script.specs.Table.{kinds_of, rest_kind}
 use Rattle.dill_script.specs.Tokens.{Token, Plain, is_plain}
-use Rattle.dill_script.proofs.OperandWords.{of_plain, num_token_is, register_token_is, bytes_register_token_is, bytes_token_is, name_token_is, operands_is, register_token, dest_is, is_that_plain}
-use Rattle.dill_script.proofs.Somes.{if_map, if_or, if_then, if_more, if_test, if_only, if_both}
-use Rattle.dill_script.proofs.Words.{named_is, number_is}
+use Rattle.dill_script.proofs.OperandsWritten.{of_plain, num_token_is, register_token_is, bytes_register_token_is, bytes_token_is, name_token_is, operands_is, register_token, dest_is, is_that_plain}
+use Rattle.dill_script.proofs.Options.{if_map, if_or, if_then, if_more, if_test, if_only, if_both}
+use Rattle.dill_script.proofs.PlainsWritten.{named_is, number_is}
 
 pub two : (a b c d : Token) → a ≡ c → b ≡ d → a ∷ b ∷ [] ≡ c ∷ d ∷ []
 two a b c d e f = cc

@@ -1,4 +1,4 @@
--- A line is written with the `try`, the registers and the word that it was read with.
+-- A line is written with the `try`, the registers and the keyword that it was read with.
 use Rattle.std.proofs.Common.{◌≡◌, ℕ, List, [], ◌∷◌, ◌++◌, map, Bool, true, false, if◌then◌else◌, Option, Some, None, IfSome, option_map, option_and_then, refl, sym, ap, ◌∙◌, subst, codes, append_assoc}
 use Rattle.std.proofs.lemmas.Option.{none-some}
 use Rattle.dill_script.specs.declared.line.Keyword.{Keyword}
@@ -13,10 +13,10 @@ use Rattle.dill_script.specs.Operands.{register_in, bytes_register, num_of, byte
 use Rattle.dill_script.specs.Printing.{number_register_text, bytes_register_text, num_text, bytes_token, try_tokens, statement_tokens}
 use Rattle.dill_script.specs.Statements.{Says, both, set_at, with_two, keyword_line, line_of}
 use Rattle.dill_script.specs.Tokens.{Token, Plain, Text, is_plain}
-use Rattle.dill_script.proofs.LineWords.{spelled, target_tokens, behind_keyword, Wholly, two_is, plain_is, call_is}
-use Rattle.dill_script.proofs.OperandWords.{of_plain, num_token_is, bytes_register_token_is, bytes_token_is, register_token, is_that_plain}
-use Rattle.dill_script.proofs.Somes.{if_map, if_then, if_more, if_test, if_both}
-use Rattle.dill_script.proofs.Words.{named_is, register_is, register_text}
+use Rattle.dill_script.proofs.LinesWritten.{spelled, target_tokens, behind_keyword, Wholly, two_is, plain_is, call_is}
+use Rattle.dill_script.proofs.OperandsWritten.{of_plain, num_token_is, bytes_register_token_is, bytes_token_is, register_token, is_that_plain}
+use Rattle.dill_script.proofs.Options.{if_map, if_then, if_more, if_test, if_both}
+use Rattle.dill_script.proofs.PlainsWritten.{named_is, register_is, register_text}
 
 register_token_of : (word : List ℕ) (r : Register) → register_text r ≡ word → register_token r ≡ Plain word
 register_token_of word (registers.Number place) e = ap Plain e

@@ -1,4 +1,4 @@
--- What a word was read as is written as that word.
+-- What a plain token was read as is written as that token.
 use Rattle.std.proofs.Common.{◌≡◌, ℕ, ◌+◌, ◌-◌, ◌*◌, ◌^◌, ◌<◌, ◌≤◌, List, [], ◌∷◌, length, get_or, fold, find, Bool, true, false, not, ◌&&◌, ◌==◌, cond, nat_le, if◌then◌else◌, Option, Some, None, IfSome, option_map, option_and_then, decimal, bytes_eq, refl, ap, arith, leb-true}
 use Rattle.std.specs.List.{list_all}
 use Rattle.std.proofs.lemmas.Bool.{eqb-true, eq-eqb, le-leb, and_from, and_parts}
@@ -11,7 +11,7 @@ use Rattle.dill_script.specs.declared.operand.Num.TheVariants as nums
 use Rattle.dill_script.specs.Numbers.{named, is_digit, is_decimal, value_of, number_up_to, number_of, register_of}
 use Rattle.dill_script.specs.Operands.{number_place, bytes_place, num_of_plain}
 use Rattle.dill_script.specs.Printing.{number_register_text, bytes_register_text, num_text}
-use Rattle.dill_script.proofs.Somes.{if_map, if_or, if_then, if_more, if_test, if_only}
+use Rattle.dill_script.proofs.Options.{if_map, if_or, if_then, if_more, if_test, if_only}
 
 -- words that are equal by the test are equal
 pub bytes_same : (xs ys : List ℕ) → bytes_eq xs ys ≡ true → xs ≡ ys
