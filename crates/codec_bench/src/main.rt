@@ -1,5 +1,5 @@
 //! Reads one message from a buffer that grows byte by byte, as often as it is told: `codec_bench KIND SIZE ROUNDS`.
-//! Without words it does nothing. `bench/codecs.sh` times it.
+//! Without arguments it does nothing. `bench/codecs.sh` times it.
 #![tactic(auto)]
 
 mod growing;
@@ -8,7 +8,7 @@ use growing::{Kind, spelled, times_whole};
 use std::env;
 use std::process::ExitCode;
 
-/// A word that is a number, or 0.
+/// An argument that is a number, or 0.
 fn number(word: Option<&String>) -> usize {
     word.and_then(|word| word.parse::<usize>().ok())
         .unwrap_or(0)

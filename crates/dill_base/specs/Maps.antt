@@ -1,4 +1,4 @@
--- Words for finite maps, which are lists of records in rising number; `find`, `filter` and `++` of std are the others.
+-- Finite maps, which are lists of records in rising number: what std's `find`, `filter` and `++` leave out.
 use Rattle.std.specs.Prelude.{cond, Bool, List, [], ◌∷◌, Option, Some, None}
 use Rattle.std.specs.Option.{option_or}
 

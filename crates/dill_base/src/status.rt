@@ -8,7 +8,7 @@ pub enum Status {
     Well,
     /// `main` ended with an errno.
     Fault,
-    /// The words were refused.
+    /// The arguments were refused.
     Words,
     /// Want of memory before anything ran.
     Memory,

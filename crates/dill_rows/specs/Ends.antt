@@ -13,7 +13,7 @@ use Rattle.dill_stack.specs.declared.parting.Parting.TheVariants as parting
 use Rattle.dill_stack.specs.Held.{Held, came}
 use Rattle.dill_stack.specs.Refusals.{detach_fault}
 use Rattle.dill_stack.specs.Sending.{took}
-use Rattle.dill_stack.specs.RowWords.{attached, leaves, reads, left_said, with_bytes}
+use Rattle.dill_stack.specs.RowTerms.{attached, leaves, reads, left_said, with_bytes}
 use Rattle.relay_trace.specs.Lines.{sized}
 use Rattle.dill_rows.specs.Play.{Item, Does, Tries, Text}
 use Rattle.dill_rows.specs.Playing.{plain, replayed, idle, place, connected}

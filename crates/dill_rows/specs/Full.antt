@@ -9,7 +9,7 @@ use Rattle.dill_calls.specs.declared.lists.Arg.TheVariants.{Give}
 use Rattle.dill_handles.specs.Handles.{Handles}
 use Rattle.dill_scope.specs.Scopes.{close}
 use Rattle.dill_stack.specs.declared.layer.Layer.TheVariants as layer
-use Rattle.dill_stack.specs.RowWords.{attached, big2}
+use Rattle.dill_stack.specs.RowTerms.{attached, big2}
 use Rattle.dill_rules.specs.declared.coroutine.Mode.TheVariants.{Running}
 use Rattle.dill_rules.specs.declared.thing.Thing.{Thing}
 use Rattle.dill_rules.specs.declared.thing.Thing.TheVariants as things

@@ -8,7 +8,7 @@ use Rattle.relay_trace.specs.Lines.{sized}
 use Rattle.dill_rows.specs.Play.{Does, Tries, Text}
 use Rattle.dill_rows.specs.Playing.{plain, replayed, idle, place, connected}
 use Rattle.dill_rows.specs.Runs.{does}
-use Rattle.dill_rows.specs.Words.{counted}
+use Rattle.dill_rows.specs.Random.{counted}
 
 -- a client's head whose key is four random numbers, and the answer to it
 abbrev pub key_head : List ℕ

@@ -13,7 +13,7 @@ pub mod Limits
 pub mod Full
 pub mod InUse
 pub mod Session
-pub mod Words
+pub mod Random
 pub mod Relay
 pub mod Stories
 pub mod Failing

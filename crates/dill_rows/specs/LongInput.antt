@@ -20,7 +20,7 @@ use Rattle.dill_http.specs.Writing.{line_due}
 use Rattle.dill_stack.specs.declared.layer.Layer.TheVariants as layer
 use Rattle.dill_stack.specs.HandshakeRows.{chat_head}
 use Rattle.dill_stack.specs.Refusals.{send_fault}
-use Rattle.dill_stack.specs.RowWords.{attached, with_bytes, big2}
+use Rattle.dill_stack.specs.RowTerms.{attached, with_bytes, big2}
 use Rattle.dill_ws.specs.declared.request.Asked.TheVariants as asked
 use Rattle.dill_ws.specs.Handshakes.{client_front, server_front, accept_text, client_due}
 

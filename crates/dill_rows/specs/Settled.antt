@@ -13,7 +13,7 @@ use Rattle.dill_scope.specs.Scopes.{Scopes}
 use Rattle.dill_handles.specs.declared.entry.Entry.{Entry}
 use Rattle.dill_stack.specs.declared.layer.Layer.TheVariants as layer
 use Rattle.dill_stack.specs.Held.{Held}
-use Rattle.dill_stack.specs.RowWords.{attached, big2}
+use Rattle.dill_stack.specs.RowTerms.{attached, big2}
 use Rattle.dill_ws.specs.declared.side.Side.TheVariants.{Client}
 use Rattle.dill_ws.specs.declared.request.Asked.TheVariants as asked
 use Rattle.dill_base.specs.declared.errno.Front.TheVariants as fronts

@@ -26,7 +26,7 @@ ghost use Rattle.dill_rows.specs.Taking.{CancelledOwner, CancelledOwn, AwaitedLi
 ghost use Rattle.dill_rows.specs.Meeting.{EndsOfChannels, LongestWaiting};
 ghost use Rattle.dill_rows.specs.Layers.{PeerCloses, EndSentOnce, AttachKeepsUnread, AfterShut, LinesOverLink};
 ghost use Rattle.dill_rows.specs.Session.{WebsocketSession};
-ghost use Rattle.dill_rows.specs.Words.{FailedDetachWords, ReplacedPongs, HandedBackPong, WordsTaken};
+ghost use Rattle.dill_rows.specs.Random.{FailedDetachNumbers, ReplacedPongs, HandedBackPong, NumbersTaken};
 ghost use Rattle.dill_rows.specs.Handshakes.{ClientSession, RefusedHead};
 ghost use Rattle.dill_rows.specs.Leaving.{RequestThenBody, ClosedInOrder, GivenUpShut, CancelledLeavers};
 ghost use Rattle.dill_rows.specs.Relay.{RelayToWebsocket, LoadOfFour};
@@ -251,7 +251,7 @@ pub fn websocket_server_session()
 
 /// A client's pong has used up its random number, also where the detach that queued it fails in the same look.
 pub fn failed_detach_uses_its_words()
-    ensures { FailedDetachWords }
+    ensures { FailedDetachNumbers }
 {}
 
 /// A pong that takes an earlier one's place goes at that place, with a random number of its own.
@@ -529,7 +529,7 @@ pub fn stories_over_the_network()
 
 /// Which calls take a random number.
 pub fn words_that_are_taken()
-    ensures { WordsTaken }
+    ensures { NumbersTaken }
 {}
 
 /// A socket whose owner ends, and a listen that is cancelled.

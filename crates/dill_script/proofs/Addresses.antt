@@ -27,12 +27,12 @@ parts_of : (c byte : ℕ) (bytes : List ℕ) (b : Bool) → byte == c ≡ b → 
 parts_of c byte bytes true e l j = (omega arith, has_part c (parts c bytes) bytes l j ∙ ap (λ x. x ∷ bytes) (sym (eqb-true byte c e)))
 parts_of c byte bytes false e l j = (longer_some byte (parts c bytes), longer_joined c byte (parts c bytes) ∙ ap (λ w. byte ∷ w) j)
 
--- the parts, joined, are the word
+-- the parts, joined, are the plain token
 pub parts_joined : (c : ℕ) (word : List ℕ) → (0 < length (parts c word)) × (join_with_byte c (parts c word) ≡ word)
 parts_joined c [] = (omega arith, refl)
 parts_joined c (byte ∷ bytes) = let h = parts_joined c bytes in parts_of c byte bytes (byte == c) refl h.0 h.1
 
--- each of some numbers is written as its word
+-- each of some numbers is written as its plain token
 pub each_number : (greatest : ℕ) (words : List (List ℕ)) → greatest < 2 ^ 64 → IfSome (each (number_up_to greatest) words) (λ ns. map decimal ns ≡ words)
 each_number greatest [] small = refl
 each_number greatest (word ∷ words) small = if_joined (λ n. decimal n ≡ word) (λ ns. map decimal ns ≡ words) (λ ns. map decimal ns ≡ word ∷ words) (number_up_to greatest word) (each (number_up_to greatest) words) (λ n ns e f. same_lists (decimal n) word (map decimal ns) words e f) (number_is greatest word small) (each_number greatest words small)

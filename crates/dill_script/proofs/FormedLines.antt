@@ -1,4 +1,4 @@
--- Each statement of what is read has the form that its word asks for.
+-- Each statement of what is read has the form that its keyword asks for.
 use Rattle.std.proofs.Common.{◌≡◌, ℕ, ◌==◌, List, [], ◌∷◌, Bool, true, false, ◌&&◌, cond, if◌then◌else◌, find, Option, Some, None, IfSome, option_map, option_and_then, bytes_eq, refl, codes}
 use Rattle.std.proofs.lemmas.Bool.{and_from, and_parts}
 use Rattle.std.specs.List.{list_all}
@@ -27,7 +27,7 @@ use Rattle.dill_script.proofs.Options.{if_map, if_then, if_test, if_only, if_bot
 abbrev Formed : Line → Type 0
 Formed line = says_well is_formed (Some line) ≡ true
 
--- the word of a line is none that only traces know
+-- the keyword of a line is none that only traces know
 abbrev is_well : Keyword → Bool
 is_well (keywords.Call word) = is_call_word word
 is_well _ = true
@@ -46,7 +46,7 @@ find_among p test (x ∷ xs) e =
 keyword_well : (token : Token) → IfSome (keyword_of token) (λ k. is_well k ≡ true)
 keyword_well token = if_then (λ k. is_well k ≡ true) (named keyword_text all_keywords) (plain_in token) (always (λ word. IfSome (named keyword_text all_keywords word) (λ k. is_well k ≡ true)) (plain_in token) (λ word. find_among (λ k. bytes_eq (keyword_text k) word) is_well all_keywords refl))
 
--- the head has such a word, and registers that there are
+-- the head has such a keyword, and registers that there are
 record IsHead (heading : Heading) : Type 0 where
   word : IfSome heading.keyword (λ k. is_well k ≡ true)
   targets : list_all is_small heading.targets ≡ true

@@ -72,7 +72,7 @@ word_from : (P : Keyword → Type 0) (o : Option Keyword) (k : Keyword) → IfSo
 word_from P None k h e = absurd (none-some k e)
 word_from P (Some x) k h e = subst P (some_same x k e) h
 
--- the word behind some tokens
+-- the keyword behind some tokens
 with_keyword_is : (tried : Bool) (targets : List Register) (tokens : List Token) → Heads (try_tokens tried ++ (target_tokens targets ++ tokens)) (with_keyword tried targets tokens)
 with_keyword_is tried targets [] k e = absurd (none-some k e)
 with_keyword_is tried targets (token ∷ rest) k e =

@@ -64,12 +64,12 @@ spelled (Opens name params) = Plain (codes "program") ∷ Plain name ∷ Plain (
 spelled Ends = Plain (codes "end") ∷ []
 spelled (Says statement) = statement_tokens statement
 
--- the tokens before a line's word
+-- the tokens before a line's keyword
 abbrev pub target_tokens : List Register → List Token
 target_tokens [] = []
 target_tokens (register ∷ rest) = map register_token (register ∷ rest) ++ Plain (codes "=") ∷ []
 
--- a line's word and its operands
+-- a line's keyword and its operands
 abbrev pub behind_keyword : Keyword → List Token → List Token
 behind_keyword keyword tokens = Plain (keyword_text keyword) ∷ tokens
 
@@ -85,7 +85,7 @@ none_is P x (token ∷ rest) h = tt
 pub same_behind : (word : Token) (xs ys : List Token) → xs ≡ ys → word ∷ xs ≡ word ∷ ys
 same_behind word xs ys e = cc
 
--- what a plain line of this word spells
+-- what a plain line of this keyword spells
 abbrev pub Plainly : Keyword → List Token → Line → Type 0
 Plainly keyword tokens line = spelled line ≡ behind_keyword keyword tokens
 

@@ -40,7 +40,7 @@ program_opens a b = if_then OpensWell (λ name. option_and_then (λ count. only_
     (λ name. if_then OpensWell (λ count. only_if (params_fit name count) (Opens name count)) (option_and_then (number_up_to 16) (plain_in b))
     (if_more (λ count. nat_le count 16 ≡ true) (λ count. IfSome (only_if (params_fit name count) (Opens name count)) OpensWell) (option_and_then (number_up_to 16) (plain_in b)) (λ count small. if_only OpensWell (params_fit name count) (Opens name count) (λ e. and_from (params_fit name count) (nat_le count 16) e small)) (count_small b))))
 
--- a line of another word opens none
+-- a line of another keyword opens none
 abbrev is_program : Keyword → Bool
 is_program keywords.Program = true
 is_program _ = false

@@ -71,7 +71,7 @@ ends_apart context (blocks.If ∷ outer) e n f a = record { whole = a.whole; cur
 ends_apart context (blocks.Else ∷ outer) e n f a = record { whole = a.whole; current = λ x. a.current (ap is_empty e) }
 ends_apart context (blocks.Loop ∷ outer) e n f a = record { whole = a.whole; current = λ x. a.current (ap is_empty e) }
 
--- a line of a word that may stand, and that names no program again
+-- a line of a keyword that may stand, and that names no program again
 line_apart : (context : Context) (k : Keyword) (line : Line) → Nested context.open_blocks → may_stand context.open_blocks k ≡ true → Matches k line → names_again context.whole line ≡ false → Apart context → Apart (record (adding context (Some line)) { open_blocks = blocks_behind context.open_blocks k })
 line_apart context keywords.Program (Opens name params) n e m f a = record { whole = a.whole; current = λ x. f }
 line_apart context keywords.Program Ends n e m f a = absurd m

@@ -24,7 +24,7 @@ use Rattle.dill_script.proofs.Addresses.{address_is}
 use Rattle.dill_script.proofs.Options.{if_map, if_or, if_then, if_more, if_test, if_only, if_joined}
 use Rattle.dill_script.proofs.PlainsWritten.{named_is, bytes_same, lettered, number_register_is, bytes_register_is, num_is}
 
--- what a word is read as, of a token
+-- what a plain token is read as, of a token
 pub of_plain : {X : Type 0} (f : List ℕ → Option X) (text : X → List ℕ) (token : Token) → ((word : List ℕ) → IfSome (f word) (λ x. text x ≡ word)) → IfSome (option_and_then f (plain_in token)) (λ x. Plain (text x) ≡ token)
 of_plain f text (Plain word) h = if_more (λ x. text x ≡ word) (λ x. Plain (text x) ≡ Plain word) (f word) (λ x e. ap Plain e) (h word)
 of_plain f text (Text literal) h = tt
@@ -85,7 +85,7 @@ each_is : (f : Token → Option Operand) (tokens : List Token) → ((token : Tok
 each_is f [] h = refl
 each_is f (token ∷ tokens) h = if_joined (λ operand. operand_tokens operand ≡ token ∷ []) (λ list. flat_map operand_tokens list ≡ tokens) (λ list. flat_map operand_tokens list ≡ token ∷ tokens) (f token) (each f tokens) (λ operand list e g. spliced operand list (token ∷ []) tokens e g) (h token) (each_is f tokens h)
 
--- the token is the word that it was tested to be
+-- the token is the plain token that it was tested to be
 pub is_that_plain : (word : List ℕ) (token : Token) → is_plain word token ≡ true → Plain word ≡ token
 is_that_plain word (Plain bytes) e = ap Plain (sym (bytes_same bytes word e))
 is_that_plain word (Text literal) e = cc

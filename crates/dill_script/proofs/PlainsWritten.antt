@@ -13,7 +13,7 @@ use Rattle.dill_script.specs.Operands.{number_place, bytes_place, num_of_plain}
 use Rattle.dill_script.specs.Printing.{number_register_text, bytes_register_text, num_text}
 use Rattle.dill_script.proofs.Options.{if_map, if_or, if_then, if_more, if_test, if_only}
 
--- words that are equal by the test are equal
+-- plain tokens that are equal by the test are equal
 pub bytes_same : (xs ys : List ℕ) → bytes_eq xs ys ≡ true → xs ≡ ys
 bytes_same xs ys e = (bytes_eq-Decides xs ys).0 e
 
@@ -25,7 +25,7 @@ pub find_passes : {X : Type 0} (p : X → Bool) (xs : List X) → IfSome (find p
 find_passes p [] = tt
 find_passes p (x ∷ xs) = found p x (find p xs) (p x) refl (find_passes p xs)
 
--- what a word names is written so
+-- what a plain token names is written so
 pub named_is : {X : Type 0} (text : X → List ℕ) (all : List X) (word : List ℕ) → IfSome (named text all word) (λ x. text x ≡ word)
 named_is text all word = if_more (λ x. bytes_eq (text x) word ≡ true) (λ x. text x ≡ word) (named text all word) (λ x e. bytes_same (text x) word e) (find_passes (λ x. bytes_eq (text x) word) all)
 
@@ -57,7 +57,7 @@ fold_digits = record { empty = λ n. refl; more = λ n c cs r. ap (λ m. values 
 own : IsNumeralModel AreDigits value_of
 own = numerals_by_fold AreDigits digits_test values fold_digits
 
--- a decimal word is of digits, has one, and a 0 first only alone
+-- a decimal plain token is of digits, has one, and a 0 first only alone
 decimal_word : (ds : List ℕ) → is_decimal ds ≡ true → AreDigits ds × (0 < length ds) × (get_or ds 0 0 ≡ 48 → length ds ≡ 1)
 decimal_word [] e = cc
 decimal_word (d ∷ []) e = (and_from (is_digit d) true e refl, omega arith, λ z. refl)

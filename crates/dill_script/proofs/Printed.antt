@@ -20,7 +20,7 @@ put_texts : (bytes : List ℕ) (rest : List Token) → put_all bytes (Some (Text
 put_texts [] rest = refl
 put_texts (byte ∷ bytes) rest = ap (put byte) (put_texts bytes rest)
 
--- the bytes of a word
+-- the bytes of a plain token
 word_scanned : (bytes tail : List ℕ) → AreWordBytes bytes → tokens_from InPlain (bytes ++ tail) ≡ put_all bytes (tokens_from InPlain tail)
 word_scanned [] tail w = refl
 word_scanned (byte ∷ bytes) tail w = ap (keyword_by byte (bytes ++ tail)) w.0.solid ∙ ap (put byte) (word_scanned bytes tail w.1)

@@ -5,7 +5,7 @@ use Rattle.std.specs.List.{list_all}
 use Rattle.dill_script.specs.Lines.{is_line_byte, is_blank}
 use Rattle.dill_script.specs.Tokens.{Token, Plain, Text, Mark, Blank, Hash, Quote, Backslash, Other, Place, Between, InPlain, InText, InEscape, InHex, InHexOf, BehindText, mark_of, is_hex, hex_value, escaped, put, before, tokens, tokens_from}
 
--- a byte of a word
+-- a byte of a plain token
 pub record IsWordByte (byte : ℕ) : Type 0 where
   pub line : is_line_byte byte ≡ true
   pub solid : is_blank byte ≡ false
@@ -14,7 +14,7 @@ abbrev pub AreWordBytes : List ℕ → Type 0
 AreWordBytes [] = Unit {0}
 AreWordBytes (byte ∷ bytes) = IsWordByte byte × AreWordBytes bytes
 
--- a word begins with no blank, `#` or `"`
+-- a plain token begins with no blank, `#` or `"`
 abbrev pub IsWord : List ℕ → Type 0
 IsWord [] = ⊥
 IsWord (byte ∷ bytes) = (mark_of byte ≢ Hash) × (mark_of byte ≢ Quote) × IsWordByte byte × AreWordBytes bytes
@@ -59,7 +59,7 @@ put_word byte (Some []) b h = absurd h
 put_word byte (Some (Plain word ∷ rest)) b h = ((b, h.0), h.1)
 put_word byte (Some (Text bytes ∷ rest)) b h = absurd h
 
--- the first byte of a word
+-- the first byte of a plain token
 put_first : (byte : ℕ) (o : Option (List Token)) → (mark_of byte ≢ Hash) → (mark_of byte ≢ Quote) → IsWordByte byte → IfSome o InPlains → IfSome (put byte o) AreTokens
 put_first byte None n q b h = tt
 put_first byte (Some []) n q b h = absurd h

@@ -28,7 +28,7 @@ matches_of h w k line e f =
     some_matches : (o : Option Line) → o ≡ Some line → IfSome o (Matches k) → Matches k line
     some_matches o e m = subst (λ p. IfSome p (Matches k)) e m
 
--- a head whose word may stand and that spells something
+-- a head whose keyword may stand and that spells something
 head_added : (context : Context) (h : Heading) (w : Option Keyword) (o : Option Line) (list : List Token) → h.keyword ≡ w → line_of h ≡ o → is_none w ≡ false → is_none o ≡ false → is_some_with (λ keyword. not (may_stand context.open_blocks keyword)) w ≡ false → IfSome o (λ line. spelled line ≡ list) → Nested context.open_blocks → Adds context (record (record (adding context o) { open_blocks = open_behind context.open_blocks w }) { begun = true }) list
 head_added context h None o list e f g i m s n = cc
 head_added context h (Some k) None list e f g i m s n = cc

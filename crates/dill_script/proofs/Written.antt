@@ -40,7 +40,7 @@ Nested (blocks.Program ∷ outer) = outer ≡ []
 Nested (blocks.Finally ∷ outer) = outer ≡ []
 Nested (block ∷ outer) = (is_empty outer ≡ false) × Nested outer
 
--- which words spell which lines
+-- which keywords spell which lines
 abbrev pub Matches : Keyword → Line → Type 0
 Matches keywords.Program (Opens name params) = Unit {0}
 Matches keywords.Program _ = ⊥
@@ -197,7 +197,7 @@ says_added context k s n e m =
     let o : StaysOpen context.open_blocks (blocks_behind context.open_blocks k) = says_open context.open_blocks k s n e m in
     record { nested = o.nested; written = says_written context s (blocks_behind context.open_blocks k) o.before o.after }
 
--- a line of a word that may stand adds its tokens
+-- a line of a keyword that may stand adds its tokens
 pub added : (context : Context) (k : Keyword) (line : Line) → Nested context.open_blocks → may_stand context.open_blocks k ≡ true → Matches k line → Adds context (record (adding context (Some line)) { open_blocks = blocks_behind context.open_blocks k }) (spelled line)
 added context keywords.Program (Opens name params) n e m = opens_added context name params e
 added context keywords.Program Ends n e m = absurd m

@@ -35,7 +35,7 @@ is_in_program _ = false
 abbrev pub is_before_finally : List Block → Bool
 is_before_finally open_blocks = not (is_empty open_blocks) && not (list_any is_finally open_blocks)
 
--- where blocks are open, innermost first, a line of this word may stand
+-- where blocks are open, innermost first, a line of this keyword may stand
 abbrev pub may_stand : List Block → Keyword → Bool
 may_stand open_blocks keywords.Program = is_empty open_blocks
 may_stand open_blocks keywords.Else = is_in_if open_blocks
@@ -51,7 +51,7 @@ abbrev pub outside : List Block → List Block
 outside [] = []
 outside (block ∷ outer) = outer
 
--- the blocks that are open behind a line of this word
+-- the blocks that are open behind a line of this keyword
 abbrev pub blocks_behind : List Block → Keyword → List Block
 blocks_behind open_blocks keywords.Program = blocks.Program ∷ open_blocks
 blocks_behind open_blocks keywords.If = blocks.If ∷ open_blocks

@@ -1,4 +1,4 @@
--- What the words of a line mean: numbers, names, registers, addresses and errnos.
+-- What the plain tokens of a line mean: numbers, names, registers, addresses and errnos.
 use Rattle.std.specs.Prelude.{ℕ, ◌+◌, ◌-◌, ◌*◌, List, [], ◌∷◌, length, map, find, fold, Bool, false, not, ◌&&◌, ◌||◌, ◌==◌, nat_le, if◌then◌else◌, Option, Some, None, option_map, bytes_eq}
 use Rattle.std.specs.List.{list_all}
 use Rattle.dill_base.specs.declared.status.Address.{Address}

@@ -27,7 +27,7 @@ use Rattle.dill_script.specs.declared.operand.Role.TheVariants as roles
 use Rattle.dill_script.specs.Numbers.{named, only_if, number_of, register_of, is_name, address_of, each, joined}
 use Rattle.dill_script.specs.Tokens.{Token, Plain, Text, is_plain}
 
--- the token as a word, where it is no text
+-- the token as a plain token, where it is no text
 abbrev pub plain_in : Token → Option (List ℕ)
 plain_in (Plain word) = Some word
 plain_in (Text literal) = None

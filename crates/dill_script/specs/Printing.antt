@@ -115,7 +115,7 @@ hex_digit value = unwrap_or (slice_get (codes "0123456789abcdef") value) 48
 abbrev pub byte_text : ℕ → List ℕ
 byte_text byte = if byte == 34 then codes "\\\"" else (if byte == 92 then codes "\\\\" else (if byte == 10 then codes "\\n" else (if byte == 13 then codes "\\r" else (if byte == 9 then codes "\\t" else (if nat_le 32 byte && nat_le byte 126 then byte ∷ [] else codes "\\x" ++ hex_digit (byte / 16) ∷ hex_digit (byte % 16) ∷ [])))))
 
--- a token as it is written: a word as it stands, a text in quotes
+-- a token as it is written: a plain token as it stands, a text in quotes
 abbrev pub token_text : Token → List ℕ
 token_text (Plain letters) = letters
 token_text (Text value) = 34 ∷ flat_map byte_text value ++ 34 ∷ []

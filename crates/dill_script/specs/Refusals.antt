@@ -27,11 +27,11 @@ abbrev pub is_some_with : {X : Type 0} → (X → Bool) → Option X → Bool
 is_some_with test None = false
 is_some_with test (Some x) = test x
 
--- the word of a line that belongs to programs
+-- the keyword of a line that belongs to programs
 abbrev pub keyword_said : Context → List ℕ → Option Keyword
 keyword_said context line = option_and_then (λ heading. heading.keyword) (said context line)
 
--- the line belongs to programs, and its word is none
+-- the line belongs to programs, and its keyword is none
 abbrev pub has_unknown_word : Context → List ℕ → Bool
 has_unknown_word context line = is_some_with (λ heading. is_none heading.keyword) (said context line)
 

@@ -14,7 +14,7 @@ use Rattle.dill_script.specs.RowsReading.{PrintsBack}
 abbrev pub Refused : List ℕ → ℕ → Reason → Type 0
 Refused text line reason = script_of text ≡ Err (line, reason)
 
--- bytes, texts and words that a line may not have
+-- bytes, texts and tokens that a line may not have
 pub record TokenRows : Type 0 where
   pub text_without_end : Refused (codes "dill 1\nprogram main 0\nprint \"a\nend\n") 3 BadText
   pub other_escape : Refused (codes "dill 1\nprogram main 0\nprint \"\\q\"\nend\n") 3 BadText
@@ -45,7 +45,7 @@ pub record PlaceRows : Type 0 where
   pub open_at_the_last_line : Refused (codes "dill 1\nprogram main 0\nnow\n") 3 BadBlock
   pub last_line_is_blank : Refused (codes "dill 1\nprogram main 0\nnow\n\n# end\n") 5 BadBlock
 
--- last lines: a block that is open behind one is told before what is wrong with its operands, and behind what is wrong with its word
+-- last lines: a block that is open behind one is told before what is wrong with its operands, and behind what is wrong with its keyword
 pub record LastRows : Type 0 where
   pub operand_in_an_open_program : Refused (codes "dill 1\nprogram main 0\nnow 5") 3 BadBlock
   pub word_in_an_open_program : Refused (codes "dill 1\nprogram main 0\nfoo\n") 3 UnknownWord

@@ -122,7 +122,7 @@ plain_line keywords.Return tokens = with_none (Says statements.Return) tokens
 plain_line keywords.Fail tokens = option_map Says (fail_of tokens)
 plain_line _ tokens = None
 
--- a line by its word: calls may have both `try` and registers, `set` of bytes and `join` may have `try`, and no other line has either
+-- a line by its keyword: calls may have both `try` and registers, `set` of bytes and `join` may have `try`, and no other line has either
 abbrev pub keyword_line : Bool → List Register → Keyword → List Token → Option Line
 keyword_line tried targets (keywords.Call word) tokens = option_map Says (call_of_line tried word targets tokens)
 keyword_line tried [] keywords.Set tokens = option_map Says (with_two (λ target value. option_and_then (λ register. set_at tried register value) (register_in target)) tokens)
@@ -130,6 +130,6 @@ keyword_line tried [] keywords.Join tokens = option_map Says (with_two (λ place
 keyword_line false [] keyword tokens = plain_line keyword tokens
 keyword_line _ _ _ _ = None
 
--- what a line spells; none where its word is unknown or its operands don't fit
+-- what a line spells; none where its keyword is unknown or its operands don't fit
 abbrev pub line_of : Heading → Option Line
 line_of heading = option_and_then (λ keyword. keyword_line heading.tried heading.targets keyword heading.operands) heading.keyword

@@ -1,8 +1,8 @@
--- The tokens of a line: texts in quotes with their escapes, and words that run to the next blank.
+-- The tokens of a line: texts in quotes with their escapes, and plain tokens, which run to the next blank.
 use Rattle.std.specs.Prelude.{ℕ, ◌+◌, ◌-◌, ◌*◌, List, [], ◌∷◌, Bool, true, false, ◌&&◌, ◌||◌, ◌==◌, nat_le, if◌then◌else◌, Option, Some, None, option_map, bytes_eq}
 use Rattle.dill_script.specs.Lines.{is_blank}
 
--- a token: a word as it stands, or a text as the bytes that it means
+-- a token: plain as it stands, or a text as the bytes that it means
 pub data Token : Type 0 where
   Plain : List ℕ → Token
   Text : List ℕ → Token
@@ -42,7 +42,7 @@ put byte (Some (Text bytes ∷ rest)) = Some (Text (byte ∷ bytes) ∷ rest)
 abbrev pub before : Token → Option (List Token) → Option (List Token)
 before token rest = option_map (λ tokens. token ∷ tokens) rest
 
--- where in a line a byte stands: between tokens, in a word, in a text, behind its `\`, behind its `\x`, behind the first digit there, or behind the `"` that ends it
+-- where in a line a byte stands: between tokens, in a plain one, in a text, behind its `\`, behind its `\x`, behind the first digit there, or behind the `"` that ends it
 pub data Place : Type 0 where
   Between : Place
   InPlain : Place
@@ -97,7 +97,7 @@ tokens_from BehindText (byte ∷ bytes) = elim (is_blank byte) [
 abbrev pub tokens : List ℕ → Option (List Token)
 tokens line = tokens_from Between line
 
--- the token is this word
+-- the token is plain and these bytes
 abbrev pub is_plain : List ℕ → Token → Bool
 is_plain word (Plain bytes) = bytes_eq bytes word
 is_plain word (Text bytes) = false

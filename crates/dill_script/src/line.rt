@@ -1,6 +1,6 @@
 use dill_calls::Word;
 
-/// The word of a line, which says what the line is.
+/// The keyword of a line, which says what the line is.
 #[derive(Clone, Copy, Debug, PartialEq, Eq)]
 pub enum Keyword {
     Program,

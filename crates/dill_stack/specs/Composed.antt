@@ -54,15 +54,15 @@ abbrev pub is_masking : Placed → Bool
 is_masking (Ws ws) = masks ws.side
 is_masking _ = false
 
--- the masking key that the next random number makes, big-endian, and the words that are left
+-- the masking key that the next random number makes, big-endian, and the numbers that are left
 abbrev pub drawn_key : Stream → List ℕ × Stream
 drawn_key random = (to_be_bytes w32 (next_u32 random).0, (next_u32 random).1)
 
--- At most one layer of a stack masks: it takes one word for a frame.
+-- At most one layer of a stack masks: it takes one number for a frame.
 abbrev pub random_after : List Placed → Stream → Stream
 random_after layers random = if list_any is_masking layers then (drawn_key random).1 else random
 
--- what was spelled, and the words that are left
+-- what was spelled, and the numbers that are left
 abbrev pub with_random : Stream → Result (List ℕ) Errno → Result (List ℕ × Stream) Errno
 with_random random (Ok w) = Ok (w, random)
 with_random random (Err e) = Err e

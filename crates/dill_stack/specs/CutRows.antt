@@ -12,7 +12,7 @@ use Rattle.dill_stack.specs.Held.{Held, came, ended}
 use Rattle.dill_stack.specs.Receiving.{read}
 use Rattle.dill_stack.specs.Greeting.{greeted}
 use Rattle.dill_http.specs.Lines.{crlf}
-use Rattle.dill_stack.specs.RowWords.{random, attached, big2, with_end_behind}
+use Rattle.dill_stack.specs.RowTerms.{random, attached, big2, with_end_behind}
 use Rattle.dill_stack.specs.HandshakeRows.{chat_head, chat_answer, expecting_end, greeting_sent}
 
 -- the numbers below n

@@ -9,7 +9,7 @@ use Rattle.dill_stack.specs.Refusals.{read_fault}
 use Rattle.dill_stack.specs.Sending.{offered, took}
 use Rattle.dill_stack.specs.Attaching.{expect_greet}
 use Rattle.dill_stack.specs.Greeting.{greet, greeted}
-use Rattle.dill_stack.specs.RowWords.{random, or_same, or_same_drawn, reads, said, bytes, zero_given, with_bytes, with_end_behind}
+use Rattle.dill_stack.specs.RowTerms.{random, or_same, or_same_drawn, reads, said, bytes, zero_given, with_bytes, with_end_behind}
 
 -- a client's head, and the server's answer to it
 abbrev pub chat_head : List ℕ

@@ -11,7 +11,7 @@ use Rattle.dill_stack.specs.Held.{Held, opening, broke, top}
 use Rattle.dill_stack.specs.Refusals.{line_fault, done_fault, read_fault}
 use Rattle.dill_stack.specs.Sending.{offered, took, withdraw}
 use Rattle.dill_http.specs.Lines.{crlf}
-use Rattle.dill_stack.specs.RowWords.{attached, sends_line, ends, leaves, reads, said, left, left_said, bytes, zero_given, with_bytes, with_end_behind}
+use Rattle.dill_stack.specs.RowTerms.{attached, sends_line, ends, leaves, reads, said, left, left_said, bytes, zero_given, with_bytes, with_end_behind}
 
 -- a request with four fields, and three bytes behind its empty line
 abbrev pub request_text : List ℕ

@@ -19,7 +19,7 @@ pub mod Messages
 pub mod Joining
 pub mod Ending
 pub mod Interface
-pub mod RowWords
+pub mod RowTerms
 pub mod Rows
 pub mod HttpRows
 pub mod WsRows

@@ -11,7 +11,7 @@ use Rattle.dill_stack.specs.Held.{Held, Pong, ended, broke, top}
 use Rattle.dill_stack.specs.Refusals.{send_fault, done_fault}
 use Rattle.dill_stack.specs.Sending.{offered, took, withdraw}
 use Rattle.dill_stack.specs.Parting.{parting_fault}
-use Rattle.dill_stack.specs.RowWords.{attached, ends, leaves, reads, left, left_said, zero_given, big2, with_bytes}
+use Rattle.dill_stack.specs.RowTerms.{attached, ends, leaves, reads, left, left_said, zero_given, big2, with_bytes}
 
 -- all that a detach sends has gone
 abbrev pub gone : Held → Held

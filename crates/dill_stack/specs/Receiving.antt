@@ -39,12 +39,12 @@ replaced w item = if is_waiting_pong item then record item { bytes = w } else it
 abbrev pub with_pong : List ℕ → List Item → List Item
 with_pong w queue = if list_any is_waiting_pong queue then map (replaced w) queue else queue ++ record { bytes = w; gone = 0; origin = Pong } ∷ []
 
--- the pong of a side, and the words that are left; a client masks it
+-- the pong of a side, and the numbers that are left; a client masks it
 abbrev pub pong_of : Side → List ℕ → Stream → List ℕ × Stream
 pong_of Client payload random = (frame_bytes true 10 (Some (drawn_key random).0) payload, (drawn_key random).1)
 pong_of Server payload random = (frame_bytes true 10 None payload, random)
 
--- a queue and the words that are left
+-- a queue and the numbers that are left
 abbrev pub ponged : Side → List (List ℕ) → List Item × Stream → List Item × Stream
 ponged side [] now = now
 ponged side (payload ∷ pings) now = ponged side pings (with_pong (pong_of side payload now.1).0 now.0, (pong_of side payload now.1).1)
@@ -53,7 +53,7 @@ ponged side (payload ∷ pings) now = ponged side pings (with_pong (pong_of side
 abbrev pub answers_pings : WsLayer → Held → Bool
 answers_pings ws s = not ws.closed && not s.sending.broken && not s.sending.done
 
--- a stack that has queued the pongs, and the words that are left
+-- a stack that has queued the pongs, and the numbers that are left
 abbrev pub with_pongs_of : Option WsLayer → List (List ℕ) → Stream → Held → Held × Stream
 with_pongs_of None pings random s = (s, random)
 with_pongs_of (Some ws) pings random s =

@@ -11,7 +11,7 @@ use Rattle.dill_stack.specs.Held.{Held, whole, opening, broke, top}
 use Rattle.dill_stack.specs.Refusals.{attach_fault, send_fault, done_fault, read_fault}
 use Rattle.dill_stack.specs.Sending.{offered, took, withdraw, is_sent}
 use Rattle.dill_http.specs.Lines.{crlf}
-use Rattle.dill_stack.specs.RowWords.{attached, sends, ends, leaves, reads, said, left, left_said, bytes, zero_given, big2, with_bytes, with_end_behind}
+use Rattle.dill_stack.specs.RowTerms.{attached, sends, ends, leaves, reads, said, left, left_said, bytes, zero_given, big2, with_bytes, with_end_behind}
 
 -- A message, an empty message and the bytes behind them came in one read; PREFIX of two bytes and TERM with the empty message stand on it.
 abbrev pub came_at_once : List ℕ

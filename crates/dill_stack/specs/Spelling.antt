@@ -29,7 +29,7 @@ pub record FramingLaws : Type 0 where
   pub offered : (resource host : List ℕ) (s : Held) → is_done s ≡ false → is_broken s ≡ false → offer_fault resource host s ≡ head_fault_of resource host
   -- an attach that isn't refused keeps the layers formed
   pub formed : (l : Layer) (s t : Held) → attach l s ≡ Ok t → IsFormed s.layers → IsFormed t.layers
-  -- a message that isn't refused has a composed framing, which takes the words that its layers draw
+  -- a message that isn't refused has a composed framing, which takes the numbers that its layers draw
   pub taken : (s : Held) (m : List ℕ) (random : Stream) → IsStanding s.layers → send_fault m false s ≡ None → (w : List ℕ) × (composed s.layers m random ≡ Ok (w, random_after s.layers random))
   -- what is composed is the spelling
   pub spelled : (layers : List Placed) (m w : List ℕ) (random rest : Stream) → IsStanding layers → IsFormed layers → length m ≤ message_limit → composed layers m random ≡ Ok (w, rest) → SpelledBy layers m w

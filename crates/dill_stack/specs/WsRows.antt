@@ -10,7 +10,7 @@ use Rattle.dill_stack.specs.declared.parting.Parting.TheVariants as parting
 use Rattle.dill_stack.specs.Held.{Held, came}
 use Rattle.dill_stack.specs.Refusals.{send_fault, read_fault, detach_fault}
 use Rattle.dill_stack.specs.Sending.{offered, took}
-use Rattle.dill_stack.specs.RowWords.{attached, sends, leaves, reads, said, left, bytes, with_bytes, with_end_behind}
+use Rattle.dill_stack.specs.RowTerms.{attached, sends, leaves, reads, said, left, bytes, with_bytes, with_end_behind}
 
 -- a server's layer on which this came, and the same where the peer then ended
 abbrev pub server : List ℕ → Held

@@ -18,7 +18,7 @@ fn word_length(bytes: &[u8]) -> usize
     bytes.iter().take_while(|byte| !is_blank(**byte)).count()
 }
 
-/// The word at the front, and what stands behind it.
+/// The plain token at the front, and what stands behind it.
 fn cut_word(alloc: Global, bytes: &[u8]) -> Result<(Token, &[u8]), NoMemory>
     requires { ends_token bytes.now ≡ false }
     ensures tokens { IfOk result (λ t. tokens_from InPlain bytes.now ≡ before t.0 (tokens_from Between t.1.now)) }

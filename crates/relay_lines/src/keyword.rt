@@ -5,7 +5,7 @@ ghost use Rattle.dill_script.specs.Numbers.{named};
 use dill_calls::Word;
 use dill_script::Keyword;
 
-/// All words that a line can have.
+/// All keywords that a line can have.
 const KEYWORDS: [Keyword; 60] = [
     Keyword::Program,
     Keyword::Finally,
@@ -92,7 +92,7 @@ fn keyword_name(keyword: Keyword) -> &'static [u8]
     }
 }
 
-/// A line's word by its name.
+/// A line's keyword by its name.
 pub(crate) fn keyword_named(name: &[u8]) -> Option<Keyword>
     ensures { result ≡ named keyword_text all_keywords name.now }
 {

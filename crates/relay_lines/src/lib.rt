@@ -1,4 +1,4 @@
-//! The words of one line of a script: its tokens, its heading, and the line that they spell.
+//! One line of a script: its tokens, its heading, and the line that they spell.
 //! What may stand where, and the order of refusals, stands above it.
 #![tactic(auto)]
 

@@ -87,7 +87,7 @@ fn plain_line(alloc: Global, keyword: Keyword, tokens: &[Token]) -> Result<Optio
     }
 }
 
-/// A line by its word. Calls may have both `try` and registers, `set` of bytes and `join` may have `try`, and no other
+/// A line by its keyword. Calls may have both `try` and registers, `set` of bytes and `join` may have `try`, and no other
 /// line has either.
 fn keyword_line(
     alloc: Global,
@@ -110,7 +110,7 @@ fn keyword_line(
     }
 }
 
-/// What a line spells; none where its word is unknown or its operands don't fit.
+/// What a line spells; none where its keyword is unknown or its operands don't fit.
 pub fn line_of(alloc: Global, heading: &Heading<'_>) -> Result<Option<Line>, NoMemory>
     ensures { IfOk result (λ r. option_map line_in r ≡ line_of heading.now) }
 {

@@ -13,7 +13,7 @@ enum Spelled {
     Text(Octets),
 }
 
-/// A token of a line: a word as it stands, or a text as the bytes that it means.
+/// A token of a line: plain as it stands, or a text as the bytes that it means.
 #[derive(Debug, Drop)]
 pub struct Token {
     spelled: Spelled,
@@ -30,7 +30,7 @@ impl Model for Token {
 }
 
 impl Token {
-    /// A word as it stands.
+    /// A plain token, as it stands.
     pub(crate) fn from_plain(word: Octets) -> Token
         ensures { result ≡ Plain word }
     {
@@ -48,7 +48,7 @@ impl Token {
         }
     }
 
-    /// The bytes of a word; none of a text.
+    /// The bytes of a plain token; none of a text.
     pub fn plain(&self) -> Option<&[u8]>
         ensures { option_map (λ x. x.now) result ≡ plain_in self.now }
     {
@@ -58,7 +58,7 @@ impl Token {
         }
     }
 
-    /// The bytes that a text means; none of a word.
+    /// The bytes that a text means; none of a plain token.
     pub fn text(&self) -> Option<&[u8]>
         ensures { option_map (λ x. x.now) result ≡ text_in self.now }
     {
@@ -68,7 +68,7 @@ impl Token {
         }
     }
 
-    /// Whether it is this word.
+    /// Whether it is plain and these bytes.
     pub fn is_plain(&self, word: &[u8]) -> bool
         ensures { result ≡ is_plain word.now self.now }
     {

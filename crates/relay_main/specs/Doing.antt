@@ -1,4 +1,4 @@
--- What is done with a command, and with words that are none.
+-- What is done with a command, and with arguments that are none.
 use Rattle.std.specs.Prelude.{◌≡◌, ℕ, List, Option, None, Bool, true, false}
 use Rattle.rand_core.specs.Stream.{Stream}
 use Rattle.dill_base.specs.Shelves.{Files}
@@ -23,7 +23,7 @@ pub record LoopShows {W : Type 0} (told : W → Option (List ℕ)) (writes : W �
   pub net : IdleTold
   pub shows : Shows IdleStep (λ k. k.faults) told writes files name traced most shelf shelf' begun net keys keys' out out' err err' end
 
--- words that are no command
+-- arguments that are no command
 pub record Refuses {K W : Type 0} (told : W → Option (List ℕ)) (writes : W → ℕ) (shelf shelf' : ℕ) (kernel kernel' : K) (keys keys' : Stream) (out out' err err' : W) (end : Status) : Type 0 where
   pub status : end ≡ status.Words
   pub shelf_same : shelf' ≡ shelf

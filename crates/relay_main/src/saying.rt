@@ -17,7 +17,7 @@ pub fn say<W: Sink>(line: &[u8], err: &mut W)
     let _ = write_line(line, err);
 }
 
-/// The words aren't those of the program.
+/// The arguments aren't those of the program.
 pub fn say_usage<W: Sink>(err: &mut W) -> Status
     ensures status { result ≡ status.Words }
     ensures says { Says W.told W.faults err.old err.new usage }

@@ -21,19 +21,19 @@ pub joined_trailed : (token : Token) (rest : List Token) → joined (token ∷ r
 joined_trailed token [] = sym (append-nil (token_text token))
 joined_trailed token (next ∷ rest) = ap (λ (l : List ℕ). token_text token ++ 32 ∷ l) (joined_trailed next rest)
 
--- tokens before a word, with a space behind each
+-- tokens before a plain token, with a space behind each
 pub joined_led : (front : List Token) (token : Token) (rest : List Token) → joined (front ++ token ∷ rest) ≡ led front ++ joined (token ∷ rest)
 joined_led [] token rest = refl
 joined_led (first ∷ []) token rest = simp append_assoc
 joined_led (first ∷ second ∷ front) token rest =
     ap (λ (l : List ℕ). token_text first ++ 32 ∷ l) (joined_led (second ∷ front) token rest) ∙ simp append_assoc
 
--- a line of two groups of tokens, a word and the tokens behind it
+-- a line of two groups of tokens, a plain token and the tokens behind it
 pub joined_parts : (front middle : List Token) (token : Token) (rest : List Token) → joined (front ++ (middle ++ token ∷ rest)) ≡ led front ++ (led middle ++ (token_text token ++ trailed rest))
 joined_parts front middle token rest =
     ap joined (sym (append_assoc front middle (token ∷ rest))) ∙ joined_led (front ++ middle) token rest ∙ ap (λ (l : List ℕ). led (front ++ middle) ++ l) (joined_trailed token rest) ∙ ap (λ (l : List ℕ). l ++ (token_text token ++ trailed rest)) (flat_map-append (λ (t : Token). token_text t ++ 32 ∷ []) front middle) ∙ append_assoc (led front) (led middle) (token_text token ++ trailed rest)
 
--- an operand's words with a space before each
+-- an operand's plain tokens with a space before each
 operand_trailed : (operand : Operand) → trailed (operand_tokens operand) ≡ operand_text operand
 operand_trailed (operands.Num value) = simp append-nil
 operand_trailed (operands.Bytes value) = simp append-nil

@@ -1,4 +1,4 @@
--- The reasons against a line in parts: of its bytes, of its word and place, of what it spells, and of the limits.
+-- The reasons against a line in parts: of its bytes, of its keyword and place, of what it spells, and of the limits.
 use Rattle.std.specs.Prelude.{ℕ, List, [], ◌∷◌, ◌++◌, Bool, not, ◌&&◌, ◌||◌, Option, Some, is_none}
 use Rattle.std.specs.List.{list_all}
 use Rattle.dill_calls.specs.declared.word.Word.{Word}
@@ -19,7 +19,7 @@ use Rattle.dill_script.specs.Tokens.{tokens}
 abbrev pub byte_faults : Bool → List ℕ → List (Bool × Reason)
 byte_faults begun line = (not begun && (has_tokens line && not (is_version (tokens line))), NoVersion) ∷ (not (list_all is_line_byte line), BadByte) ∷ (is_none (tokens line), BadText) ∷ []
 
--- those of its word and its place
+-- those of its keyword and its place
 abbrev pub word_faults : (Word → Bool) → List Block → Bool → Option Keyword → List (Bool × Reason)
 word_faults built open_blocks last word = (is_none word, UnknownWord)
     ∷ (is_some_with (is_unbuilt built) word, NotBuilt)
@@ -30,7 +30,7 @@ word_faults built open_blocks last word = (is_none word, UnknownWord)
 abbrev pub spelling_faults : List Program → Option Line → List (Bool × Reason)
 spelling_faults whole line = (is_none line, BadOperand) ∷ (is_some_with (names_again whole) line, RepeatedName) ∷ []
 
--- what stands behind a line of this word that spells this
+-- what stands behind a line of this keyword that spells this
 abbrev pub behind_line : Context → Keyword → Line → Context
 behind_line context keyword line = record (adding context (Some line)) { open_blocks = blocks_behind context.open_blocks keyword }
 

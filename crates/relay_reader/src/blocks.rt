@@ -113,7 +113,7 @@ impl Blocks {
         !self.is_empty() && !self.is_behind_finally()
     }
 
-    /// Whether a line of this word may stand here.
+    /// Whether a line of this keyword may stand here.
     pub(crate) fn may_stand(&self, keyword: Keyword) -> bool
         ensures { result ≡ may_stand self.now keyword }
     {
@@ -127,7 +127,7 @@ impl Blocks {
         }
     }
 
-    /// Whether a block is open behind a line of this word.
+    /// Whether a block is open behind a line of this keyword.
     pub(crate) fn leaves_open(&self, keyword: Keyword) -> bool
         ensures { result ≡ not (is_empty (blocks_behind self.now keyword)) }
     {
@@ -154,7 +154,7 @@ impl Blocks {
         let _ = self.blocks.pop();
     }
 
-    /// Goes behind a line of this word.
+    /// Goes behind a line of this keyword.
     pub(crate) fn pass(&mut self, keyword: Keyword) -> Result<(), NoMemory>
         ensures { OnOk result (self.new ≡ blocks_behind self.old keyword) }
     {

@@ -157,7 +157,7 @@ impl Context {
             || self.open_blocks.are_too_deep()
     }
 
-    /// Takes on what a line of this word spells.
+    /// Takes on what a line of this keyword spells.
     fn go_behind(&mut self, alloc: Global, keyword: Keyword, line: Line) -> Result<(), NoMemory>
         requires { places self.old.current.statements ≤ 4096 }
         ensures { OnOk result
@@ -167,7 +167,7 @@ impl Context {
         self.open_blocks.pass(keyword)
     }
 
-    /// Takes on what a line of this word spells, where that passes no limit.
+    /// Takes on what a line of this keyword spells, where that passes no limit.
     fn go_on(&mut self, alloc: Global, keyword: Keyword, line: Line) -> Result<(), Fault>
         requires { places self.old.current.statements ≤ 4096 }
         ensures { Tells result
@@ -183,7 +183,7 @@ impl Context {
         Ok(())
     }
 
-    /// The word of a line that may stand here.
+    /// The keyword of a line that may stand here.
     fn word_of(&self, heading: &Heading<'_>, last: bool) -> Result<Keyword, Fault>
         ensures { Tells result
             (first_reason

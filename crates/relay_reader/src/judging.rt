@@ -82,7 +82,7 @@ pub(crate) fn judge_bytes(alloc: Global, begun: bool, line: &[u8]) -> Result<Tok
     }
 }
 
-/// The word of a line that may stand where these blocks are open.
+/// The keyword of a line that may stand where these blocks are open.
 pub(crate) fn judge_word(
     open_blocks: &Blocks,
     word: Option<Keyword>,

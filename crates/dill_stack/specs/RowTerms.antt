@@ -15,7 +15,7 @@ use Rattle.dill_stack.specs.Sending.{frame, line, done}
 use Rattle.dill_stack.specs.Receiving.{read}
 use Rattle.dill_stack.specs.Parting.{detach_start, detach_finish}
 
--- a generator whose every word is 37 fa 21 3d
+-- a generator whose every number is 37 fa 21 3d
 abbrev pub random : Stream
 random = record { u32_after = λ calls. 939139389; u64_after = λ calls. 0; bytes_after = λ calls n. [] }
 
@@ -24,7 +24,7 @@ abbrev pub or_same : Held → Result Held Errno → Held
 or_same s (Ok t) = t
 or_same s (Err e) = s
 
--- the same of a call that draws words
+-- the same of a call that draws numbers
 abbrev pub or_same_drawn : Held → Result (Held × Stream) Errno → Held
 or_same_drawn s (Ok t) = t.0
 or_same_drawn s (Err e) = s
