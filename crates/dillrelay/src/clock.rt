@@ -1,5 +1,5 @@
 use dill_base::Address;
-use dill_kernel::{Finished, Flow, Kernel, KernelFault, Limit, Made, ReadyList};
+use dill_kernel::{Finished, Flow, IdleKernel, Kernel, KernelFault, Limit, Made, ReadyList};
 use std::time::{Clock, Duration, Instant};
 use std::{io, thread};
 
@@ -9,7 +9,8 @@ use std::{io, thread};
 pub struct ClockKernel<'a, C: Clock> {
     clock: &'a C,
     begun: Option<Instant>,
-    count: u64,
+    /// Answers what a network would be asked, and counts the failures.
+    idle: IdleKernel,
 }
 
 /// How many milliseconds have passed since a moment of the clock, which never goes back.
@@ -34,7 +35,7 @@ impl<'a, C: Clock> ClockKernel<'a, C> {
         ClockKernel {
             clock,
             begun: Instant::now(clock).ok(),
-            count: 0,
+            idle: IdleKernel::new(None),
         }
     }
 
@@ -52,53 +53,48 @@ impl<'a, C: Clock> ClockKernel<'a, C> {
 impl<'a, C: Clock> Kernel for ClockKernel<'a, C> {
     ghost step = { λ _ _ _. Unit {0} };
 
-    ghost faults = { λ k. k.count };
+    ghost faults = { λ k. k.idle.faults };
 
     fn wait(&mut self, limit: Limit, ready: &mut ReadyList) -> Result<u64, KernelFault> {
-        ready.clear();
         match self.woken(limit) {
-            Some(moment) => Ok(moment),
-            None => {
-                self.count = self.count.saturating_add(1);
-                Err(KernelFault::Other)
+            Some(moment) => {
+                ready.clear();
+                Ok(moment)
             }
+            // without a network a wait for ever fails
+            None => self.idle.wait(Limit::Forever, ready),
         }
     }
 
-    fn listen(&mut self, _link: u64, _at: Address, _backlog: u32) -> Result<(), KernelFault> {
-        self.count = self.count.saturating_add(1);
-        Err(KernelFault::Other)
+    fn listen(&mut self, link: u64, at: Address, backlog: u32) -> Result<(), KernelFault> {
+        self.idle.listen(link, at, backlog)
     }
 
-    fn connect(&mut self, _link: u64, _to: Address) -> Result<(), KernelFault> {
-        self.count = self.count.saturating_add(1);
-        Err(KernelFault::Other)
+    fn connect(&mut self, link: u64, to: Address) -> Result<(), KernelFault> {
+        self.idle.connect(link, to)
     }
 
-    fn finish_connect(&mut self, _link: u64) -> Finished {
-        self.count = self.count.saturating_add(1);
-        Finished::Failed(KernelFault::Other)
+    fn finish_connect(&mut self, link: u64) -> Finished {
+        self.idle.finish_connect(link)
     }
 
-    fn accept(&mut self, _listener: u64, _link: u64) -> Made {
-        self.count = self.count.saturating_add(1);
-        Made::Failed(KernelFault::Other)
+    fn accept(&mut self, listener: u64, link: u64) -> Made {
+        self.idle.accept(listener, link)
     }
 
-    fn read(&mut self, _link: u64, _buf: &mut [u8]) -> Flow {
-        self.count = self.count.saturating_add(1);
-        Flow::Failed(KernelFault::Other)
+    fn read(&mut self, link: u64, buf: &mut [u8]) -> Flow {
+        self.idle.read(link, buf)
     }
 
-    fn write(&mut self, _link: u64, _bytes: &[u8]) -> Flow {
-        self.count = self.count.saturating_add(1);
-        Flow::Failed(KernelFault::Other)
+    fn write(&mut self, link: u64, bytes: &[u8]) -> Flow {
+        self.idle.write(link, bytes)
     }
 
-    fn shut(&mut self, _link: u64) -> Result<(), KernelFault> {
-        self.count = self.count.saturating_add(1);
-        Err(KernelFault::Other)
+    fn shut(&mut self, link: u64) -> Result<(), KernelFault> {
+        self.idle.shut(link)
     }
 
-    fn close(&mut self, _link: u64) {}
+    fn close(&mut self, link: u64) {
+        self.idle.close(link);
+    }
 }
