@@ -1,0 +1,5 @@
+//! Tests of the kernels that answer from memory. This crate holds nothing else.
+#![tactic(auto)]
+
+#[cfg(test)]
+mod replay;
