@@ -51,7 +51,7 @@ entered_plain moment calls.Bundle e = refl
 entered_plain moment (calls.Go program args) e = refl
 entered_plain moment (calls.BundleGo number program args) e = refl
 entered_plain moment (calls.BundleWait number deadline) e = refl
-entered_plain moment (calls.Pass word fault) e = refl
+entered_plain moment (calls.Pass word fault) e = e
 entered_plain moment _ e = cc
 
 module _ {V : Type 0} (p : Program V) where
