@@ -1,10 +1,10 @@
 ghost use Rattle.std.specs.Prelude.{◌≤◌};
 
+use dill_base::{Errno, Front, WriteFault};
 use dill_frames::{
     PrefixForm, is_terminal, prefix_fits, prefix_read, prefix_write, suffix_fits, suffix_read,
     suffix_write,
 };
-use dill_base::{Errno, Front, WriteFault};
 use std::alloc::Global;
 use std::process::Abort;
 use std::test::Fail;

@@ -1,8 +1,8 @@
+use dill_base::{Errno, Front, Octets, WriteFault};
 use dill_http::{
     Cut, Span, field_fault, line_front, read_field, read_request, read_status, request_fault,
     status_fault, write_field, write_request, write_status,
 };
-use dill_base::{Errno, Front, Octets, WriteFault};
 use std::alloc::Global;
 use std::process::Abort;
 use std::test::Fail;

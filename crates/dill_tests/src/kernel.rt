@@ -1,5 +1,5 @@
-use dill_kernel::{Finished, Flow, IdleKernel, Kernel, KernelFault, Limit, Made, Ready, ReadyList};
 use dill_base::Address;
+use dill_kernel::{Finished, Flow, IdleKernel, Kernel, KernelFault, Limit, Made, Ready, ReadyList};
 
 #[test]
 fn a_kernel_without_a_network_keeps_the_clock_and_makes_no_link(rt: HostRuntime) {

@@ -1,8 +1,8 @@
+use dill_base::{Errno, Front};
 use dill_ws::{
     Asked, Head, HeadFront, Side, accept_of, client_head, close_code, control_write, frame_front,
     frame_write, head_fault, mask, read_client_head, read_server_head, server_head,
 };
-use dill_base::{Errno, Front};
 use std::alloc::Global;
 use std::test::Fail;
 

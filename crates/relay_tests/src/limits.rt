@@ -14,9 +14,7 @@ fn shows(rt: &(impl Abort + AllocGlobal), script: &[u8], shown: &str) -> Result<
 }
 
 #[test]
-fn two_thousand_coroutines_live_at_once_and_none_wants_memory(
-    rt: HostRuntime,
-) -> Result<(), Fail> {
+fn two_thousand_coroutines_live_at_once_and_none_wants_memory(rt: HostRuntime) -> Result<(), Fail> {
     shows(
         &rt,
         b"dill 1\nprogram sleeper 0\nmsleep 50\nend\nprogram main 0\nn0 = bundle\nloop 2000\n\

@@ -1,6 +1,6 @@
-use relay_lines::{Line, has_tokens, heading_of, is_line, line_of, tokens};
 use dill_calls::Word;
 use dill_script::{Dest, Keyword, Num, Operand, Order, Statement};
+use relay_lines::{Line, has_tokens, heading_of, is_line, line_of, tokens};
 use std::alloc::Global;
 use std::process::Abort;
 use std::test::Fail;

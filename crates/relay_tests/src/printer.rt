@@ -66,17 +66,11 @@ fn prints(
     let mut statements = Statements::new(alloc);
     let mut expected = octets(alloc, b"dill 1\nprogram main 0\n")?;
     for (statement, line) in table {
-        statements
-            .push(statement)
-            .map_err(lost)?;
-        expected
-            .push_all(line.as_bytes())
-            .map_err(lost)?;
+        statements.push(statement).map_err(lost)?;
+        expected.push_all(line.as_bytes()).map_err(lost)?;
         expected.push_all(b"\n").map_err(lost)?;
     }
-    expected
-        .push_all(b"end\n")
-        .map_err(lost)?;
+    expected.push_all(b"end\n").map_err(lost)?;
     let mut script = Script::new(alloc);
     script
         .push(program(alloc, b"main", 0, statements)?)
