@@ -13,8 +13,6 @@ mod sequence;
 mod shelf;
 mod sink;
 mod status;
-#[cfg(test)]
-mod tests;
 
 pub use deadline::Deadline;
 pub use errno::{Errno, Failed, Front, NoMemory, WriteFault};

@@ -5,8 +5,6 @@
 mod crew;
 mod running;
 mod stepping;
-#[cfg(test)]
-mod tests;
 
 pub use crew::Core;
 pub use running::run;

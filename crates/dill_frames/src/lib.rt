@@ -7,8 +7,6 @@ mod laws;
 mod prefix;
 mod suffix;
 mod terminal;
-#[cfg(test)]
-mod tests;
 mod worked;
 
 pub use laws::{prefix_laws, suffix_laws, term_laws};

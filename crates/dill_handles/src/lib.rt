@@ -4,8 +4,6 @@
 mod entry;
 mod fault;
 mod handles;
-#[cfg(test)]
-mod tests;
 
 pub use entry::Entry;
 pub use fault::HandleFault;

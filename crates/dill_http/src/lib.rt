@@ -9,8 +9,6 @@ mod line;
 mod request;
 mod span;
 mod status;
-#[cfg(test)]
-mod tests;
 mod worked;
 
 pub use field::{field_fault, read_field, write_field};

@@ -7,8 +7,6 @@ mod forest;
 mod laws;
 mod places;
 mod scopes;
-#[cfg(test)]
-mod tests;
 
 pub use forest::{Bundle, Home};
 pub use laws::{

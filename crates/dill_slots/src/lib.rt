@@ -7,8 +7,6 @@ mod queue;
 mod slot;
 mod slots;
 mod steps;
-#[cfg(test)]
-mod tests;
 mod timers;
 
 pub use slot::{Slot, SlotFault, Timer};

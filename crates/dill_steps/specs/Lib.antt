@@ -1,4 +1,3 @@
-pub mod Briefly
 pub mod Endings
 pub mod Needs
 pub mod Timing

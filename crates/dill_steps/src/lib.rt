@@ -5,8 +5,6 @@
 mod entering;
 mod expiring;
 mod settling;
-#[cfg(test)]
-mod tests;
 mod turning;
 
 pub use entering::enter;

@@ -1,4 +1,3 @@
-pub mod Brief
 pub mod Closings
 pub mod Freeings
 pub mod Gathering

@@ -11,8 +11,6 @@ mod owning;
 mod refusals;
 mod rows;
 mod taking;
-#[cfg(test)]
-mod tests;
 mod world;
 
 pub use answers::{copy_answer, copy_waiting};

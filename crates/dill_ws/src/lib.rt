@@ -17,8 +17,6 @@ mod reading;
 mod request;
 mod response;
 mod side;
-#[cfg(test)]
-mod tests;
 mod worked;
 
 pub use accept::accept_of;

@@ -1,7 +1,6 @@
 pub mod Built
 pub mod CanRun
 pub mod Counted
-pub mod Drafting
 pub mod Joining
 pub mod Known
 pub mod Making

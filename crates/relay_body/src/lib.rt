@@ -10,8 +10,6 @@ mod laws;
 mod mode;
 mod rounds;
 mod run;
-#[cfg(test)]
-mod tests;
 mod texts;
 mod turn;
 mod values;

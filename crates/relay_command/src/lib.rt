@@ -6,8 +6,6 @@ mod command;
 mod found;
 mod piece;
 mod reading;
-#[cfg(test)]
-mod tests;
 mod value;
 mod worked;
 

@@ -17,8 +17,6 @@ mod operands;
 mod statement;
 mod table;
 mod targets;
-#[cfg(test)]
-mod tests;
 mod text;
 mod token;
 

@@ -4,12 +4,8 @@
 
 mod checking;
 mod reading;
-#[cfg(test)]
-mod rows;
 mod running;
 mod saying;
-#[cfg(test)]
-mod tests;
 mod top;
 
 pub use checking::check_over;

@@ -6,8 +6,6 @@ mod back;
 mod line;
 mod operand;
 mod script;
-#[cfg(test)]
-mod tests;
 mod text;
 mod token;
 

@@ -10,7 +10,5 @@ mod fault;
 mod judging;
 mod linking;
 mod reading;
-#[cfg(test)]
-mod tests;
 
 pub use reading::{MOST_BYTES, read_script};

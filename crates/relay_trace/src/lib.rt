@@ -7,8 +7,6 @@ mod line;
 mod piece;
 mod short;
 mod summary;
-#[cfg(test)]
-mod tests;
 mod turn;
 
 pub use line::{write_hex_line, write_line};

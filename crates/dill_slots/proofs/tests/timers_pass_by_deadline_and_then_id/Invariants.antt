@@ -1,4 +1,0 @@
-use Rattle.dill_slots.proofs.tests.timers_pass_by_deadline_and_then_id.Given as goal
-
-abbrev pub ghosts-timers_pass : goal.ghosts-timers_pass
-ghosts-timers_pass g a = record { name = a.blank.name; parts = a.blank.parts }

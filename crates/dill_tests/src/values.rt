@@ -1,0 +1,12 @@
+use dill_base::{NoMemory, Octets};
+use std::alloc::Global;
+use std::test::Fail;
+
+/// What was made, where memory was there for it.
+pub fn memory<T>(made: Result<T, NoMemory>) -> Result<T, Fail> {
+    made.map_err(|_| Fail::from("memory"))
+}
+
+pub fn octets(alloc: Global, bytes: &[u8]) -> Result<Octets, Fail> {
+    memory(Octets::from_slice(alloc, bytes))
+}
