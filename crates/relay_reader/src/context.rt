@@ -187,8 +187,8 @@ impl Context {
     fn word_of(&self, heading: &Heading<'_>, last: bool) -> Result<Keyword, Fault>
         ensures { Tells result
             (first_reason
-            (word_faults is_built self.now.open_blocks last heading.now.word))
-            (λ keyword. heading.now.word ≡ Some keyword) }
+            (word_faults is_built self.now.open_blocks last heading.now.keyword))
+            (λ keyword. heading.now.keyword ≡ Some keyword) }
     {
         judge_word(&self.open_blocks, heading.keyword(), last)
     }
