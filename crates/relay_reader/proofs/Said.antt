@@ -15,7 +15,9 @@ use Rattle.dill_script.specs.Tokens.{Token, tokens}
 use Rattle.relay_reader.specs.declared.fault.Fault.{Fault}
 use Rattle.relay_reader.specs.Parts.{byte_faults, word_faults, spelling_faults, heading_faults, passing_faults}
 use Rattle.relay_reader.specs.Telling.{Tells}
+use Rattle.relay_reader.specs.Starts.{start_of}
 use Rattle.relay_reader.proofs.Reasons.{tells_later}
+use Rattle.relay_reader.proofs.Started.{start_by, start_is}
 
 -- the reasons that depend on the head of a line that belongs to programs
 abbrev pub said_faults : (Word → Bool) → Context → Bool → Option Heading → List (Bool × Reason)
@@ -68,24 +70,25 @@ none_last [] false reason none = refl
 none_last ((true, other) ∷ more) test reason none = cc
 none_last ((false, other) ∷ more) test reason none = none_last more test reason none
 
-tells_more : {X : Type 0} (result : Result X Fault) (reason : Option Reason) (Fact More : Type 0) → (reason ≡ None → Fact → More) → Tells result reason (λ _. Fact) → Tells result reason (λ _. More)
-tells_more (Ok x) reason Fact More leads meant = (meant.0, leads meant.0 meant.1)
+pub tells_more : {X : Type 0} (result : Result X Fault) (reason : Option Reason) (Fact More : X → Type 0) → (reason ≡ None → (x : X) → Fact x → More x) → Tells result reason Fact → Tells result reason More
+tells_more (Ok x) reason Fact More leads meant = (meant.0, leads meant.0 x meant.1)
 tells_more (Err fault) reason Fact More leads meant = meant
 
--- a line that belongs to programs
-pub read_said : {X : Type 0} (built : Word → Bool) (context new : Context) (last : Bool) (line : List ℕ) (found : List Token) (result : Result X Fault) → tokens line ≡ Some found → (context.begun && has_tokens line) ≡ true
-    → first_reason (byte_faults context.begun line) ≡ None → Tells result (first_reason (heading_faults built context last (heading_of found))) (λ _. new ≡ behind context (Some (heading_of found)))
-    → Tells result (first_reason (faults built context last line)) (λ _. (new ≡ after context line) × (passes_limit new ≡ false))
+-- a line that belongs to programs, and what it starts
+pub read_said : (built : Word → Bool) (context new : Context) (last : Bool) (line : List ℕ) (found : List Token) (result : Result (Option (List ℕ × ℕ)) Fault) → tokens line ≡ Some found → (context.begun && has_tokens line) ≡ true
+    → first_reason (byte_faults context.begun line) ≡ None → Tells result (first_reason (heading_faults built context last (heading_of found))) (λ started. (new ≡ behind context (Some (heading_of found))) × (started ≡ start_by found))
+    → Tells result (first_reason (faults built context last line)) (λ started. (new ≡ after context line) × (passes_limit new ≡ false) × (started ≡ start_of line))
 read_said built context new last line found result some belongs none meant =
     let heading = heading_of found in
     let head = said_some context line found belongs some in
     let word = word_faults built context.open_blocks last heading.keyword in
     let spelling = spelling_faults context.whole (line_of heading) in
-    let kept = tells_more result (first_reason (heading_faults built context last heading)) (new ≡ behind context (Some heading)) ((new ≡ after context line) × (passes_limit new ≡ false))
-    (λ right is. (is ∙ sym (after_said context line heading head belongs), ap passes_limit is ∙ none_last (word ++ spelling) (passes_limit (behind context (Some heading))) TooLarge right))
+    let Kept : Option (List ℕ × ℕ) → Type 0 = λ started. (new ≡ after context line) × (passes_limit new ≡ false) × (started ≡ start_of line) in
+    let kept = tells_more result (first_reason (heading_faults built context last heading)) (λ started. (new ≡ behind context (Some heading)) × (started ≡ start_by found)) Kept
+    (λ right started is. (is.0 ∙ sym (after_said context line heading head belongs), ap passes_limit is.0 ∙ none_last (word ++ spelling) (passes_limit (behind context (Some heading))) TooLarge right, is.1 ∙ start_is line found some))
     meant in
-    let On : List (Bool × Reason) → Type 0 = λ list. Tells result (first_reason list) (λ _. (new ≡ after context line) × (passes_limit new ≡ false)) in
-    subst On (sym (faults_said built context last line (Some heading) head)) (tells_later result (byte_faults context.begun line) (heading_faults built context last heading) _ none kept)
+    let On : List (Bool × Reason) → Type 0 = λ list. Tells result (first_reason list) Kept in
+    subst On (sym (faults_said built context last line (Some heading) head)) (tells_later result (byte_faults context.begun line) (heading_faults built context last heading) Kept none kept)
 
 -- the reasons against a line that belongs to no program, where no limit is passed
 none_said : (built : Word → Bool) (context : Context) (last : Bool) → passes_limit context ≡ false → first_reason (said_faults built context last None) ≡ first_reason (passing_faults context.open_blocks last)
@@ -99,8 +102,8 @@ pub read_apart : {X : Type 0} (built : Word → Bool) (context new : Context) (l
 read_apart built context new last line result within apart none meant =
     let head = said_none context line apart in
     let next : Option Heading → Context = λ given. record (behind context given) { begun = context.begun || has_tokens line } in
-    let kept = tells_more result (first_reason (passing_faults context.open_blocks last)) (new ≡ next None) ((new ≡ after context line) × (passes_limit new ≡ false))
-    (λ right is. (is ∙ sym (ap next head), ap passes_limit is ∙ within))
+    let kept = tells_more result (first_reason (passing_faults context.open_blocks last)) (λ _. new ≡ next None) (λ _. (new ≡ after context line) × (passes_limit new ≡ false))
+    (λ right x is. (is ∙ sym (ap next head), ap passes_limit is ∙ within))
     meant in
     let Judged : Option Reason → Type 0 = λ reason. Tells result reason (λ _. (new ≡ after context line) × (passes_limit new ≡ false)) in
     let On : List (Bool × Reason) → Type 0 = λ list. Judged (first_reason list) in

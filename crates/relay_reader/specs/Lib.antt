@@ -1,2 +1,3 @@
 pub mod Parts
+pub mod Starts
 pub mod Telling

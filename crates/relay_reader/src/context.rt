@@ -1,18 +1,21 @@
-ghost use Rattle.std.specs.Prelude.{◌≡◌, ◌≤◌, ◌||◌, ◌&&◌, false, OnOk};
+ghost use Rattle.std.specs.Prelude.{◌≡◌, ◌≤◌, ◌||◌, ◌&&◌, false, OnOk, option_and_then};
 ghost use Rattle.dill_script.specs.Contexts.{opening, bare, is_place, places, saying, ended, ending, adding, behind, after};
 ghost use Rattle.dill_script.specs.Headings.{heading_of};
 ghost use Rattle.dill_script.specs.Lines.{has_tokens};
+ghost use Rattle.dill_script.specs.Reading.{started_by};
 ghost use Rattle.dill_script.specs.Refusals.{passes_limit, faults, first_reason};
 ghost use Rattle.dill_script.specs.Statements.{line_of};
 ghost use Rattle.dill_script.specs.Tokens.{tokens};
 ghost use Rattle.relay_lines.specs.Spelled.{line_in};
 ghost use Rattle.dill_calls.specs.CallTable.{is_built};
 ghost use Rattle.relay_reader.specs.Parts.{byte_faults, word_faults, spelling_faults, limit_faults, behind_line, heading_faults, passing_faults};
+ghost use Rattle.relay_reader.specs.Starts.{start_of};
 ghost use Rattle.relay_reader.specs.Telling.{Tells};
 
 use crate::blocks::Blocks;
 use crate::fault::Fault;
 use crate::judging::{judge_bytes, judge_spelling, judge_word};
+use crate::starts::started_by;
 use dill_base::{NoMemory, Octets};
 use dill_script::{Block, Keyword, Program, Reason, Script, Statement, Statements};
 use relay_lines::{Heading, Line, Token, Tokens, has_tokens, heading_of};
@@ -167,20 +170,28 @@ impl Context {
         self.open_blocks.pass(keyword)
     }
 
-    /// Takes on what a line of this keyword spells, where that passes no limit.
-    fn go_on(&mut self, alloc: Global, keyword: Keyword, line: Line) -> Result<(), Fault>
+    /// Takes on what a line of this keyword spells, where that passes no limit, and answers what it starts.
+    fn go_on(
+        &mut self,
+        alloc: Global,
+        keyword: Keyword,
+        line: Line,
+    ) -> Result<Option<(Octets, usize)>, Fault>
         requires { places self.old.current.statements ≤ 4096 }
         ensures { Tells result
             (first_reason (limit_faults (behind_line self.old keyword (line_in line))))
-            (λ _. self.new ≡ behind_line self.old keyword (line_in line)) }
+            (λ started. (self.new ≡ behind_line self.old keyword (line_in line)) × (started ≡ started_by (line_in line))) }
     {
+        let Ok(started) = started_by(alloc, &line) else {
+            return Err(Fault::NoMemory);
+        };
         if self.go_behind(alloc, keyword, line).is_err() {
             return Err(Fault::NoMemory);
         }
         if self.is_too_large() {
             return Err(Fault::Against(Reason::TooLarge));
         }
-        Ok(())
+        Ok(started)
     }
 
     /// The keyword of a line that may stand here.
@@ -202,28 +213,33 @@ impl Context {
         judge_spelling(alloc, self.whole.as_slice(), heading)
     }
 
-    /// Reads a line that belongs to programs.
+    /// Reads a line that belongs to programs, and answers what it starts.
     fn read_heading(
         &mut self,
         alloc: Global,
         heading: &Heading<'_>,
         last: bool,
-    ) -> Result<(), Fault>
+    ) -> Result<Option<(Octets, usize)>, Fault>
         requires { passes_limit self.old ≡ false }
         ensures { Tells result
             (first_reason (heading_faults is_built self.old last heading.now))
-            (λ _. self.new ≡ behind self.old (Some heading.now)) }
+            (λ started. (self.new ≡ behind self.old (Some heading.now)) × (started ≡ option_and_then started_by (line_of heading.now))) }
     {
         let keyword = self.word_of(heading, last)?;
         let line = self.spelled(alloc, heading)?;
         self.go_on(alloc, keyword, line)
     }
 
-    fn read_said(&mut self, alloc: Global, tokens: &[Token], last: bool) -> Result<(), Fault>
+    fn read_said(
+        &mut self,
+        alloc: Global,
+        tokens: &[Token],
+        last: bool,
+    ) -> Result<Option<(Octets, usize)>, Fault>
         requires { passes_limit self.old ≡ false }
         ensures { Tells result
             (first_reason (heading_faults is_built self.old last (heading_of tokens.now)))
-            (λ _. self.new ≡ behind self.old (Some (heading_of tokens.now))) }
+            (λ started. (self.new ≡ behind self.old (Some (heading_of tokens.now))) × (started ≡ option_and_then started_by (line_of (heading_of tokens.now)))) }
     {
         match heading_of(alloc, tokens) {
             Ok(heading) => self.read_heading(alloc, &heading, last),
@@ -260,18 +276,25 @@ impl Context {
         self.begun && has_tokens(line)
     }
 
-    /// Reads a line, of which is told whether it is the last. Where it is refused, the context is of no more use.
-    pub(crate) fn read(&mut self, alloc: Global, line: &[u8], last: bool) -> Result<(), Fault>
+    /// Reads a line, of which is told whether it is the last, and answers the name of the program that it starts and
+    /// how many arguments it gives it. Where the line is refused, the context is of no more use.
+    pub(crate) fn read(
+        &mut self,
+        alloc: Global,
+        line: &[u8],
+        last: bool,
+    ) -> Result<Option<(Octets, usize)>, Fault>
         requires { passes_limit self.old ≡ false }
         ensures { Tells result
             (first_reason (faults is_built self.old last line.now))
-            (λ _. (self.new ≡ after self.old line.now) × (passes_limit self.new ≡ false)) }
+            (λ started. (self.new ≡ after self.old line.now) × (passes_limit self.new ≡ false) × (started ≡ start_of line.now)) }
     {
         let found = self.tokens_of(alloc, line)?;
         if self.is_said(line) {
             return self.read_said(alloc, found.as_slice(), last);
         }
-        self.pass_over(line, last)
+        self.pass_over(line, last)?;
+        Ok(None)
     }
 
     /// The programs that are whole.

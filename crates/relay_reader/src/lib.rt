@@ -10,5 +10,6 @@ mod fault;
 mod judging;
 mod linking;
 mod reading;
+mod starts;
 
 pub use reading::{MOST_BYTES, read_script};
