@@ -1,7 +1,7 @@
-ghost use Rattle.std.specs.Prelude.{◌≡◌, ◌++◌, OnOk, OnErr};
+ghost use Rattle.std.specs.Prelude.{◌≡◌, ◌+◌, ◌*◌, ◌++◌, length, OnOk, OnErr};
 ghost use Rattle.std.specs.Io.KnownBytes.{Appends};
 ghost use Rattle.dill_base.specs.Causes.{HasCause};
-ghost use Rattle.relay_trace.specs.Flows.{AppendsProper, Flows};
+ghost use Rattle.relay_trace.specs.Flows.{AppendsProper, Flows, InPieces};
 ghost use Rattle.relay_trace.specs.Lines.{line as ended, hex_of};
 
 use crate::piece::Piece;
@@ -38,6 +38,7 @@ fn put_parts<W: Sink>(
     out: &mut W,
 ) -> Result<(), Failed>
     ensures ok { OnOk result (Flows (W.told out.old) (W.told out.new) (piece.old ++ head.now ++ hex_of first.now ++ middle.now ++ hex_of second.now) piece.new) }
+    ensures pieces { OnOk result (InPieces (length piece.old + length head.now + 2 * length first.now + length middle.now + 2 * length second.now) (length piece.new)) }
     ensures err { OnErr result (AppendsProper (W.told out.old) (W.told out.new) (piece.old ++ head.now ++ hex_of first.now ++ middle.now ++ hex_of second.now)) }
     ensures cause { HasCause (W.faults out.old) (W.faults out.new) result }
 {

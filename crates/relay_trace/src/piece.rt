@@ -1,8 +1,8 @@
-ghost use Rattle.std.specs.Prelude.{◌≡◌, ◌<◌, ◌≤◌, ◌+◌, ◌++◌, ◌∷◌, List, ℕ, [], length, take, true, false, OnOk, OnErr};
+ghost use Rattle.std.specs.Prelude.{◌≡◌, ◌<◌, ◌≤◌, ◌+◌, ◌*◌, ◌++◌, ◌∷◌, List, ℕ, [], length, take, true, false, OnOk, OnErr};
 ghost use Rattle.std.specs.Io.KnownBytes.{Appends};
 ghost use Rattle.dill_base.specs.Causes.{HasCause};
 ghost use Rattle.dill_base.specs.Sinks.{AppendsPart};
-ghost use Rattle.relay_trace.specs.Flows.{AppendsProper, Flows};
+ghost use Rattle.relay_trace.specs.Flows.{AppendsProper, Flows, InPieces};
 ghost use Rattle.relay_trace.specs.Lines.{hex_of};
 
 use crate::hex::hex_pair;
@@ -38,7 +38,7 @@ impl Piece {
     }
 
     fn is_full(&self) -> bool
-        ensures full { result ≡ true → 0 < length self.now }
+        ensures full { result ≡ true → length self.now ≡ 4096 }
         ensures room { result ≡ false → length self.now < 4096 }
     {
         self.len == PIECE
@@ -67,6 +67,8 @@ impl Piece {
     pub(crate) fn put<W: Sink>(&mut self, byte: u8, out: &mut W) -> Result<(), Failed>
         ensures ok { OnOk result (Flows (W.told out.old) (W.told out.new) (self.old ++ byte ∷ []) self.new) }
         ensures some { OnOk result (0 < length self.new) }
+        ensures pieces { OnOk result (InPieces (length self.old + 1) (length self.new)) }
+        ensures room { length self.old < 4096 → out.new ≡ out.old }
         ensures err { OnErr result (AppendsProper (W.told out.old) (W.told out.new) (self.old ++ byte ∷ [])) }
         ensures cause { HasCause (W.faults out.old) (W.faults out.new) result }
     {
@@ -79,6 +81,7 @@ impl Piece {
 
     pub(crate) fn put_all<W: Sink>(&mut self, bytes: &[u8], out: &mut W) -> Result<(), Failed>
         ensures ok { OnOk result (Flows (W.told out.old) (W.told out.new) (self.old ++ bytes.now) self.new) }
+        ensures pieces { OnOk result (InPieces (length self.old + length bytes.now) (length self.new)) }
         ensures err { OnErr result (AppendsProper (W.told out.old) (W.told out.new) (self.old ++ bytes.now)) }
         ensures cause { HasCause (W.faults out.old) (W.faults out.new) result }
     {
@@ -91,6 +94,7 @@ impl Piece {
     /// Adds two digits for each byte.
     pub(crate) fn put_hex<W: Sink>(&mut self, bytes: &[u8], out: &mut W) -> Result<(), Failed>
         ensures ok { OnOk result (Flows (W.told out.old) (W.told out.new) (self.old ++ hex_of bytes.now) self.new) }
+        ensures pieces { OnOk result (InPieces (length self.old + 2 * length bytes.now) (length self.new)) }
         ensures err { OnErr result (AppendsProper (W.told out.old) (W.told out.new) (self.old ++ hex_of bytes.now)) }
         ensures cause { HasCause (W.faults out.old) (W.faults out.new) result }
     {

@@ -1,4 +1,3 @@
-use Rattle.relay_trace.specs.Lines.{answer_line}
 use Rattle.relay_trace.proofs.Flowing.{on_err, on_ok_map, on_err_map, proper_more, proper_behind, appends_trans}
 use Rattle.relay_trace.proofs.turn.write_traced.Goals as goal
 

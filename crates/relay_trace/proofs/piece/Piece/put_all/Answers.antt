@@ -1,4 +1,4 @@
-use Rattle.std.proofs.Common.{◌∙◌, arith}
+use Rattle.std.proofs.Common.{◌∙◌, ◌+◌, arith}
 use Rattle.relay_trace.proofs.Flowing.{on_err, flows_more, proper_of_more}
 use Rattle.relay_trace.proofs.piece.Piece.put_all.Goals as goal
 
@@ -9,5 +9,6 @@ returns-in_err-put-clause-err g c =
 pub loop-byte-preserved : goal.loop-byte-preserved
 loop-byte-preserved g c = record {
   flows = flows_more _ _ _ _ _ _ _ c.loop-byte.byte-index 0 (omega arith) c.loop-byte.invariant.flows c.in_ok-put.ensures.ok;
+  pieces = (c.loop-byte.invariant.pieces.0 + c.in_ok-put.ensures.pieces.0, omega (arith, c.loop-byte.invariant.pieces.1, c.in_ok-put.ensures.pieces.1));
   count = c.in_ok-put.ensures.cause.kept ∙ c.loop-byte.invariant.count;
 }
