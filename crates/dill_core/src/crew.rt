@@ -24,9 +24,10 @@ use std::alloc::Global;
 use std::marker::Model;
 
 /// The coroutines of a run, of which those that have an answer are queued in the order in which they had it. `early` are
-/// the first of these, who had it before the root began to close.
+/// the first of these, who had it before the root began to close. The allocator serves the entries of calls alone.
 #[derive(Drop)]
 pub struct Core<B: PlainBody> {
+    alloc: Global,
     pub(crate) world: World<B>,
     pub(crate) ready: Vec<u64>,
     pub(crate) early: usize,
@@ -77,6 +78,7 @@ impl<B: PlainBody> Core<B> {
         let world = World::new(alloc, body)?;
         let ready = first_queue(alloc)?;
         Ok(Core {
+            alloc,
             world,
             ready,
             early: 0,
@@ -156,7 +158,7 @@ impl<B: PlainBody> Core<B> {
         let who = self.ready.remove(0);
         self.early = self.early.saturating_sub(1);
         let spare = make_room(&mut self.ready, self.world.coroutines().len());
-        let ran = turn(&mut self.world, who, spare);
+        let ran = turn(self.alloc, &mut self.world, who, spare);
         self.world.line_up(&mut self.ready);
         ran
     }

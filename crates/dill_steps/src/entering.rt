@@ -18,6 +18,7 @@ use dill_base::{Deadline, Errno, NoMemory};
 use dill_calls::{Answer, Arg, Body, Call, Word};
 use dill_rules::Thing;
 use dill_world::{World, draws_of, told, value_of};
+use std::alloc::Global;
 
 /// A call with the deadline that it has from its entry on.
 pub fn entered(moment: u64, call: Call) -> Call
@@ -185,6 +186,7 @@ fn make_bundle<B: Body>(world: &mut World<B>, who: u64, call: &Call) -> Result<(
 
 /// A new coroutine of a program that the caller's knows, which is told these arguments.
 fn child_of<B: Body>(
+    alloc: Global,
     world: &World<B>,
     who: u64,
     program: u32,
@@ -195,7 +197,7 @@ fn child_of<B: Body>(
     requires small { next + length (naming.gifts_of args.now) < 2 ^ 64 }
     ensures { IfOk result (λ child. (view : B) → HasView (world_of world.now) who view → child ≡ B.means.child view program (effects.told next args.now)) }
 {
-    let numbers = told(world.alloc(), next, args)?;
+    let numbers = told(alloc, next, args)?;
     match world.coroutine_of(who) {
         None => Err(NoMemory),
         Some(one) => one.body.child(program, numbers.as_slice()),
@@ -204,6 +206,7 @@ fn child_of<B: Body>(
 
 /// A child in a new bundle. Refused, nothing changes.
 fn go<B: Body>(
+    alloc: Global,
     world: &mut World<B>,
     who: u64,
     call: &Call,
@@ -216,7 +219,7 @@ fn go<B: Body>(
     ensures err { OnErr result (world_of world.new ≡ world_of world.old) }
 {
     let number = world.handles().last() + 1;
-    let child = child_of(world, who, program, args, number + 1)?;
+    let child = child_of(alloc, world, who, program, args, number + 1)?;
     world.keep_for(call)?;
     if let Err(refused) = world.bear_apart(who, child) {
         world.unkeep(draws_of(call));
@@ -230,6 +233,7 @@ fn go<B: Body>(
 
 /// A child in a bundle that is there. Refused, nothing changes.
 fn bundle_go<B: Body>(
+    alloc: Global,
     world: &mut World<B>,
     who: u64,
     call: &Call,
@@ -243,7 +247,7 @@ fn bundle_go<B: Body>(
     ensures err { OnErr result (world_of world.new ≡ world_of world.old) }
 {
     let number = world.handles().last() + 1;
-    let child = child_of(world, who, program, args, number)?;
+    let child = child_of(alloc, world, who, program, args, number)?;
     world.keep_for(call)?;
     let Some(home) = world.bundle_named(bundle) else {
         return Ok(());
@@ -269,7 +273,7 @@ fn needs_memory(call: &Call) -> bool
 }
 
 /// The effect of a call that isn't refused and may want memory. Refused, nothing changes.
-fn perform_with<B: Body>(world: &mut World<B>, who: u64, call: &Call) -> Result<(), NoMemory>
+fn perform_with<B: Body>(alloc: Global, world: &mut World<B>, who: u64, call: &Call) -> Result<(), NoMemory>
     requires needs { needs_memory call.now ≡ true }
     requires enters { Enters B.means (world_of world.old) who call.now }
     ensures ok { OnOk result ((view : B) → HasView (world_of world.old) who view → world_of world.new ≡ entering.perform B.means (entering.keep_for (world_of world.old) call.now) who view call.now) }
@@ -279,9 +283,9 @@ fn perform_with<B: Body>(world: &mut World<B>, who: u64, call: &Call) -> Result<
         Call::Hmake(kind, value) => make_value(world, who, call, *kind, *value),
         Call::Hown(number) => own(world, who, call, *number),
         Call::Bundle => make_bundle(world, who, call),
-        Call::Go(program, args) => go(world, who, call, *program, args.as_slice()),
+        Call::Go(program, args) => go(alloc, world, who, call, *program, args.as_slice()),
         Call::BundleGo(bundle, program, args) => {
-            bundle_go(world, who, call, *bundle, *program, args.as_slice())
+            bundle_go(alloc, world, who, call, *bundle, *program, args.as_slice())
         }
         _ => Ok(()),
     }
@@ -315,7 +319,7 @@ fn refusal<B: Body>(world: &World<B>, who: u64, call: &Call) -> Option<Option<Er
 
 /// A call that isn't refused is done, and answered where its deadline is passed. Where nobody more may be there it is refused
 /// memory, if it may want some. It answers whether memory was refused it.
-fn admit<B: Body>(world: &mut World<B>, who: u64, call: &Call, spare: bool) -> bool
+fn admit<B: Body>(alloc: Global, world: &mut World<B>, who: u64, call: &Call, spare: bool) -> bool
     requires plain { is_plain call.now ≡ true }
     requires enters { Enters B.means (world_of world.old) who call.now }
     ensures needs { result ≡ true → needs_memory call.now ≡ true }
@@ -333,7 +337,7 @@ fn admit<B: Body>(world: &mut World<B>, who: u64, call: &Call, spare: bool) -> b
         world.reply(who, call.word(), Answer::Fault(Errno::Enomem));
         return true;
     }
-    match perform_with(world, who, call) {
+    match perform_with(alloc, world, who, call) {
         Ok(()) => {
             meet_deadline(world, who);
             false
@@ -347,7 +351,7 @@ fn admit<B: Body>(world: &mut World<B>, who: u64, call: &Call, spare: bool) -> b
 
 /// A call of a coroutine is entered. Where the caller has no room to spare for one coroutine more, a call that may want memory
 /// and isn't refused is refused memory. It answers whether memory was refused it.
-pub fn enter<B: Body>(world: &mut World<B>, who: u64, call: &Call, spare: bool) -> bool
+pub fn enter<B: Body>(alloc: Global, world: &mut World<B>, who: u64, call: &Call, spare: bool) -> bool
     requires { is_plain call.now ≡ true }
     ensures met { result ≡ true → (view : B) → HasView (world_of world.old) who view → entering.may_lack_entry B.means (world_of world.old) who view call.now ≡ true }
     ensures entered { (view : B) → HasView (world_of world.old) who view → world_of world.new ≡ entering.enter B.means result (world_of world.old) who view call.now }
@@ -356,7 +360,7 @@ pub fn enter<B: Body>(world: &mut World<B>, who: u64, call: &Call, spare: bool) 
 {
     match refusal(world, who, call) {
         None => false,
-        Some(None) => admit(world, who, call, spare),
+        Some(None) => admit(alloc, world, who, call, spare),
         Some(Some(errno)) => {
             world.reply(who, call.word(), Answer::Fault(errno));
             false

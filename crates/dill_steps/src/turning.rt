@@ -56,16 +56,16 @@ fn lack_fault<B>(world: &World<B>, who: u64, word: Word) -> Errno
 }
 
 /// The next call of a coroutine is entered.
-fn make_call<B: Body>(world: &mut World<B>, who: u64, call: Call, spare: bool) -> Went
+fn make_call<B: Body>(alloc: Global, world: &mut World<B>, who: u64, call: Call, spare: bool) -> Went
     requires { is_plain call ≡ true }
     ensures went { (view : B) → HasView (world_of world.old) who view → WentSo B.means (world_of world.old) (world_of world.new) who view (nexts.Call call) (Calls call) result }
     ensures few { spare ≡ false → length world.new.coroutines ≤ length world.old.coroutines }
     ensures one { length world.new.coroutines ≤ length world.old.coroutines + 1 }
 {
     let moment = world.moment();
-    let (text, rest) = take_text(world.alloc(), call);
+    let (text, rest) = take_text(alloc, call);
     let entering = entered(moment, rest);
-    let lacks = enter(world, who, &entering, spare);
+    let lacks = enter(alloc, world, who, &entering, spare);
     Went {
         lack: entry_lack(lacks),
         outcome: None,
@@ -101,21 +101,21 @@ fn end_program<B: Body>(world: &mut World<B>, who: u64, outcome: Option<Errno>) 
 }
 
 /// The next call of a coroutine is entered, or it ends.
-fn make_move<B: Body>(world: &mut World<B>, who: u64, next: Next, spare: bool) -> Went
+fn make_move<B: Body>(alloc: Global, world: &mut World<B>, who: u64, next: Next, spare: bool) -> Went
     requires { IsPlainNext next }
     ensures went { (view : B) → (move : Move) → HasView (world_of world.old) who view → MovesAs next move → WentSo B.means (world_of world.old) (world_of world.new) who view next move result }
     ensures few { spare ≡ false → length world.new.coroutines ≤ length world.old.coroutines }
     ensures one { length world.new.coroutines ≤ length world.old.coroutines + 1 }
 {
     match next {
-        Next::Call(call) => make_call(world, who, call, spare),
+        Next::Call(call) => make_call(alloc, world, who, call, spare),
         Next::Lack(word) => lack_call(world, who, word),
         Next::End(outcome) => end_program(world, who, outcome),
     }
 }
 
 /// A coroutine goes on from an answer.
-fn go_on<B: PlainBody>(world: &mut World<B>, who: u64, given: Answer, spare: bool) -> Went
+fn go_on<B: PlainBody>(alloc: Global, world: &mut World<B>, who: u64, given: Answer, spare: bool) -> Went
     requires { MayGoOn B.means (world_of world.old) who }
     ensures gone { Gone B.means (world_of world.old) (world_of world.new) who given result }
     ensures few { spare ≡ false → length world.new.coroutines ≤ length world.old.coroutines }
@@ -127,13 +127,14 @@ fn go_on<B: PlainBody>(world: &mut World<B>, who: u64, given: Answer, spare: boo
             outcome: None,
             text: None,
         },
-        Some(next) => make_move(world, who, next, spare),
+        Some(next) => make_move(alloc, world, who, next, spare),
     }
 }
 
 /// The turn of a coroutine: it is given its answer, and makes its next call or ends. Then the machine settles.
 /// Where the caller has no room to spare for one coroutine more, nobody is new: a call that may want memory is refused it.
-pub fn turn<B: PlainBody>(world: &mut World<B>, who: u64, spare: bool) -> Ran
+/// The allocator serves the entry of that call alone: what settles has none.
+pub fn turn<B: PlainBody>(alloc: Global, world: &mut World<B>, who: u64, spare: bool) -> Ran
     requires { MayGoOn B.means (world_of world.old) who }
     ensures turned { world_of world.new ≡ turning.turn B.means result.lack (world_of world.old) who }
     ensures shown { (view : B) → HasView (world_of world.old) who view → result ≡ turning.shown B.means result.lack (world_of world.old) who view }
@@ -142,7 +143,7 @@ pub fn turn<B: PlainBody>(world: &mut World<B>, who: u64, spare: bool) -> Ran
 {
     let (word, given) = world.answer_given(who);
     world.begin();
-    let went = go_on(world, who, copy_answer(&given), spare);
+    let went = go_on(alloc, world, who, copy_answer(&given), spare);
     settle(world);
     Ran {
         who,

@@ -12,7 +12,7 @@ use std::test::Fail;
 fn two(rt: &impl Abort, alloc: Global) -> Result<World<Brief>, Fail> {
     let mut world = World::new(alloc, Brief { name: 1 }).map_err(|_| Fail::from("memory"))?;
     let call = Call::Go(0, Args::new(alloc));
-    assert!(rt; !enter(&mut world, 1, &call, true));
+    assert!(rt; !enter(alloc, &mut world, 1, &call, true));
     assert!(rt; is_answered(&world, 1, Word::Go, None));
     assert_eq!(rt; world.coroutines().len(), 2);
     Ok(world)
@@ -33,8 +33,8 @@ fn is_answered(world: &World<Brief>, who: u64, word: Word, fault: Option<Errno>)
 #[test]
 fn a_bundle_is_closed_once_its_cancelled_sleeper_has_ended(rt: HostRuntime) -> Result<(), Fail> {
     let mut world = two(&rt, rt.alloc())?;
-    assert!(rt; !enter(&mut world, 2, &Call::Msleep(Deadline::Never), true));
-    assert!(rt; !enter(&mut world, 1, &Call::Hclose(1), true));
+    assert!(rt; !enter(rt.alloc(), &mut world, 2, &Call::Msleep(Deadline::Never), true));
+    assert!(rt; !enter(rt.alloc(), &mut world, 1, &Call::Hclose(1), true));
     settle(&mut world);
     assert!(rt; is_answered(&world, 2, Word::Msleep, Some(Errno::Ecanceled)));
     assert!(rt; !is_answered(&world, 1, Word::Hclose, None));
@@ -62,8 +62,8 @@ fn main_ends_once_its_bundles_are_empty(rt: HostRuntime) -> Result<(), Fail> {
 #[test]
 fn equal_deadlines_pass_in_the_order_of_coroutines(rt: HostRuntime) -> Result<(), Fail> {
     let mut world = two(&rt, rt.alloc())?;
-    assert!(rt; !enter(&mut world, 2, &Call::Msleep(Deadline::At(5)), true));
-    assert!(rt; !enter(&mut world, 1, &Call::BundleWait(1, Deadline::At(5)), true));
+    assert!(rt; !enter(rt.alloc(), &mut world, 2, &Call::Msleep(Deadline::At(5)), true));
+    assert!(rt; !enter(rt.alloc(), &mut world, 1, &Call::BundleWait(1, Deadline::At(5)), true));
     assert_eq!(rt; least_due(&world), Some(5));
     assert_eq!(rt; first_passed(&world), None);
     assert!(rt; waiting(&world, 0) == Some((1, Word::BundleWait)));
@@ -83,7 +83,7 @@ fn equal_deadlines_pass_in_the_order_of_coroutines(rt: HostRuntime) -> Result<()
 fn no_child_is_made_without_room_to_spare(rt: HostRuntime) -> Result<(), Fail> {
     let mut world = two(&rt, rt.alloc())?;
     let call = Call::Go(0, Args::new(rt.alloc()));
-    assert!(rt; enter(&mut world, 1, &call, false));
+    assert!(rt; enter(rt.alloc(), &mut world, 1, &call, false));
     assert!(rt; is_answered(&world, 1, Word::Go, Some(Errno::Enomem)));
     assert_eq!(rt; world.coroutines().len(), 2);
     Ok(())
@@ -94,7 +94,7 @@ fn main_that_ends_at_its_start_is_gone_after_its_turn(rt: HostRuntime) -> Result
     let Ok(mut world) = World::new(rt.alloc(), Brief { name: 1 }) else {
         return Err(Fail::from("memory"));
     };
-    let ran = turn(&mut world, 1, true);
+    let ran = turn(rt.alloc(), &mut world, 1, true);
     assert!(rt; ran.word == Word::Start && ran.lack.is_none());
     assert!(rt; matches!(ran.end, Some(None)));
     assert!(rt; matches!(world.ended(), Some(None)));

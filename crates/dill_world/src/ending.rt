@@ -42,10 +42,10 @@ fn closing_of(entry: &Entry<Thing>, who: u64) -> Option<Closing>
 fn add_closing(entry: &Entry<Thing>, who: u64, closings: &mut Vec<Closing>)
     requires { length closings.old.items + 1 ≤ vec_capacity closings.old }
     ensures items { closings.new.items ≡ closings.old.items ++ option_to_list (closing_of who entry.now) }
-    ensures capacity { vec_capacity closings.old ≤ vec_capacity closings.new }
+    ensures capacity { vec_capacity closings.new ≡ vec_capacity closings.old }
 {
     if let Some(closing) = closing_of(entry, who) {
-        let _ = closings.push(closing);
+        closings.push_reserved(closing);
     }
 }
 
@@ -53,7 +53,7 @@ fn add_closing(entry: &Entry<Thing>, who: u64, closings: &mut Vec<Closing>)
 fn add_closings(entries: &[Entry<Thing>], who: u64, closings: &mut Vec<Closing>)
     requires { length closings.old.items + length entries.now ≤ vec_capacity closings.old }
     ensures items { closings.new.items ≡ closings.old.items ++ closings_of who entries.now }
-    ensures capacity { vec_capacity closings.old ≤ vec_capacity closings.new }
+    ensures capacity { vec_capacity closings.new ≡ vec_capacity closings.old }
 {
     for entry in entries {
         add_closing(entry, who, closings);
@@ -76,10 +76,10 @@ fn close_each(handles: &mut Handles<Thing>, scopes: &mut Scopes, closings: &[Clo
 fn note_one_freed(entry: &Entry<Thing>, who: u64, notes: &mut Vec<Note>)
     requires { length notes.old.items + 1 ≤ vec_capacity notes.old }
     ensures items { notes.new.items ≡ notes.old.items ++ freed (owned_number who entry.now) }
-    ensures capacity { vec_capacity notes.old ≤ vec_capacity notes.new }
+    ensures capacity { vec_capacity notes.new ≡ vec_capacity notes.old }
 {
     if entry.owner == who {
-        let _ = notes.push(Note::Freed(entry.number));
+        notes.push_reserved(Note::Freed(entry.number));
     }
 }
 
@@ -87,7 +87,7 @@ fn note_one_freed(entry: &Entry<Thing>, who: u64, notes: &mut Vec<Note>)
 fn note_freed(entries: &[Entry<Thing>], who: u64, notes: &mut Vec<Note>)
     requires { length notes.old.items + length entries.now ≤ vec_capacity notes.old }
     ensures items { notes.new.items ≡ notes.old.items ++ freed (falling who entries.now) }
-    ensures capacity { vec_capacity notes.old ≤ vec_capacity notes.new }
+    ensures capacity { vec_capacity notes.new ≡ vec_capacity notes.old }
 {
     for i in (0..entries.len()).rev() {
         note_one_freed(&entries[i], who, notes);
@@ -178,10 +178,10 @@ fn drop_each(scopes: &mut Scopes, closings: &[Closing])
 fn note_each(notes: &mut Vec<Note>, closings: &[Closing])
     requires { length notes.old.items + length closings.now ≤ vec_capacity notes.old }
     ensures items { notes.new.items ≡ notes.old.items ++ notes_of closings.now }
-    ensures capacity { vec_capacity notes.old ≤ vec_capacity notes.new }
+    ensures capacity { vec_capacity notes.new ≡ vec_capacity notes.old }
 {
     for x in closings {
-        let _ = notes.push(Note::Freed(x.number));
+        notes.push_reserved(Note::Freed(x.number));
     }
 }
 

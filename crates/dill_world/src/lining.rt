@@ -29,7 +29,7 @@ fn is_fresh(mode: &Mode) -> bool
 fn queue_one<B>(c: &Coroutine<B>, ready: &mut Vec<u64>)
     requires { length ready.old.items + length (fresh_one c.now) ≤ vec_capacity ready.old }
     ensures items { ready.new.items ≡ ready.old.items ++ fresh_one c.now }
-    ensures capacity { vec_capacity ready.old ≤ vec_capacity ready.new }
+    ensures capacity { vec_capacity ready.new ≡ vec_capacity ready.old }
 {
     if is_fresh(&c.mode) {
         ready.push_reserved(c.number);
@@ -40,7 +40,7 @@ fn queue_one<B>(c: &Coroutine<B>, ready: &mut Vec<u64>)
 fn queue_each<B>(coroutines: &[Coroutine<B>], ready: &mut Vec<u64>)
     requires { length ready.old.items + length (fresh_of coroutines.now) ≤ vec_capacity ready.old }
     ensures items { ready.new.items ≡ ready.old.items ++ fresh_of coroutines.now }
-    ensures capacity { vec_capacity ready.old ≤ vec_capacity ready.new }
+    ensures capacity { vec_capacity ready.new ≡ vec_capacity ready.old }
 {
     for c in coroutines {
         queue_one(c, ready);
@@ -72,7 +72,7 @@ impl<B: Drop> World<B> {
         requires { length ready.old.items + length (states.fresh (world_of self.old)) ≤ vec_capacity ready.old }
         ensures world { world_of self.new ≡ record (world_of self.old) { coroutines = map states.lined self.old.coroutines } }
         ensures ready { ready.new.items ≡ ready.old.items ++ states.fresh (world_of self.old) }
-        ensures capacity { vec_capacity ready.old ≤ vec_capacity ready.new }
+        ensures capacity { vec_capacity ready.new ≡ vec_capacity ready.old }
     {
         queue_each(&self.coroutines, ready);
         line_each(&mut self.coroutines);

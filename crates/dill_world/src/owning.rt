@@ -136,7 +136,7 @@ impl<B: Drop> World<B> {
     {
         if let Some(thing) = self.handles.retire(number) {
             let next = self.handles.make(thing, owner);
-            let _ = self.notes.push(Note::Moved(number, next));
+            self.notes.push_reserved(Note::Moved(number, next));
             self.take_thing(thing, owner);
         }
     }
@@ -158,7 +158,7 @@ impl<B: Drop> World<B> {
         ensures { world_of self.new ≡ owning.release (world_of self.old) number }
     {
         if let Some(_) = self.handles.retire(number) {
-            let _ = self.notes.push(Note::Freed(number));
+            self.notes.push_reserved(Note::Freed(number));
         }
     }
 
@@ -170,7 +170,7 @@ impl<B: Drop> World<B> {
         let _ = self.handles.retire(number);
         self.scopes.take(name, owner);
         self.scopes.close(name);
-        let _ = self.closings.push(Closing {
+        self.closings.push_reserved(Closing {
             bundle: name,
             number,
         });
@@ -183,6 +183,6 @@ impl<B: Drop> World<B> {
     {
         drop_closing(&mut self.closings, closing.bundle);
         self.scopes.drop_bundle(closing.bundle);
-        let _ = self.notes.push(Note::Freed(closing.number));
+        self.notes.push_reserved(Note::Freed(closing.number));
     }
 }

@@ -20,7 +20,6 @@ use std::marker::Model;
 /// There is room for each note that the step can still take, and for each closing.
 #[derive(Drop)]
 pub struct World<B> {
-    alloc: Global,
     pub(crate) coroutines: Vec<Coroutine<B>>,
     pub(crate) handles: Handles<Thing>,
     pub(crate) scopes: Scopes,
@@ -98,7 +97,6 @@ impl<B> World<B> {
             return Err(NoMemory);
         }
         Ok(World {
-            alloc,
             coroutines,
             handles: Handles::new(alloc),
             scopes,
@@ -114,11 +112,6 @@ impl<B> World<B> {
 
 /// What can be read.
 impl<B> World<B> {
-    /// The allocator that the arguments of new coroutines are told by.
-    pub fn alloc(&self) -> Global {
-        self.alloc
-    }
-
     /// The coroutines by rising number.
     pub fn coroutines(&self) -> &[Coroutine<B>]
         ensures rows { result.now ≡ self.now.coroutines }

@@ -6,5 +6,5 @@ abbrev pub invariant-loop-i : goal.invariant-loop-i
 invariant-loop-i l = record {
   items : l.notes.items ≡ l.fn.notes.items ++ freed (falling l.who (drop l.i l.entries));
   room : length l.notes.items + l.i ≤ vec_capacity l.notes;
-  capacity : vec_capacity l.fn.notes ≤ vec_capacity l.notes;
+  capacity : vec_capacity l.notes ≡ vec_capacity l.fn.notes;
 }
