@@ -37,7 +37,7 @@ module _ {W : Type 0} (told : W → Option (List ℕ)) (writes : W → ℕ) wher
   abbrev pub Checks : Option Files → List ℕ → ℕ → ℕ → W → W → W → W → Status → Type 0
   Checks files name shelf shelf' out out' err err' status.Well = (shelf' ≡ shelf) × PrintsFile files name out out' err err' status.Well
   Checks files name shelf shelf' out out' err err' status.Sink = (shelf' ≡ shelf) × PrintsFile files name out out' err err' status.Sink
-  Checks files name shelf shelf' out out' err err' status.Memory = (out' ≡ out) × Says told writes err err' (codes "dillrelay: want of memory")
+  Checks files name shelf shelf' out out' err err' status.Memory = (out' ≡ out) × (shelf' ≡ shelf) × Says told writes err err' (codes "dillrelay: want of memory")
   Checks files name shelf shelf' out out' err err' status.Script = (out' ≡ out) × (shelf' ≡ shelf) × RefusedScript told writes files name err err'
   Checks files name shelf shelf' out out' err err' status.Shelf = (out' ≡ out) × (Rose shelf shelf' ⊎ Lacks files name) × Says told writes err err' (codes "dillrelay: script not read")
   Checks files name shelf shelf' out out' err err' _ = ⊥

@@ -1,4 +1,4 @@
-ghost use Rattle.std.specs.Prelude.{◌≡◌, ◌<◌, ◌++◌, length, OnOk, OnErr};
+ghost use Rattle.std.specs.Prelude.{◌≡◌, ◌<◌, ◌++◌, length, min, OnOk, OnErr};
 ghost use Rattle.std.specs.Io.KnownBytes.{Appends};
 ghost use Rattle.dill_base.specs.Causes.{HasCause};
 ghost use Rattle.dill_base.specs.Sinks.{AppendsPart};
@@ -15,19 +15,15 @@ use std::alloc::Global;
 /// How many bytes go out at once.
 const PIECE: usize = 4096;
 
-/// The first bytes of some, and what is behind them.
+/// The first 4,096 bytes of some, or all of them where they are fewer, and what is behind them.
 fn cut_piece(bytes: &[u8]) -> (&[u8], &[u8])
     requires { 0 < length bytes.now }
     ensures whole { bytes.now ≡ result.0.now ++ result.1.now }
     ensures some { 0 < length result.0.now }
+    ensures full { length result.0.now ≡ min 4096 (length bytes.now) }
     ensures less { length result.1.now < length bytes.now }
 {
-    let count = if bytes.len() < PIECE {
-        bytes.len()
-    } else {
-        PIECE
-    };
-    bytes.split_at(count)
+    bytes.split_at(PIECE.min(bytes.len()))
 }
 
 /// Writes bytes in pieces. Where a write fails, a front of them went out.
