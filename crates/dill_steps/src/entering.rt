@@ -273,7 +273,12 @@ fn needs_memory(call: &Call) -> bool
 }
 
 /// The effect of a call that isn't refused and may want memory. Refused, nothing changes.
-fn perform_with<B: Body>(alloc: Global, world: &mut World<B>, who: u64, call: &Call) -> Result<(), NoMemory>
+fn perform_with<B: Body>(
+    alloc: Global,
+    world: &mut World<B>,
+    who: u64,
+    call: &Call,
+) -> Result<(), NoMemory>
     requires needs { needs_memory call.now ≡ true }
     requires enters { Enters B.means (world_of world.old) who call.now }
     ensures ok { OnOk result ((view : B) → HasView (world_of world.old) who view → world_of world.new ≡ entering.perform B.means (entering.keep_for (world_of world.old) call.now) who view call.now) }
@@ -351,7 +356,13 @@ fn admit<B: Body>(alloc: Global, world: &mut World<B>, who: u64, call: &Call, sp
 
 /// A call of a coroutine is entered. Where the caller has no room to spare for one coroutine more, a call that may want memory
 /// and isn't refused is refused memory. It answers whether memory was refused it.
-pub fn enter<B: Body>(alloc: Global, world: &mut World<B>, who: u64, call: &Call, spare: bool) -> bool
+pub fn enter<B: Body>(
+    alloc: Global,
+    world: &mut World<B>,
+    who: u64,
+    call: &Call,
+    spare: bool,
+) -> bool
     requires { is_plain call.now ≡ true }
     ensures met { result ≡ true → (view : B) → HasView (world_of world.old) who view → entering.may_lack_entry B.means (world_of world.old) who view call.now ≡ true }
     ensures entered { (view : B) → HasView (world_of world.old) who view → world_of world.new ≡ entering.enter B.means result (world_of world.old) who view call.now }

@@ -56,7 +56,13 @@ fn lack_fault<B>(world: &World<B>, who: u64, word: Word) -> Errno
 }
 
 /// The next call of a coroutine is entered.
-fn make_call<B: Body>(alloc: Global, world: &mut World<B>, who: u64, call: Call, spare: bool) -> Went
+fn make_call<B: Body>(
+    alloc: Global,
+    world: &mut World<B>,
+    who: u64,
+    call: Call,
+    spare: bool,
+) -> Went
     requires { is_plain call ≡ true }
     ensures went { (view : B) → HasView (world_of world.old) who view → WentSo B.means (world_of world.old) (world_of world.new) who view (nexts.Call call) (Calls call) result }
     ensures few { spare ≡ false → length world.new.coroutines ≤ length world.old.coroutines }
@@ -101,7 +107,13 @@ fn end_program<B: Body>(world: &mut World<B>, who: u64, outcome: Option<Errno>) 
 }
 
 /// The next call of a coroutine is entered, or it ends.
-fn make_move<B: Body>(alloc: Global, world: &mut World<B>, who: u64, next: Next, spare: bool) -> Went
+fn make_move<B: Body>(
+    alloc: Global,
+    world: &mut World<B>,
+    who: u64,
+    next: Next,
+    spare: bool,
+) -> Went
     requires { IsPlainNext next }
     ensures went { (view : B) → (move : Move) → HasView (world_of world.old) who view → MovesAs next move → WentSo B.means (world_of world.old) (world_of world.new) who view next move result }
     ensures few { spare ≡ false → length world.new.coroutines ≤ length world.old.coroutines }
@@ -115,7 +127,13 @@ fn make_move<B: Body>(alloc: Global, world: &mut World<B>, who: u64, next: Next,
 }
 
 /// A coroutine goes on from an answer.
-fn go_on<B: PlainBody>(alloc: Global, world: &mut World<B>, who: u64, given: Answer, spare: bool) -> Went
+fn go_on<B: PlainBody>(
+    alloc: Global,
+    world: &mut World<B>,
+    who: u64,
+    given: Answer,
+    spare: bool,
+) -> Went
     requires { MayGoOn B.means (world_of world.old) who }
     ensures gone { Gone B.means (world_of world.old) (world_of world.new) who given result }
     ensures few { spare ≡ false → length world.new.coroutines ≤ length world.old.coroutines }

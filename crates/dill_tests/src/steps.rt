@@ -33,7 +33,15 @@ fn is_answered(world: &World<Brief>, who: u64, word: Word, fault: Option<Errno>)
 #[test]
 fn a_bundle_is_closed_once_its_cancelled_sleeper_has_ended(rt: HostRuntime) -> Result<(), Fail> {
     let mut world = two(&rt, rt.alloc())?;
-    assert!(rt; !enter(rt.alloc(), &mut world, 2, &Call::Msleep(Deadline::Never), true));
+    assert!(rt;
+        !enter(
+            rt.alloc(),
+            &mut world,
+            2,
+            &Call::Msleep(Deadline::Never),
+            true
+        )
+    );
     assert!(rt; !enter(rt.alloc(), &mut world, 1, &Call::Hclose(1), true));
     settle(&mut world);
     assert!(rt; is_answered(&world, 2, Word::Msleep, Some(Errno::Ecanceled)));
@@ -62,8 +70,24 @@ fn main_ends_once_its_bundles_are_empty(rt: HostRuntime) -> Result<(), Fail> {
 #[test]
 fn equal_deadlines_pass_in_the_order_of_coroutines(rt: HostRuntime) -> Result<(), Fail> {
     let mut world = two(&rt, rt.alloc())?;
-    assert!(rt; !enter(rt.alloc(), &mut world, 2, &Call::Msleep(Deadline::At(5)), true));
-    assert!(rt; !enter(rt.alloc(), &mut world, 1, &Call::BundleWait(1, Deadline::At(5)), true));
+    assert!(rt;
+        !enter(
+            rt.alloc(),
+            &mut world,
+            2,
+            &Call::Msleep(Deadline::At(5)),
+            true
+        )
+    );
+    assert!(rt;
+        !enter(
+            rt.alloc(),
+            &mut world,
+            1,
+            &Call::BundleWait(1, Deadline::At(5)),
+            true
+        )
+    );
     assert_eq!(rt; least_due(&world), Some(5));
     assert_eq!(rt; first_passed(&world), None);
     assert!(rt; waiting(&world, 0) == Some((1, Word::BundleWait)));
