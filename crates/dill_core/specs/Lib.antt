@@ -2,3 +2,4 @@ pub mod Begun
 pub mod CoreMachine
 pub mod Ending
 pub mod Holding
+pub mod Placing

@@ -1,5 +1,7 @@
-ghost use Rattle.std.specs.Prelude.{◌≡◌};
+ghost use Rattle.std.specs.Prelude.{◌≡◌, ◌≤◌, length};
+ghost use Rattle.std.specs.List.Sorted.{IsNonDecreasingBy};
 ghost use Rattle.dill_rules.specs.Waiting as waits;
+ghost use Rattle.dill_core.specs.Placing.{AreUpTo};
 
 use crate::Core;
 use dill_base::Errno;
@@ -7,7 +9,8 @@ use dill_calls::{Note, Ran, Word};
 use dill_drive::Stepper;
 use dill_kernel::{Limit, ReadyList};
 use dill_plain::PlainBody;
-use dill_steps::{least_due, waiting};
+use dill_rules::Coroutine;
+use dill_steps::{least_due, waiting_from};
 use laws_debt::root_debt_falls;
 use rand_core::Rng;
 
@@ -19,6 +22,15 @@ fn until(due: Option<u64>) -> Limit
         None => Limit::Forever,
         Some(due) => Limit::Until(due),
     }
+}
+
+/// How many coroutines of a list by rising number have this number or a lower one.
+fn place_behind<B>(coroutines: &[Coroutine<B>], number: u64) -> usize
+    requires { IsNonDecreasingBy (λ c. c.number) coroutines.now }
+    ensures within { result ≤ length coroutines.now }
+    ensures low { AreUpTo number coroutines.now result }
+{
+    coroutines.partition_point(|c| c.number <= number)
 }
 
 impl<B: PlainBody> Stepper for Core<B> {
@@ -82,7 +94,8 @@ impl<B: PlainBody> Stepper for Core<B> {
     }
 
     fn waiting(&self, after: u64) -> Option<(u64, Word)> {
-        waiting(&self.world, after)
+        let place = place_behind(self.world.coroutines(), after);
+        waiting_from(&self.world, place, after)
     }
 
     fn made(&self) -> u64 {

@@ -1,5 +1,6 @@
--- Who waits, as pairs.
-use Rattle.std.proofs.Common.{◌≡◌, ℕ, List, [], ◌∷◌, find, filter_map, cond, Bool, true, false, Option, Some, None, option_map, nat_lt, refl}
+-- Who waits, as pairs, and those that stand from a place on.
+use Rattle.std.proofs.Common.{◌≡◌, ℕ, ◌-◌, List, [], ◌∷◌, length, take, drop, length-drop, find, filter_map, cond, Bool, true, false, Option, Some, None, option_map, nat_lt, refl, arith}
+use Rattle.std.proofs.lemmas.List.{take_all}
 use Rattle.std.specs.List.{cons_option}
 use Rattle.dill_calls.specs.declared.call.Call.{Call}
 use Rattle.dill_calls.specs.declared.word.Word.{Word}
@@ -20,3 +21,6 @@ pair_in n after (Some call) ws ps e = pair_at (nat_lt after n) n (word_of call) 
 pub pairs : {V : Type 0} (after : ℕ) (cs : List (Coroutine V)) → option_map as_pair (find (λ x. nat_lt after x.who) (filter_map waiter_of cs)) ≡ find (λ x. nat_lt after x.0) (filter_map pair_of cs)
 pairs after [] = refl
 pairs after (c ∷ cs) = pair_in c.number after (pending_call c.mode) (filter_map waiter_of cs) (filter_map pair_of cs) (pairs after cs)
+
+pub rest_from : {X : Type 0} (xs : List X) (n : ℕ) → take (length xs - n) (drop n xs) ≡ drop n xs
+rest_from xs n = take_all (length xs - n) (drop n xs) (simp length-drop (omega arith))

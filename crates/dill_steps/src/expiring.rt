@@ -1,4 +1,4 @@
-ghost use Rattle.std.specs.Prelude.{◌≡◌, ◌≤◌, length, filter_map, find, option_map, min, nat_lt, true};
+ghost use Rattle.std.specs.Prelude.{◌≡◌, ◌≤◌, length, drop, filter_map, find, option_map, min, nat_lt, true};
 ghost use Rattle.std.specs.List.{reduce};
 ghost use Rattle.dill_base.specs.Maps.{if_some};
 ghost use Rattle.dill_rules.specs.World as worlds;
@@ -131,11 +131,12 @@ fn first_waiter<B>(coroutines: &[Coroutine<B>], after: u64) -> Option<(u64, Word
         .find(|x| after < x.0)
 }
 
-/// The least coroutine above a number that waits, and the word of its call.
-pub fn waiting<B>(world: &World<B>, after: u64) -> Option<(u64, Word)>
-    ensures { result ≡ option_map as_pair (waiting.waiting (world_of world.now) after) }
+/// The first coroutine above a number that waits, of those from a place of the list on, and the word of its call.
+pub fn waiting_from<B>(world: &World<B>, place: usize, after: u64) -> Option<(u64, Word)>
+    requires { place ≤ length world.now.coroutines }
+    ensures { result ≡ option_map as_pair (find (λ x. nat_lt after x.who) (filter_map waiting.waiter_of (drop place world.now.coroutines))) }
 {
-    first_waiter(world.coroutines(), after)
+    first_waiter(&world.coroutines()[place..], after)
 }
 
 /// The coroutine whose deadline is the first of those that are passed.

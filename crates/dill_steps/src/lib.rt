@@ -8,6 +8,6 @@ mod settling;
 mod turning;
 
 pub use entering::enter;
-pub use expiring::{expire_one, first_passed, least_due, passes_one_by_one, waiting};
+pub use expiring::{expire_one, first_passed, least_due, passes_one_by_one, waiting_from};
 pub use settling::settle;
 pub use turning::turn;
