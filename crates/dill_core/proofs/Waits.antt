@@ -54,8 +54,8 @@ module _ {V : Type 0} where
   not_above : (c : Coroutine V) (o : Option Call) (after : ℕ) (xs : List Waiter) → c.number ≤ after → find (λ x. nat_lt after x.who) (cons_option (option_map (λ call. record { who = c.number; word = word_of call }) o) xs) ≡ find (λ x. nat_lt after x.who) xs
   not_above c None after xs le = refl
   not_above c (Some call) after xs le =
-    let test : nat_lt after c.number ≡ false = grind (arith, nat_tests) in
-    rw test refl
+      let test : nat_lt after c.number ≡ false = grind (arith, nat_tests) in
+      rw test refl
 
   -- the first of those who wait above a number stands behind those up to it
   pub waits_behind : (cs : List (Coroutine V)) (n after : ℕ) → AreUpTo after cs n → find (λ x. nat_lt after x.who) (filter_map waiter_of (drop n cs)) ≡ find (λ x. nat_lt after x.who) (filter_map waiter_of cs)
