@@ -37,13 +37,11 @@ def look(root, spent):
         except (OSError, ValueError, IndexError):
             continue
     for pid, (name, parent, ticks) in seen.items():
-        above, top, mine = parent, pid, False
-        while above in seen and not mine:
-            mine = above == root
-            if seen[above][0] == "rattle":
-                top = above
-            above = seen[above][1]
-        if name != "rattle" or not mine:
+        # the topmost prover among it and those above it, if it stands below the root
+        top, at = (pid if name == "rattle" else None), parent
+        while at in seen and at != root:
+            top, at = (at if seen[at][0] == "rattle" else top), seen[at][1]
+        if top is None or at != root:
             continue
         try:
             work = work_of(top)
