@@ -1,0 +1,9 @@
+mod Places
+mod Marked
+mod Fronts
+mod Telling
+mod Rising
+mod Ends
+mod Kept
+mod Each
+mod Refused

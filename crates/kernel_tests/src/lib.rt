@@ -2,4 +2,6 @@
 #![tactic(auto)]
 
 #[cfg(test)]
+mod network;
+#[cfg(test)]
 mod replay;
