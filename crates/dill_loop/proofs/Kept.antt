@@ -1,4 +1,4 @@
--- What each call keeps of a network: it stays sound, with the same cut and no more links than it makes.
+-- What each call keeps of a network: it stays consistent, with the same cut and no more links than it makes.
 use Rattle.std.proofs.Common.{◌≡◌, ℕ, ◌+◌, ◌<◌, ◌≤◌, suc, Bool, true, false, not, ◌&&◌, ◌||◌, ◌==◌, List, [], ◌∷◌, ◌++◌, map, filter, length, length-append, take, drop, min, nat_le, cond, Option, Some, None, is_some, refl, sym, ◌∙◌, ap, arith, if◌then◌else◌, vec_capacity, subst, ◌⊎◌, inl, inr}
 use Rattle.std.specs.List.{list_any}
 use Rattle.dill_base.specs.declared.status.Address.{Address}
@@ -17,20 +17,20 @@ use Rattle.dill_loop.proofs.Ends.{any_changed, any_first, any_found, any_filter,
 
 -- a network after a call that makes at most so many links
 pub record Keeps (more : ℕ) (old new : Network) : Type 0 where
-  pub sound : IsConsistent new
+  pub consistent : IsConsistent new
   pub cut : new.cut ≡ old.cut
   pub most : most_links new ≤ most_links old + more
 
 pub keeps_same : (more : ℕ) (net : Network) → IsConsistent net → Keeps more net net
-keeps_same more net s = record { sound = s; cut = refl; most = omega arith }
+keeps_same more net s = record { consistent = s; cut = refl; most = omega arith }
 
 -- a mark of a link that is there
 pub keeps_marked : (more : ℕ) (old : Network) (read write : Bool) (place : Place) (net : Network) → ((l : ℕ) → place ≡ Live l → has_link l net ≡ true) → Keeps more old net → Keeps more old (with_mark read write place net)
 keeps_marked more old read write (Queued n) net f k = k
 keeps_marked more old read write (Live link) net f k = record {
-  sound = record {
-    rising = rising_marked (record { link = link; read = read; write = write }) 0 net.marks (omega arith) k.sound.rising;
-    there = among_marked (λ x. has_link x net) (record { link = link; read = read; write = write }) net.marks (f link refl) k.sound.there;
+  consistent = record {
+    rising = rising_marked (record { link = link; read = read; write = write }) 0 net.marks (omega arith) k.consistent.rising;
+    there = among_marked (λ x. has_link x net) (record { link = link; read = read; write = write }) net.marks (f link refl) k.consistent.there;
   };
   cut = k.cut;
   most = k.most;
@@ -41,13 +41,13 @@ keeps_marked more old read write Closed net f k = k
 
 waited_keeps : (limit : Limit) (net : Network) → IsConsistent net → Keeps 0 net (waited limit net).after
 waited_keeps NoWait net s = keeps_same 0 net s
-waited_keeps (Until due) net s = record { sound = record { rising = s.rising; there = s.there }; cut = refl; most = omega arith }
+waited_keeps (Until due) net s = record { consistent = record { rising = s.rising; there = s.there }; cut = refl; most = omega arith }
 waited_keeps Forever net s = keeps_same 0 net s
 
 told_by : (limit : Limit) (net : Network) (b : Bool) → IsConsistent net → Keeps 0 net (if b then waited limit net else record { after = record net { marks = drop most_told net.marks }; reply = Woke net.moment (take most_told net.marks) }).after
 told_by limit net true s = waited_keeps limit net s
 told_by limit net false s = record {
-  sound = record { rising = rising_drop most_told 0 net.marks s.rising; there = among_drop (λ x. has_link x net) most_told net.marks s.there };
+  consistent = record { rising = rising_drop most_told 0 net.marks s.rising; there = among_drop (λ x. has_link x net) most_told net.marks s.there };
   cut = refl;
   most = omega arith;
 }
@@ -79,7 +79,7 @@ length_changed test f (x ∷ xs) = length_changed_by f x (test x) xs (first_chan
 
 keeps_stream : (link : ℕ) (f : Pair → Pair) → ((x : ℕ) (p : Pair) → has_end x p ≡ true → has_end x (f p) ≡ true) → (net : Network) → IsConsistent net → Keeps 0 net (with_stream link f net)
 keeps_stream link f stays net s = record {
-  sound = other_pairs net (first_changed (has_end link) f net.pairs) (λ x. any_changed (has_end x) (has_end link) f (λ p at h. stays x p h) net.pairs) s;
+  consistent = other_pairs net (first_changed (has_end link) f net.pairs) (λ x. any_changed (has_end x) (has_end link) f (λ p at h. stays x p h) net.pairs) s;
   cut = refl;
   most = omega (arith, length_changed (has_end link) f net.pairs);
 }
@@ -96,7 +96,7 @@ listened_by : (link : ℕ) (address : Address) (backlog : ℕ) (net : Network) (
 listened_by link address backlog net true c s = keeps_same 1 net s
 listened_by link address backlog net false true s = keeps_same 1 net s
 listened_by link address backlog net false false s = record {
-  sound = more_listeners net (record { link = link; address = address; backlog = backlog }) s;
+  consistent = more_listeners net (record { link = link; address = address; backlog = backlog }) s;
   cut = refl;
   most = omega (arith, length-append net.listeners (record { link = link; address = address; backlog = backlog } ∷ []));
 }
@@ -108,7 +108,7 @@ dialed_keeps : (link : ℕ) (listener : Listener) (address : Address) (net : Net
 dialed_keeps link listener address net e s =
     let pair : Pair = record { dialed = new_end (Live link); taken = new_end (Queued listener.link) } in
     let added : Keeps 2 net (with_dialed link listener.link net) = record {
-      sound = other_pairs net (net.pairs ++ pair ∷ []) (λ x. any_more (has_end x) net.pairs (pair ∷ [])) s;
+      consistent = other_pairs net (net.pairs ++ pair ∷ []) (λ x. any_more (has_end x) net.pairs (pair ∷ [])) s;
       cut = refl;
       most = omega (arith, length-append net.pairs (pair ∷ []));
     } in
@@ -135,7 +135,7 @@ connect_keeps link address net s = connected_by link address net (is_there link 
 taken_by : (listener link : ℕ) (net : Network) (b : Bool) → IsConsistent net → Keeps 0 net (if b then unchanged net NotYet else record { after = record net { pairs = first_changed (waits_at listener) (linked link) net.pairs }; reply = Done }).after
 taken_by listener link net true s = keeps_same 0 net s
 taken_by listener link net false s = record {
-  sound = other_pairs net (first_changed (waits_at listener) (linked link) net.pairs) (λ x. any_changed (has_end x) (waits_at listener) (linked link) (λ p w h. linked_stays x listener link p w h) net.pairs) s;
+  consistent = other_pairs net (first_changed (waits_at listener) (linked link) net.pairs) (λ x. any_changed (has_end x) (waits_at listener) (linked link) (λ p w h. linked_stays x listener link p w h) net.pairs) s;
   cut = refl;
   most = omega (arith, length_changed (waits_at listener) (linked link) net.pairs);
 }
@@ -206,7 +206,7 @@ other_listener n x link at ne = rw (other_of n x link at ne) refl
 -- without a link: the links of the other marks are there yet
 keeps_without : (link : ℕ) (old net : Network) → net.marks ≡ old.marks → net.cut ≡ old.cut → most_links net ≤ most_links old → ((x : ℕ) → (x == link) ≡ false → has_link x old ≡ true → has_link x net ≡ true) → IsConsistent old → Keeps 0 old (without_link link net)
 keeps_without link old net marks cut most stays s = record {
-  sound = record {
+  consistent = record {
     rising = rw marks (rising_filter (λ mark. not (mark.link == link)) 0 old.marks s.rising);
     there = rw marks (among_filter (λ x. x == link) (λ x. has_link x old) (λ x. has_link x (without_link link net)) (λ x ne h. or_both (list_any (λ k. k.link == x) net.listeners) (list_any (has_end x) net.pairs) (list_any (λ k. k.link == x) net.listeners) (list_any (has_end x) (filter (λ pair. not (is_over pair)) net.pairs)) (λ e. e) (any_filter (has_end x) (λ pair. not (is_over pair)) (λ p. not_over x p) net.pairs) (stays x ne h)) old.marks s.there);
   };
@@ -305,9 +305,9 @@ marks_within net s = most_marks net.listeners net.pairs net.marks s.rising s.the
 -- room for a mark of each link, and a cut, after a call that keeps this of a network
 pub holds_after : (more : ℕ) (old now : Net) (net : Network) → HasRoom old → Keeps more (network_of old) net → network_of now ≡ net → most_links (network_of now) < vec_capacity now.marks → HasRoom now × IsConsistent (network_of now)
 holds_after more old now net h k e room =
-    let sound : IsConsistent (network_of now) = subst IsConsistent (sym e) k.sound in
+    let consistent : IsConsistent (network_of now) = subst IsConsistent (sym e) k.consistent in
     let cut : now.cut ≡ old.cut = ap (λ n. n.cut) e ∙ k.cut in
-    (record { marks = marks_within (network_of now) sound; room = room; cut = subst (λ n. 0 < n) (sym cut) h.cut }, sound)
+    (record { marks = marks_within (network_of now) consistent; room = room; cut = subst (λ n. 0 < n) (sym cut) h.cut }, consistent)
 
 -- the same, where no link is made and the room stays
 pub stays_after : (old now : Net) (net : Network) → HasRoom old → Keeps 0 (network_of old) net → network_of now ≡ net → vec_capacity old.marks ≤ vec_capacity now.marks → HasRoom now × IsConsistent (network_of now)

@@ -15,7 +15,7 @@ impl Net {
     /// Lets a link go. One that isn't there is closed without a change.
     pub fn close(&mut self, link: u64)
         requires room { HasRoom self.old }
-        requires sound { IsConsistent (network_of self.old) }
+        requires consistent { IsConsistent (network_of self.old) }
         ensures network { network_of self.new ≡ calls.closed link (network_of self.old) }
         ensures capacity { vec_capacity self.old.marks ≤ vec_capacity self.new.marks }
     {
@@ -48,7 +48,7 @@ impl Net {
     /// The ends in the queue of a listener are closed, and each end that connected gets both marks.
     fn close_listener(&mut self, link: u64)
         requires room { HasRoom self.old }
-        requires sound { IsConsistent (network_of self.old) }
+        requires consistent { IsConsistent (network_of self.old) }
         ensures network { network_of self.new ≡ calls.listener_closed link (network_of self.old) }
         ensures capacity { vec_capacity self.old.marks ≤ vec_capacity self.new.marks }
     {
@@ -61,7 +61,7 @@ impl Net {
     /// Each end that connected to a listener and waits in its queue gets both marks.
     fn mark_refused(&mut self, listener: u64)
         requires room { most_links (network_of self.old) < vec_capacity self.old.marks }
-        requires sound { IsConsistent (network_of self.old) }
+        requires consistent { IsConsistent (network_of self.old) }
         ensures network { network_of self.new ≡ calls.with_refused_marks (filter (waits_at listener) self.old.pairs.items) (network_of self.old) }
         ensures capacity { vec_capacity self.old.marks ≤ vec_capacity self.new.marks }
     {
@@ -75,7 +75,7 @@ impl Net {
         requires within { at < vec_len self.old.pairs }
         requires room { vec_len self.old.marks < vec_capacity self.old.marks }
         ensures network { calls.with_refused_marks (filter (waits_at listener) (drop (at + 1) self.old.pairs.items)) (network_of self.new) ≡ calls.with_refused_marks (filter (waits_at listener) (drop at self.old.pairs.items)) (network_of self.old) }
-        ensures sound { IsConsistent (network_of self.old) → IsConsistent (network_of self.new) }
+        ensures consistent { IsConsistent (network_of self.old) → IsConsistent (network_of self.new) }
         ensures pairs { self.new.pairs.items ≡ self.old.pairs.items }
         ensures listeners { self.new.listeners.items ≡ self.old.listeners.items }
         ensures capacity { vec_capacity self.old.marks ≤ vec_capacity self.new.marks }

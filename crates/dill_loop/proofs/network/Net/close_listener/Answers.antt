@@ -12,10 +12,10 @@ mark_refused-requires-clause-room c =
     let fewer = length_filter (λ l. not (l.link == c.args.link)) c.args.self.now.listeners.items in
     omega (arith, ap length c.forget_listener.ensures, fewer, c.requires.room.room, c.forget_marks.ensures.capacity)
 
-pub mark_refused-requires-clause-sound : goal.mark_refused-requires-clause-sound
-mark_refused-requires-clause-sound c =
+pub mark_refused-requires-clause-consistent : goal.mark_refused-requires-clause-consistent
+mark_refused-requires-clause-consistent c =
     let net = network_of c.args.self.now in
-    let kept = forget_keeps c.args.link net c.requires.sound in
+    let kept = forget_keeps c.args.link net c.requires.consistent in
     let listeners = subst (λ ls. IsConsistent (record net { marks = filter (λ mark. not (mark.link == c.args.link)) net.marks; listeners = ls })) (sym c.forget_listener.ensures) kept in
     subst (λ ms. IsConsistent (record net { marks = ms; listeners = c.forget_listener.new.listeners.items })) (sym c.forget_marks.ensures.items) listeners
 
