@@ -1,30 +1,31 @@
 -- Where the end of a stream is, after streams are changed, added or gone.
 use Rattle.std.proofs.Common.{◌≡◌, ℕ, Bool, true, false, not, ◌||◌, ◌==◌, List, [], ◌∷◌, ◌++◌, map, filter, find, cond, Option, Some, refl, sym, ◌∙◌, true≢false, if◌then◌else◌}
 use Rattle.std.specs.List.{list_any}
-use Rattle.dill_loop.specs.Network.{Pair, End, Place, Queued, Live, Closed, is_at, is_closed, has_end, waits_at, is_queued_at, other_end, with_own, with_other, first_changed}
+use Rattle.dill_base.specs.Maps.{change}
+use Rattle.dill_loop.specs.Network.{Pair, End, Place, Queued, Live, Closed, is_at, is_closed, has_end, waits_at, is_queued_at, other_end, with_own, with_other}
 use Rattle.dill_loop.specs.Calls.{closed_end, is_over, linked, refused_at}
 use Rattle.dill_loop.proofs.Telling.{itself, one_of, or_left, or_right, or_both, or_second, and_first, and_second}
 
 module _ {X : Type 0} (u : X → Bool) where
-  changed_cases : (f : X → X) (x : X) (b : Bool) (xs ys : List X) → (b ≡ true → u x ≡ true → u (f x) ≡ true) → (list_any u xs ≡ true → list_any u ys ≡ true) → (u x || list_any u xs) ≡ true → list_any u (if b then f x ∷ xs else x ∷ ys) ≡ true
+  changed_cases : (f : X → X) (x : X) (b : Bool) (xs ys : List X) → (b ≡ true → u x ≡ true → u (f x) ≡ true) → (list_any u xs ≡ true → list_any u ys ≡ true) → (u x || list_any u xs) ≡ true → list_any u (cond b (f x ∷ xs) (x ∷ ys)) ≡ true
   changed_cases f x true xs ys keep rest h = or_both (u x) (list_any u xs) (u (f x)) (list_any u xs) (keep refl) (λ e. e) h
   changed_cases f x false xs ys keep rest h = or_both (u x) (list_any u xs) (u x) (list_any u ys) (λ e. e) rest h
 
   -- a change of the first that passes a test keeps what is asked for
-  pub any_changed : (test : X → Bool) (f : X → X) → ((x : X) → test x ≡ true → u x ≡ true → u (f x) ≡ true) → (xs : List X) → list_any u xs ≡ true → list_any u (first_changed test f xs) ≡ true
+  pub any_changed : (test : X → Bool) (f : X → X) → ((x : X) → test x ≡ true → u x ≡ true → u (f x) ≡ true) → (xs : List X) → list_any u xs ≡ true → list_any u (change test f xs) ≡ true
   any_changed test f keep [] h = h
-  any_changed test f keep (x ∷ xs) h = changed_cases f x (test x) xs (first_changed test f xs) (keep x) (any_changed test f keep xs) h
+  any_changed test f keep (x ∷ xs) h = changed_cases f x (test x) xs (change test f xs) (keep x) (any_changed test f keep xs) h
 
-  first_cases : (f : X → X) (x y : X) (b : Bool) (xs ys : List X) (o : Option X) → cond b (Some x) o ≡ Some y → u (f y) ≡ true → (o ≡ Some y → list_any u ys ≡ true) → list_any u (if b then f x ∷ xs else x ∷ ys) ≡ true
+  first_cases : (f : X → X) (x y : X) (b : Bool) (xs ys : List X) (o : Option X) → cond b (Some x) o ≡ Some y → u (f y) ≡ true → (o ≡ Some y → list_any u ys ≡ true) → list_any u (cond b (f x ∷ xs) (x ∷ ys)) ≡ true
   first_cases f x y true xs ys o e now rest =
       let s : x ≡ y = cc in
       or_left (u (f x)) (list_any u xs) (rw s now)
   first_cases f x y false xs ys o e now rest = or_right (u x) (list_any u ys) (rest e)
 
   -- what the change of the first itself gives
-  pub any_first : (test : X → Bool) (f : X → X) (y : X) → u (f y) ≡ true → (xs : List X) → find test xs ≡ Some y → list_any u (first_changed test f xs) ≡ true
+  pub any_first : (test : X → Bool) (f : X → X) (y : X) → u (f y) ≡ true → (xs : List X) → find test xs ≡ Some y → list_any u (change test f xs) ≡ true
   any_first test f y now [] e = cc
-  any_first test f y now (x ∷ xs) e = first_cases f x y (test x) xs (first_changed test f xs) (find test xs) e now (any_first test f y now xs)
+  any_first test f y now (x ∷ xs) e = first_cases f x y (test x) xs (change test f xs) (find test xs) e now (any_first test f y now xs)
 
   found_cases : (x y : X) (b : Bool) (xs : List X) (o : Option X) → cond b (Some x) o ≡ Some y → u y ≡ true → (o ≡ Some y → list_any u xs ≡ true) → (u x || list_any u xs) ≡ true
   found_cases x y true xs o e now rest =

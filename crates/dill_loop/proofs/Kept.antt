@@ -1,12 +1,13 @@
 -- What each call keeps of a network: it stays consistent, with the same cut and no more links than it makes.
 use Rattle.std.proofs.Common.{◌≡◌, ℕ, ◌+◌, ◌<◌, ◌≤◌, suc, Bool, true, false, not, ◌&&◌, ◌||◌, ◌==◌, List, [], ◌∷◌, ◌++◌, map, filter, length, length-append, take, drop, min, nat_le, cond, Option, Some, None, is_some, refl, sym, ◌∙◌, ap, arith, if◌then◌else◌, vec_capacity, subst, ◌⊎◌, inl, inr}
 use Rattle.std.specs.List.{list_any}
+use Rattle.dill_base.specs.Maps.{change}
 use Rattle.dill_base.specs.declared.status.Address.{Address}
 use Rattle.dill_kernel.specs.declared.ready.Limit.{Limit}
 use Rattle.dill_kernel.specs.declared.ready.Limit.TheVariants.{NoWait, Until, Forever}
 use Rattle.dill_kernel.specs.declared.replies.KernelFault.TheVariants.{Refused, InUse, Reset, Other}
 use Rattle.dill_kernel.specs.declared.replies.KernelReply.TheVariants.{Woke, Done, NotYet, Took, Failed}
-use Rattle.dill_loop.specs.Network.{is_at, Network, Listener, Pair, Place, Queued, Live, Closed, capacity, is_closed, has_end, waits_at, stream_at, listener_at, is_there, listener_with, is_same_address, queue_of, own_end, other_end, with_own, with_other, with_stream, first_changed, with_mark}
+use Rattle.dill_loop.specs.Network.{is_at, Network, Listener, Pair, Place, Queued, Live, Closed, capacity, is_closed, has_end, waits_at, stream_at, listener_at, is_there, listener_with, is_same_address, queue_of, own_end, other_end, with_own, with_other, with_stream, with_mark}
 use Rattle.dill_loop.specs.Calls.{unchanged, read_nothing, told, waited, most_told, listened, connected, dialed_by, dialed_to, with_dialed, new_end, accepted, taken_from, linked, written, written_by, written_to, fitting, with_held, read, read_by, read_piece, without_front, shut, shut_by, with_shut, closed, closed_by, closed_end, is_over, without_link, stream_closed, listener_closed, refused_at, with_refused_marks}
 use Rattle.dill_loop.specs.Consistent.{has_link, IsConsistent, most_links, HasRoom}
 use Rattle.dill_loop.specs.Store.{network_of}
@@ -67,25 +68,25 @@ other_pairs net ps f s = record {
   there = among_more (λ x. has_link x net) (λ x. has_link x (record net { pairs = ps })) (λ x h. or_both (list_any (λ k. k.link == x) net.listeners) (list_any (has_end x) net.pairs) (list_any (λ k. k.link == x) net.listeners) (list_any (has_end x) ps) (λ e. e) (f x) h) net.marks s.there;
 }
 
-length_changed_by : {X : Type 0} (f : X → X) (x : X) (b : Bool) (xs ys : List X) → length ys ≡ length xs → length (if b then f x ∷ xs else x ∷ ys) ≡ suc (length xs)
+length_changed_by : {X : Type 0} (f : X → X) (x : X) (b : Bool) (xs ys : List X) → length ys ≡ length xs → length (cond b (f x ∷ xs) (x ∷ ys)) ≡ suc (length xs)
 length_changed_by f x true xs ys e = refl
 length_changed_by f x false xs ys e = ap suc e
 
-pub length_changed : {X : Type 0} (test : X → Bool) (f : X → X) (xs : List X) → length (first_changed test f xs) ≡ length xs
+pub length_changed : {X : Type 0} (test : X → Bool) (f : X → X) (xs : List X) → length (change test f xs) ≡ length xs
 length_changed test f [] = refl
-length_changed test f (x ∷ xs) = length_changed_by f x (test x) xs (first_changed test f xs) (length_changed test f xs)
+length_changed test f (x ∷ xs) = length_changed_by f x (test x) xs (change test f xs) (length_changed test f xs)
 
 -- ---- a change of the stream at a link
 
 keeps_stream : (link : ℕ) (f : Pair → Pair) → ((x : ℕ) (p : Pair) → has_end x p ≡ true → has_end x (f p) ≡ true) → (net : Network) → IsConsistent net → Keeps 0 net (with_stream link f net)
 keeps_stream link f stays net s = record {
-  consistent = other_pairs net (first_changed (has_end link) f net.pairs) (λ x. any_changed (has_end x) (has_end link) f (λ p at h. stays x p h) net.pairs) s;
+  consistent = other_pairs net (change (has_end link) f net.pairs) (λ x. any_changed (has_end x) (has_end link) f (λ p at h. stays x p h) net.pairs) s;
   cut = refl;
   most = omega (arith, length_changed (has_end link) f net.pairs);
 }
 
 keeps_other : (link : ℕ) (f : Pair → Pair) → ((x : ℕ) (p : Pair) → has_end x p ≡ true → has_end x (f p) ≡ true) → (read write : Bool) (pair : Pair) (net : Network) → stream_at link net ≡ Some pair → IsConsistent net → Keeps 0 net (with_mark read write (other_end link pair).place (with_stream link f net))
-keeps_other link f stays read write pair net e s = keeps_marked 0 net read write (other_end link pair).place (with_stream link f net) (λ l at. or_right (list_any (λ k. k.link == l) net.listeners) (list_any (has_end l) (first_changed (has_end link) f net.pairs)) (any_changed (has_end l) (has_end link) f (λ p t h. stays l p h) net.pairs (any_found (has_end l) (has_end link) pair (other_there l link pair at) net.pairs e))) (keeps_stream link f stays net s)
+keeps_other link f stays read write pair net e s = keeps_marked 0 net read write (other_end link pair).place (with_stream link f net) (λ l at. or_right (list_any (λ k. k.link == l) net.listeners) (list_any (has_end l) (change (has_end link) f net.pairs)) (any_changed (has_end l) (has_end link) f (λ p t h. stays l p h) net.pairs (any_found (has_end l) (has_end link) pair (other_there l link pair at) net.pairs e))) (keeps_stream link f stays net s)
 
 pub wait_keeps : (limit : Limit) (net : Network) → IsConsistent net → Keeps 0 net (told limit net).after
 wait_keeps limit net s = told_by limit net (length net.marks == 0) s
@@ -132,10 +133,10 @@ connected_by link address net false s = dialed_by_keeps link address net (listen
 pub connect_keeps : (link : ℕ) (address : Address) (net : Network) → IsConsistent net → Keeps 2 net (connected link address net).after
 connect_keeps link address net s = connected_by link address net (is_there link net) s
 
-taken_by : (listener link : ℕ) (net : Network) (b : Bool) → IsConsistent net → Keeps 0 net (if b then unchanged net NotYet else record { after = record net { pairs = first_changed (waits_at listener) (linked link) net.pairs }; reply = Done }).after
+taken_by : (listener link : ℕ) (net : Network) (b : Bool) → IsConsistent net → Keeps 0 net (if b then unchanged net NotYet else record { after = record net { pairs = change (waits_at listener) (linked link) net.pairs }; reply = Done }).after
 taken_by listener link net true s = keeps_same 0 net s
 taken_by listener link net false s = record {
-  consistent = other_pairs net (first_changed (waits_at listener) (linked link) net.pairs) (λ x. any_changed (has_end x) (waits_at listener) (linked link) (λ p w h. linked_stays x listener link p w h) net.pairs) s;
+  consistent = other_pairs net (change (waits_at listener) (linked link) net.pairs) (λ x. any_changed (has_end x) (waits_at listener) (linked link) (λ p w h. linked_stays x listener link p w h) net.pairs) s;
   cut = refl;
   most = omega (arith, length_changed (waits_at listener) (linked link) net.pairs);
 }

@@ -1,4 +1,4 @@
-mod Places
+mod Waiting
 mod Marked
 mod Fronts
 mod Telling

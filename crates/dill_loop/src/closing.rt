@@ -1,7 +1,8 @@
 ghost use Rattle.std.specs.Prelude.{◌≡◌, ◌+◌, ◌<◌, ◌≤◌, ◌==◌, not, find, filter, map, drop, get_or, Some, vec_capacity, vec_len};
 ghost use Rattle.std.specs.List.{position_from};
+ghost use Rattle.dill_base.specs.Maps.{change};
 ghost use Rattle.dill_loop.specs.Calls as calls;
-ghost use Rattle.dill_loop.specs.Network.{first_changed, has_end, waits_at, with_own};
+ghost use Rattle.dill_loop.specs.Network.{has_end, waits_at, with_own};
 ghost use Rattle.dill_loop.specs.Consistent.{HasRoom, IsConsistent, most_links};
 ghost use Rattle.dill_loop.specs.Store.{network_of};
 
@@ -109,7 +110,7 @@ fn drop_refused(pairs: &mut Vec<Pair>, listener: u64)
 fn close_at(pairs: &mut Vec<Pair>, link: u64, at: usize)
     requires place { position_from (has_end link) 0 pairs.old.items ≡ Some at }
     requires within { at < vec_len pairs.old }
-    ensures { pairs.new.items ≡ first_changed (has_end link) (with_own link calls.closed_end) pairs.old.items }
+    ensures { pairs.new.items ≡ change (has_end link) (with_own link calls.closed_end) pairs.old.items }
 {
     let pair = &mut pairs[at];
     pair.close(link);

@@ -1,7 +1,8 @@
 ghost use Rattle.std.specs.Prelude.{◌≡◌, ℕ, true, ◌+◌, ◌*◌, ◌<◌, ◌≤◌, ◌==◌, length, filter, not, false, OnOk, OnErr, IfSome, IfNone, vec_capacity, vec_len};
+ghost use Rattle.dill_base.specs.Maps.{change};
 ghost use Rattle.dill_kernel.specs.Entry.{plain, made_reply};
 ghost use Rattle.dill_loop.specs.Calls as calls;
-ghost use Rattle.dill_loop.specs.Network.{Live, first_changed, waits_at, listener_with, with_mark};
+ghost use Rattle.dill_loop.specs.Network.{Live, waits_at, listener_with, with_mark};
 ghost use Rattle.dill_kernel.specs.declared.replies.KernelReply.TheVariants.{Done, Failed};
 ghost use Rattle.dill_kernel.specs.declared.replies.KernelFault.TheVariants.{Refused};
 ghost use Rattle.dill_loop.specs.Consistent.{most_links};
@@ -128,7 +129,7 @@ impl Net {
 
 /// The oldest end in a listener's queue gets a link, if one waits.
 fn take_queued(pairs: &mut Vec<Pair>, listener: u64, link: u64) -> bool
-    ensures pairs { pairs.new.items ≡ first_changed (waits_at listener) (calls.linked link) pairs.old.items }
+    ensures pairs { pairs.new.items ≡ change (waits_at listener) (calls.linked link) pairs.old.items }
     ensures none { (length (filter (waits_at listener) pairs.old.items) == 0) ≡ not result }
     ensures same { result ≡ false → pairs.new.items ≡ pairs.old.items }
 {
