@@ -467,12 +467,12 @@ fn each_call_has_its_operands(rt: HostRuntime) -> Result<(), Fail> {
         (Answer::Number(40), "Call(Hown(2))", 5),
         (
             Answer::Number(3),
-            "Call(Go(1, Args { args: [Show(8), Give(3)] }))",
+            "Call(Go(1, Sequence { items: [Show(8), Give(3)] }))",
             4
         ),
         (
             Answer::Number(4),
-            "Call(BundleGo(4, 0, Args { args: [] }))",
+            "Call(BundleGo(4, 0, Sequence { items: [] }))",
             3
         ),
         (Answer::Number(0), "Call(BundleWait(4, Never))", 2),
