@@ -20,7 +20,7 @@ use std::alloc::Global;
 /// Runs a program as `main`, over a kernel and a sink, until it has ended and its summary was written, and says how the run ended.
 /// Where memory for its core is refused nothing is asked or written.
 ///
-/// `turns` bounds turns and rounds together; at most 999,999,999,999,999,999. After a stop further turns, which are counted apart, go on until `main` has ended. `traced` adds each call, answer and note to the texts that are printed. After a failed write no more is written; a test shows that, and no clause. The run draws no random number.
+/// `turns` bounds turns and rounds together; at most 999,999,999,999,999,999. After a stop further turns, which are counted apart, go on until `main` has ended. `traced` adds each call, answer and note to the texts that are printed. After a failed write no more is written: where a run goes on, the count of failed writes stayed. The run draws no random number.
 pub fn run<B: PlainBody, K: Kernel, W: Sink, R: Rng>(
     alloc: Global,
     first: B,

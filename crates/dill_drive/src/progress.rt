@@ -39,7 +39,7 @@ impl<M: Stepper> Progress<M> {
         self.tally.turns + self.tally.rounds == most
     }
 
-    /// The root is closed after a stop. After a failed write it writes no more; a test shows that, and no clause.
+    /// The root is closed after a stop. After a failed write it writes no more.
     pub(crate) fn stop<W: Sink>(&mut self, stop: Status, traced: bool, out: &mut W) -> Status
         requires { is_well stop ≡ false }
         ensures leads { (most : ℕ) (place : Place) (before : Status) (keys : Stream) → Leads M.means traced most (stopped M.means traced most (stands self.old place before keys) stop) (stands self.new Closing result keys) [] (W.told out.old) (W.told out.new) }
@@ -143,7 +143,7 @@ impl<M: Stepper> Progress<M> {
         None
     }
 
-    /// One turn after a stop. After a failed write it writes no more; a test shows that, and no clause.
+    /// One turn after a stop. After a failed write it writes no more.
     fn last_turn<W: Sink, R: Rng>(
         &mut self,
         status: Status,

@@ -186,7 +186,7 @@ impl<M: Stepper> Progress<M> {
         }
     }
 
-    /// The summary of a run whose `main` has ended. After a failed write it isn't written; a test shows that, and no clause.
+    /// The summary of a run whose `main` has ended. After a failed write it isn't written.
     fn finish<W: Sink>(&self, stop: Status, out: &mut W) -> Status
         requires ended { is_some (M.means.ended self.now.core) ≡ true }
         ensures leads { (traced : Bool) (most : ℕ) (keys : Stream) (place : Place) → IsRest place → Leads M.means traced most (stands self.now place stop keys) (stands self.now Over result keys) [] (W.told out.old) (W.told out.new) }
@@ -264,7 +264,7 @@ fn end_of(status: Status, outcome: Option<Option<Errno>>) -> RunEnd
 
 /// Drives a core over a kernel and a sink until `main` has ended and its summary was written, and says how the run ended.
 ///
-/// `turns` bounds turns and rounds together; at most 999,999,999,999,999,999. After a stop further turns, which are counted apart, go on until `main` has ended. `traced` adds each call, answer and note to the texts that are printed. After a failed write no more is written; a test shows that, and no clause.
+/// `turns` bounds turns and rounds together; at most 999,999,999,999,999,999. After a stop further turns, which are counted apart, go on until `main` has ended. `traced` adds each call, answer and note to the texts that are printed. After a failed write no more is written: where a run goes on, the count of failed writes stayed.
 pub fn drive<M: Stepper, K: Kernel, W: Sink, R: Rng>(
     first: M,
     traced: bool,

@@ -5,10 +5,12 @@ pub mod Formed
 pub mod FormedLines
 pub mod HeadsWritten
 pub mod Judging
+pub mod Keywords
 pub mod LinesWritten
 pub mod Linking
 pub mod Mains
 pub mod Named
+pub mod Nesting
 pub mod OperandsWritten
 pub mod Printed
 pub mod Saying

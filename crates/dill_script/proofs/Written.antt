@@ -18,8 +18,9 @@ use Rattle.dill_script.specs.Operands.{plain_in, name_of, number_register, bytes
 use Rattle.dill_script.specs.Printing.{statement_tokens, program_lines}
 use Rattle.dill_script.specs.Statements.{Line, Opens, Ends, Says, both, set_at, with_two, program_of, params_fit, plain_line, keyword_line, cond_of, loop_of, fail_of, call_of_line}
 use Rattle.dill_script.specs.Tokens.{Token, Plain}
-use Rattle.dill_script.proofs.LinesWritten.{spelled, two_is, none_is}
-use Rattle.dill_script.proofs.Options.{if_map, if_then, if_only}
+use Rattle.dill_script.proofs.Keywords.{keyword_in, SpelledBy, keyword_line_by}
+use Rattle.dill_script.proofs.LinesWritten.{spelled}
+use Rattle.dill_script.proofs.Options.{if_more}
 
 -- a program as far as it has come
 abbrev pub begun_lines : Program → List (List Token)
@@ -49,41 +50,27 @@ Matches keywords.End _ = ⊥
 Matches _ (Says statement) = Unit {0}
 Matches _ _ = ⊥
 
-any_some : {X : Type 0} (P : X → Type 0) (o : Option X) → ((x : X) → P x) → IfSome o P
-any_some P None h = tt
-any_some P (Some x) h = h x
-
-program_matches : (a b : Token) → IfSome (program_of a b) (Matches keywords.Program)
-program_matches a b = if_then (Matches keywords.Program) (λ opened. option_and_then (λ count. only_if (params_fit opened count) (Opens opened count)) (option_and_then (number_up_to 16) (plain_in b))) (name_of a)
-    (any_some (λ opened. IfSome (option_and_then (λ count. only_if (params_fit opened count) (Opens opened count)) (option_and_then (number_up_to 16) (plain_in b))) (Matches keywords.Program)) (name_of a)
-    (λ opened. if_then (Matches keywords.Program) (λ count. only_if (params_fit opened count) (Opens opened count)) (option_and_then (number_up_to 16) (plain_in b))
-    (any_some (λ count. IfSome (only_if (params_fit opened count) (Opens opened count)) (Matches keywords.Program)) (option_and_then (number_up_to 16) (plain_in b)) (λ count. if_only (Matches keywords.Program) (params_fit opened count) (Opens opened count) (λ e. tt)))))
-
--- a line that holds a statement
-says_matches : (k : Keyword) (o : Option Statement) → ((s : Statement) → Matches k (Says s)) → IfSome (option_map Says o) (Matches k)
-says_matches k o h = if_map (Matches k) Says o (any_some (λ s. Matches k (Says s)) o h)
-
-plain_matches : (k : Keyword) (tokens : List Token) → IfSome (plain_line k tokens) (Matches k)
-plain_matches keywords.Program tokens = two_is (λ list. Matches keywords.Program) program_of tokens program_matches
-plain_matches keywords.Finally tokens = none_is (λ list. Matches keywords.Finally) (Says statements.Finally) tokens tt
-plain_matches keywords.Else tokens = none_is (λ list. Matches keywords.Else) (Says statements.Else) tokens tt
-plain_matches keywords.End tokens = none_is (λ list. Matches keywords.End) Ends tokens tt
-plain_matches keywords.Add tokens = says_matches keywords.Add (with_two (λ place value. both statements.Add (number_register place) (num_of value)) tokens) (λ s. tt)
-plain_matches keywords.Sub tokens = says_matches keywords.Sub (with_two (λ place value. both statements.Sub (number_register place) (num_of value)) tokens) (λ s. tt)
-plain_matches keywords.Len tokens = says_matches keywords.Len (with_two (λ place source. both statements.Len (number_register place) (bytes_register source)) tokens) (λ s. tt)
-plain_matches keywords.If tokens = if_map (Matches keywords.If) (λ cond. Says (statements.If cond)) (cond_of tokens) (any_some (λ c. Matches keywords.If (Says (statements.If c))) (cond_of tokens) (λ c. tt))
-plain_matches keywords.Loop tokens = says_matches keywords.Loop (loop_of tokens) (λ s. tt)
-plain_matches keywords.Break tokens = none_is (λ list. Matches keywords.Break) (Says statements.Break) tokens tt
-plain_matches keywords.Return tokens = none_is (λ list. Matches keywords.Return) (Says statements.Return) tokens tt
-plain_matches keywords.Fail tokens = says_matches keywords.Fail (fail_of tokens) (λ s. tt)
-plain_matches _ tokens = tt
+pub spelled_matches : (k : Keyword) (line : Line) → SpelledBy k line → Matches k line
+spelled_matches keywords.Program (Opens name params) e = tt
+spelled_matches keywords.Program Ends e = cc
+spelled_matches keywords.Program (Says s) e = no_program s e
+  where
+    no_program : (t : Statement) → keyword_in t ≡ Some keywords.Program → ⊥
+    no_program statements.Else e = cc
+    no_program _ e = cc
+spelled_matches keywords.End (Opens name params) e = cc
+spelled_matches keywords.End Ends e = tt
+spelled_matches keywords.End (Says s) e = no_end s e
+  where
+    no_end : (t : Statement) → keyword_in t ≡ Some keywords.End → ⊥
+    no_end statements.Else e = cc
+    no_end _ e = cc
+spelled_matches _ (Says s) e = tt
+spelled_matches _ (Opens name params) e = cc
+spelled_matches _ Ends e = cc
 
 pub keyword_line_matches : (tried : Bool) (targets : List Register) (k : Keyword) (tokens : List Token) → IfSome (keyword_line tried targets k tokens) (Matches k)
-keyword_line_matches tried targets (keywords.Call word) tokens = says_matches (keywords.Call word) (call_of_line tried word targets tokens) (λ s. tt)
-keyword_line_matches tried [] keywords.Set tokens = says_matches keywords.Set (with_two (λ target value. option_and_then (λ register. set_at tried register value) (register_in target)) tokens) (λ s. tt)
-keyword_line_matches tried [] keywords.Join tokens = says_matches keywords.Join (with_two (λ place value. both (statements.Join tried) (bytes_register place) (bytes_of value)) tokens) (λ s. tt)
-keyword_line_matches false [] k tokens = plain_matches k tokens
-keyword_line_matches _ _ _ _ = tt
+keyword_line_matches tried targets k tokens = if_more (SpelledBy k) (Matches k) (keyword_line tried targets k tokens) (spelled_matches k) (keyword_line_by tried targets k tokens)
 
 -- blocks stay nested, and some are open before and behind each line but the first and last of a program
 pub record StaysOpen (open_blocks behind_them : List Block) : Type 0 where

@@ -3,6 +3,7 @@ pub mod Contexts
 pub mod Fitting
 pub mod Headings
 pub mod Lines
+pub mod Nesting
 pub mod Numbers
 pub mod Operands
 pub mod Printing

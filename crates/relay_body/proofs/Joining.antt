@@ -28,8 +28,8 @@ lacks old new tried place bytes next e n s = subst (λ x. MakesOne old new x) (s
 
 -- so that call is made, or there was no memory for it
 pub join_makes : (old new : Held) (tried : Bool) (place : ℕ) (bytes : Bytes) (copy : Result (List ℕ) NoMemory) (next : Next) → pending (seen old) ≡ Some (statements.Join tried place bytes) → join_fault (seen old) place (bytes_value (seen old) bytes) ≡ None → IfOk copy (λ value. value ≡ bytes_value (seen old) bytes) → Joins old new place copy next → MakesOne old new next
-join_makes old new tried place bytes (Ok more) next e f c (inl (n, v, s)) =
+join_makes old new tried place bytes (Ok more) next e f c (inl (n, v)) =
     let after : moved (seen old) (made_by (seen old) (pending (seen old))) ≡ (seen new, Calls (Pass Join None)) = joined (seen old) tried place bytes e f ∙ ap (λ m. (with_bytes (seen old) place (bytes_in (seen old) place ++ m), Calls (Pass Join None))) (sym c) ∙ ap (λ w. (w, Calls (Pass Join None))) (sym v) in
-    subst (λ x. MakesOne old new x) (sym n) (after, s)
+    subst (λ x. MakesOne old new x) (sym n) after
 join_makes old new tried place bytes (Ok more) next e f c (inr (n, s)) = lacks old new tried place bytes next e n s
 join_makes old new tried place bytes (Err lack) next e f c (n, s) = lacks old new tried place bytes next e n s

@@ -1,6 +1,5 @@
 pub mod Built
 pub mod CanRun
-pub mod Counted
 pub mod Joining
 pub mod Known
 pub mod Making

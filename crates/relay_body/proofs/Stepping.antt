@@ -1,18 +1,19 @@
 -- One step of a walk: a statement is passed, and is the stop or is behind.
 use Rattle.std.proofs.Common.{◌≡◌, ◌≤◌, ◌<◌, ℕ, zero, suc, List, [], ◌∷◌, length, drop, slice_get, Bool, true, false, Option, Some, None, is_some, refl, sym, ap, ◌∙◌, subst, arith}
 use Rattle.dill_calls.specs.declared.call.Call.{Call}
+use Rattle.std.proofs.lemmas.Bool.{and_from}
 use Rattle.dill_script.specs.declared.operand.Num.{Num}
 use Rattle.dill_script.specs.declared.statement.Statement.{Statement}
 use Rattle.dill_script.specs.declared.statement.Statement.TheVariants as statements
+use Rattle.dill_script.specs.Nesting.{in_program}
 use Rattle.dill_meaning.specs.Views.{ScriptView, statements_of, ahead, pending}
 use Rattle.dill_meaning.specs.Walks.{Mode, Runs, Stop, walk, stopped, behind, call_in, passing}
 use Rattle.dill_meaning.proofs.Walking.{Keeps, behind_keeps, statements_kept, ahead_kept}
-use Rattle.relay_body.specs.Running.{loops_in, are_open, has_open, is_runnable, is_running}
+use Rattle.relay_body.specs.Depths.{Fits, IsWalking}
+use Rattle.relay_body.specs.Opened.{nested_in, Stands, stands_at, few_open, left_less, behind_fits, passed_opens}
+use Rattle.relay_body.specs.Runnable.{parts}
+use Rattle.relay_body.specs.Running.{blocks_at, has_open, is_runnable, is_running}
 use Rattle.relay_body.specs.Stopping.{behind_at, with_call, made_by, made_at, made_in}
-use Rattle.relay_body.specs.Bools.{and_right}
-use Rattle.relay_body.proofs.Counted.{open_fit}
-use Rattle.relay_body.specs.Lawful.{running_on}
-use Rattle.relay_body.specs.Opened.{behind_open, open_entered, next_open}
 
 -- there is one at a place before the end
 pub found_at : {X : Type 0} (xs : List X) (n : ℕ) → n < length xs → (x : X) × (slice_get xs n ≡ Some x)
@@ -82,51 +83,49 @@ walk_goes_on mode way view mid new h m s w n =
     let pair : behind_at mode mid (pending mid) ≡ gone = ap (λ v. behind_at mode v (pending v)) m ∙ ap (behind_at mode (passing view)) found.1 in
     walk_next mode view statement found.1 ∙ past ∙ walk_same gone.0 way gone.1 new (sym (w ∙ ap (λ g. g.0) pair)) (sym (n ∙ ap (λ g. g.1) pair))
 
-open_here : (view : ScriptView) → is_running view ≡ true → has_open view ≡ true
-open_here view r = and_right (is_runnable view.script) (has_open view) r
+-- a view on its way runs where a statement was passed
+pub passed_running : (mode : Mode) (view mid : ScriptView) → view.passed < length (statements_of view) → mid ≡ passing view → IsWalking mode view → is_running mid ≡ true
+passed_running mode view mid h m w =
+    let found = found_at (statements_of view) view.passed h in
+    let n = nested_in view.script view.program (parts view.script w.runnable).nested in
+    subst (λ v. is_running v ≡ true) (sym m) (and_from (is_runnable view.script) (has_open (passing view)) w.runnable (passed_opens (statements_of view) mode view found.0 n found.1 w.fits))
 
--- it runs on where a statement was passed
-pub passed_running : (view mid : ScriptView) → mid ≡ passing view → is_running view ≡ true → is_running mid ≡ true
-passed_running view mid m r = subst (λ v. is_running v ≡ true) (sym m) (running_on view (passing view) r refl refl (next_open (statements_of view) view.passed view.rounds (open_here view r)))
-
--- and where that is behind
-pub record Behind (view new : ScriptView) : Type 0 where
-  pub running : is_running new ≡ true
-  pub statements : statements_of new ≡ statements_of view
+-- and where that is behind it is on its way
+pub record Behind (way : Mode) (view new : ScriptView) : Type 0 where
+  pub walking : IsWalking way new
   pub passed : new.passed ≡ suc view.passed
 
-opens_at : (list : List Statement) (passed : ℕ) (new : ScriptView) → new.passed ≡ passed → are_open list passed new.rounds ≡ true → are_open list new.passed new.rounds ≡ true
-opens_at list passed new e o = rw e o
-
-gone_running : (mode : Mode) (view : ScriptView) (statement : Statement) → slice_get (statements_of view) view.passed ≡ Some statement → is_running view ≡ true → Behind view (behind mode (passing view) statement).1
-gone_running mode view statement e r =
+gone_walking : (mode : Mode) (view : ScriptView) (statement : Statement) → slice_get (statements_of view) view.passed ≡ Some statement → IsWalking mode view → Behind (behind mode (passing view) statement).0 view (behind mode (passing view) statement).1
+gone_walking mode view statement e w =
     let gone = behind mode (passing view) statement in
     let k : Keeps (passing view) gone.1 = behind_keeps mode (passing view) statement in
-    let o = behind_open (statements_of view) mode view statement e (open_here view r) in
+    let n = nested_in view.script view.program (parts view.script w.runnable).nested in
     record {
-      running = running_on view gone.1 r k.script k.program (opens_at (statements_of view) (suc view.passed) gone.1 k.passed o);
-      statements = statements_kept (passing view) gone.1 k.script k.program;
+      walking = record {
+        runnable = subst (λ script. is_runnable script ≡ true) (sym k.script) w.runnable;
+        fits = subst (λ list. Fits list gone.0 gone.1) (sym (statements_kept (passing view) gone.1 k.script k.program)) (behind_fits (statements_of view) mode view statement gone.1 n e refl k.passed w.fits);
+      };
       passed = k.passed;
     }
 
-pub behind_running : (mode : Mode) (view mid new : ScriptView) → view.passed < length (statements_of view) → mid ≡ passing view → new ≡ (behind_at mode mid (pending mid)).1 → is_running view ≡ true → Behind view new
-behind_running mode view mid new h m n r =
+pub behind_walking : (mode way : Mode) (view mid new : ScriptView) → view.passed < length (statements_of view) → mid ≡ passing view → way ≡ (behind_at mode mid (pending mid)).0 → new ≡ (behind_at mode mid (pending mid)).1 → IsWalking mode view → Behind way view new
+behind_walking mode way view mid new h m e n w =
     let found = found_at (statements_of view) view.passed h in
     let gone = behind mode (passing view) found.0 in
     let pair : behind_at mode mid (pending mid) ≡ gone = ap (λ v. behind_at mode v (pending v)) m ∙ ap (behind_at mode (passing view)) found.1 in
-    subst (λ v. Behind view v) (sym (n ∙ ap (λ g. g.1) pair)) (gone_running mode view found.0 found.1 r)
+    subst (λ x. Behind x view new) (sym (e ∙ ap (λ g. g.0) pair)) (subst (λ v. Behind gone.0 view v) (sym (n ∙ ap (λ g. g.1) pair)) (gone_walking mode view found.0 found.1 w))
 
--- a loop that begins at the statement that was passed has a slot
-pub slot_there : (view mid : ScriptView) (rounds : Option Num) (slots : ℕ) → mid ≡ passing view → is_running view ≡ true → loops_in (statements_of view) ≤ slots → pending mid ≡ Some (statements.Loop rounds) → length mid.rounds < slots
-slot_there view mid rounds slots m r few e =
+-- a loop that begins at the statement that was passed is one of four
+pub few_there : (mode : Mode) (view mid : ScriptView) (rounds : Option Num) → mid ≡ passing view → IsWalking mode view → pending mid ≡ Some (statements.Loop rounds) → length mid.rounds < 4
+few_there mode view mid rounds m w e =
     let there : slice_get (statements_of view) view.passed ≡ Some (statements.Loop rounds) = ap pending (sym m) ∙ e in
-    let entered = open_entered (statements_of view) view.passed view.rounds None rounds there (open_here view r) in
-    let fits = open_fit (statements_of view) (suc view.passed) (record { first = suc view.passed; left = None } ∷ view.rounds) entered in
+    let n = nested_in view.script view.program (parts view.script w.runnable).nested in
+    let stands : Stands (blocks_at (statements_of view) view.passed) (blocks_at (statements_of view) (suc view.passed)) (statements.Loop rounds) = stands_at in_program (statements_of view) view.passed (statements.Loop rounds) n there in
+    let few = few_open (blocks_at (statements_of view) view.passed) rounds stands.stands in
+    let less = left_less mode (blocks_at (statements_of view) view.passed) in
+    let fits = w.fits.few in
     let same : length mid.rounds ≡ length view.rounds = ap (λ v. length v.rounds) m in
-    below (length mid.rounds) (length view.rounds) (loops_in (statements_of view)) slots same fits few
-  where
-    below : (a b c d : ℕ) → a ≡ b → suc b ≤ c → c ≤ d → a < d
-    below a b c d e f g = omega arith
+    omega arith
 
 drop_all : (xs : List Statement) (n : ℕ) → length xs ≤ n → drop n xs ≡ []
 drop_all [] zero h = refl

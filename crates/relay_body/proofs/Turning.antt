@@ -1,47 +1,33 @@
--- What is held stays consistent over each statement.
-use Rattle.std.proofs.Common.{◌≡◌, ◌≤◌, ℕ, suc, refl, ap, ◌∙◌, arith}
-use Rattle.dill_meaning.specs.Views.{statements_of, pending}
+-- What is held goes on its way over each statement.
+use Rattle.std.proofs.Common.{◌≡◌, ℕ, suc, true, sym, ap, subst}
+use Rattle.std.proofs.lemmas.Bool.{and_from}
+use Rattle.dill_meaning.specs.Views.{pending, statements_of}
 use Rattle.dill_meaning.specs.Walks as walks
-use Rattle.dill_meaning.specs.Walks.{passing, walk}
 use Rattle.relay_body.specs.declared.held.Held.{Held}
-use Rattle.relay_body.specs.Running.{loops_in}
+use Rattle.relay_body.specs.Depths.{IsWalking}
+use Rattle.relay_body.specs.Opened.{stopped_opens}
+use Rattle.relay_body.specs.Running.{has_open, is_runnable, is_running}
 use Rattle.relay_body.specs.Seen.{seen}
 use Rattle.relay_body.specs.Steps.{HasSlot}
-use Rattle.relay_body.specs.Stopping.{Consistent, PassedOne, behind_at}
-use Rattle.relay_body.proofs.Stepping.{Behind, passed_running, behind_running, slot_there}
+use Rattle.relay_body.specs.Stopping.{PassedOne, behind_at}
+use Rattle.relay_body.proofs.Stepping.{Behind, passed_running, behind_walking, few_there}
 
-slots_stay : (a b c d : ℕ) → a ≡ b → b ≤ c → d ≡ c → a ≤ d
-slots_stay a b c d e h f = omega arith
-
--- what is held is consistent where a statement was passed
-pub consistent_passed : (old mid : Held) → Consistent old → PassedOne old mid → Consistent mid
-consistent_passed old mid s p = record {
-  running = passed_running (seen old) (seen mid) p.view s.running;
-  slots = slots_stay (loops_in (statements_of (seen mid))) (loops_in (statements_of (seen old))) old.rounds.slots mid.rounds.slots (ap (λ v. loops_in (statements_of v)) p.view) s.slots p.slots;
-}
+-- what is held runs where a statement was passed
+pub passed_runs : (mode : walks.Mode) (old mid : Held) → IsWalking mode (seen old) → PassedOne old mid → is_running (seen mid) ≡ true
+passed_runs mode old mid w p = passed_running mode (seen old) (seen mid) p.there p.view w
 
 -- and has a slot for the loop that begins there
-pub has_slot : (old mid : Held) → Consistent old → PassedOne old mid → HasSlot mid
-has_slot old mid s p rounds e = slot_there (seen old) (seen mid) rounds mid.rounds.slots p.view s.running (slots_stay (loops_in (statements_of (seen old))) (loops_in (statements_of (seen old))) old.rounds.slots mid.rounds.slots refl s.slots p.slots) e
+pub has_slot : (mode : walks.Mode) (old mid : Held) → IsWalking mode (seen old) → PassedOne old mid → HasSlot mid
+has_slot mode old mid w p rounds e = few_there mode (seen old) (seen mid) rounds p.view w e
 
 -- one more is behind
 pub one_more : (old mid : Held) → PassedOne old mid → mid.passed ≡ suc old.passed
 one_more old mid p = ap (λ v. v.passed) p.view
 
--- what is held behind a statement
-pub record Onward (old new : Held) : Type 0 where
-  pub consistent : Consistent new
-  pub statements : statements_of (seen new) ≡ statements_of (seen old)
-  pub passed : new.passed ≡ suc old.passed
+-- and it is on its way behind that
+pub onward : (old mid new : Held) (mode way : walks.Mode) → IsWalking mode (seen old) → PassedOne old mid → way ≡ (behind_at mode (seen mid) (pending (seen mid))).0 → seen new ≡ (behind_at mode (seen mid) (pending (seen mid))).1 → Behind way (seen old) (seen new)
+onward old mid new mode way w p e v = behind_walking mode way (seen old) (seen mid) (seen new) p.there p.view e v w
 
-pub onward : (old mid new : Held) (mode : walks.Mode) → Consistent old → PassedOne old mid → seen new ≡ (behind_at mode (seen mid) (pending (seen mid))).1 → new.rounds.slots ≡ mid.rounds.slots → Onward old new
-onward old mid new mode s p v e =
-    let b : Behind (seen old) (seen new) = behind_running mode (seen old) (seen mid) (seen new) p.there p.view v s.running in
-    record {
-      consistent = record {
-        running = b.running;
-        slots = slots_stay (loops_in (statements_of (seen new))) (loops_in (statements_of (seen old))) old.rounds.slots new.rounds.slots (ap loops_in b.statements) s.slots (e ∙ p.slots);
-      };
-      statements = b.statements;
-      passed = b.passed;
-    }
+-- what is held runs where its walk ends
+pub ended_runs : (mode : walks.Mode) (old new : Held) → IsWalking mode (seen old) → new ≡ old → is_running (seen new) ≡ true
+ended_runs mode old new w e = subst (λ held. is_running (seen held) ≡ true) (sym e) (and_from (is_runnable (seen old).script) (has_open (seen old)) w.runnable (stopped_opens (statements_of (seen old)) mode (seen old) (pending (seen old)) w.fits))

@@ -12,6 +12,7 @@ use Rattle.dill_script.specs.declared.script.Program.{Program}
 use Rattle.dill_script.specs.declared.statement.Statement.{Statement}
 use Rattle.dill_script.specs.declared.statement.Statement.TheVariants as statements
 use Rattle.dill_script.specs.Fitting.{all_say}
+use Rattle.dill_script.specs.Nesting.{nests, in_program}
 use Rattle.dill_meaning.specs.Meaning.{scripts, kept, appended, moved, short, is_real}
 use Rattle.dill_meaning.specs.Values.{bytes_value}
 use Rattle.dill_meaning.specs.Views.{ScriptView, statements_of, ahead, pending}
@@ -19,23 +20,24 @@ use Rattle.dill_meaning.specs.Walks.{stop_of, given, join_fault}
 use Rattle.dill_meaning.proofs.Given.{GoesFrom, given_goes}
 use Rattle.dill_meaning.proofs.Lawful.{scripts_lawful}
 use Rattle.dill_meaning.proofs.Walking.{statements_kept}
-use Rattle.relay_body.specs.Running.{says_plain, is_runnable, has_open, is_running, running}
-use Rattle.relay_body.specs.Answered.{Opens, given_opens}
+use Rattle.relay_body.specs.Running.{says_plain, is_runnable, opens_in, has_open, is_running, running}
+use Rattle.relay_body.specs.Answered.{Opens, given_fits}
 use Rattle.relay_body.specs.Bools.{and_left, and_right}
+use Rattle.relay_body.specs.Opened.{nested_in}
 use Rattle.relay_body.specs.Plainly.{says_makes}
 use Rattle.relay_body.specs.Runnable.{Runnable, runs, pending_says}
 use Rattle.relay_body.specs.Walked.{Stops, MadeThere, walk_stops}
 
 -- where a turn stops
-pub turn_stops : (view : ScriptView) (answer : Answer) → has_open view ≡ true → Stops (statements_of view) view (stop_of view answer)
-turn_stops view answer o =
+pub turn_stops : (view : ScriptView) (answer : Answer) → nests in_program (statements_of view) ≡ true → has_open view ≡ true → Stops (statements_of view) view (stop_of view answer)
+turn_stops view answer n o =
     let gone = given view answer (pending view) in
     let g : GoesFrom view answer (pending view) gone.1 = given_goes view answer (pending view) in
-    let s : Stops (statements_of view) gone.1 (stop_of view answer) = walk_stops (statements_of view) gone.0 gone.1 (ahead gone.1) (statements_kept view gone.1 g.script g.program) refl (given_opens (statements_of view) view answer (pending view) o) in
+    let s : Stops (statements_of view) gone.1 (stop_of view answer) = walk_stops (statements_of view) gone.0 gone.1 (ahead gone.1) n (statements_kept view gone.1 g.script g.program) refl (given_fits (statements_of view) view answer o) in
     record { script = s.script ∙ g.script; program = s.program ∙ g.program; opens = s.opens; made = s.made }
 
 open_of : (list : List Statement) (new : ScriptView) → statements_of new ≡ list → Opens list new → has_open new ≡ true
-open_of list new e o = rw e o
+open_of list new e o = subst (λ xs. opens_in xs new ≡ true) (sym e) o
 
 runnable_same : (s t : List Program) → s ≡ t → is_runnable t ≡ true → is_runnable s ≡ true
 runnable_same s t e r = rw e r
@@ -64,7 +66,7 @@ moves_on old answer new (Some (statement, call)) e r m = (m.0, goes_on old answe
 
 stop_running : (view : ScriptView) (answer : Answer) → is_running view ≡ true → is_running (stop_of view answer).view ≡ true
 stop_running view answer r =
-    let s : Stops (statements_of view) view (stop_of view answer) = turn_stops view answer (and_right (is_runnable view.script) (has_open view) r) in
+    let s : Stops (statements_of view) view (stop_of view answer) = turn_stops view answer (nested_in view.script view.program (runs view r).nested) (and_right (is_runnable view.script) (has_open view) r) in
     running_on view (stop_of view answer).view r s.script s.program s.opens
 
 real_of : (view : ScriptView) → is_running view ≡ true → is_real view ≡ true
@@ -93,6 +95,6 @@ move_plain view new (Some (statement, call)) a m = says_makes new statement call
 -- and make plain calls alone
 pub running_plain : MakesPlain running
 running_plain view answer r some =
-    let s : Stops (statements_of view) view (stop_of view answer) = turn_stops view answer (and_right (is_runnable view.script) (has_open view) r) in
+    let s : Stops (statements_of view) view (stop_of view answer) = turn_stops view answer (nested_in view.script view.program (runs view r).nested) (and_right (is_runnable view.script) (has_open view) r) in
     let p : Runnable view.script = runs view r in
     move_plain view (stop_of view answer).view (stop_of view answer).made (says_same view (stop_of view answer).view s.script p.plain) s.made

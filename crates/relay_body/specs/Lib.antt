@@ -2,6 +2,7 @@ pub mod Answered
 pub mod Beginning
 pub mod Bools
 pub mod Building
+pub mod Depths
 pub mod Lawful
 pub mod Modes
 pub mod Opened

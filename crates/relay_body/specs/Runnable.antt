@@ -1,9 +1,11 @@
 -- What a script that can be run promises.
 use Rattle.std.proofs.Common.{◌≡◌, ◌≤◌, ℕ, zero, suc, List, length, slice_get, ◌&&◌, Bool, true, Some, refl, nat_le}
+use Rattle.std.proofs.lemmas.Bool.{and_parts}
 use Rattle.std.specs.List.{list_all}
 use Rattle.dill_script.specs.declared.script.Program.{Program}
 use Rattle.dill_script.specs.declared.statement.Statement.{Statement}
 use Rattle.dill_script.specs.Fitting.{is_formed, all_say}
+use Rattle.dill_script.specs.Nesting.{is_nested}
 use Rattle.dill_script.specs.Spelling.{is_sized, takes_its}
 use Rattle.dill_meaning.specs.Views.{ScriptView, statements_of, pending, last_of}
 use Rattle.dill_meaning.proofs.Reached.{one_says}
@@ -15,6 +17,7 @@ pub record Runnable (script : List Program) : Type 0 where
   pub few : length script ≤ 256
   pub sized : list_all is_sized script ≡ true
   pub takes : list_all takes_its script ≡ true
+  pub nested : list_all is_nested script ≡ true
   pub formed : all_say is_formed script ≡ true
   pub plain : all_say says_plain script ≡ true
 
@@ -24,18 +27,15 @@ parts script r =
     let a = nat_le (length script) 256 in
     let b = list_all is_sized script in
     let c = list_all takes_its script in
-    let d = all_say is_formed script in
-    let e = all_say says_plain script in
-    let bcde : (b && (c && (d && e))) ≡ true = and_right a (b && (c && (d && e))) r in
-    let cde : (c && (d && e)) ≡ true = and_right b (c && (d && e)) bcde in
-    let de : (d && e) ≡ true = and_right c (d && e) cde in
-    record {
-      few = le_of (length script) 256 (and_left a (b && (c && (d && e))) r);
-      sized = and_left b (c && (d && e)) bcde;
-      takes = and_left c (d && e) cde;
-      formed = and_left d e de;
-      plain = and_right d e de;
-    }
+    let d = list_all is_nested script in
+    let e = all_say is_formed script in
+    let f = all_say says_plain script in
+    let bs = and_parts a (b && (c && (d && (e && f)))) r in
+    let cs = and_parts b (c && (d && (e && f))) bs.1 in
+    let ds = and_parts c (d && (e && f)) cs.1 in
+    let es = and_parts d (e && f) ds.1 in
+    let fs = and_parts e f es.1 in
+    record { few = le_of (length script) 256 bs.0; sized = cs.0; takes = ds.0; nested = es.0; formed = fs.0; plain = fs.1 }
 
 -- the script of a view that is running
 pub runs : (view : ScriptView) → is_running view ≡ true → Runnable view.script

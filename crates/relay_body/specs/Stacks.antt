@@ -1,13 +1,8 @@
--- The loops that a coroutine has open, and the slots for them.
+-- The loops that a coroutine has entered.
 use Rattle.std.specs.Prelude.{ℕ, List, [], ◌∷◌, Option, Some, None}
 use Rattle.dill_meaning.specs.Effects.{one_less}
 use Rattle.dill_meaning.specs.Views.{Round}
 use Rattle.relay_body.specs.declared.rounds.OpenLoop.{OpenLoop}
-
--- the loops that are open, innermost first, and for how many there are slots
-pub record Stack : Type 0 where
-  pub open_loops : List Round
-  pub slots : ℕ
 
 -- a slot that is taken
 abbrev pub round_of : OpenLoop → Round

@@ -12,11 +12,10 @@ use Rattle.relay_body.specs.declared.mode.Mode.{Mode}
 use Rattle.relay_body.specs.Modes.{meant, depth_of}
 use Rattle.relay_body.specs.Seen.{seen}
 
--- what is held goes on with this mode and this view, and with as many slots for loops as before
-pub record Goes (old new : Held) (mode : Mode) (gone : walks.Mode × ScriptView) : Type 0 where
+-- what is held goes on with this mode and this view
+pub record Goes (new : Held) (mode : Mode) (gone : walks.Mode × ScriptView) : Type 0 where
   pub way : meant mode ≡ gone.0
   pub view : seen new ≡ gone.1
-  pub slots : new.rounds.slots ≡ old.rounds.slots
   -- no block began on the way yet
   pub depth : depth_of mode ≡ 0
 
@@ -27,7 +26,7 @@ ran view (Some statement) = run view statement
 
 -- where the last statement begins a loop, there is a slot for it
 abbrev pub HasSlot : Held → Type 0
-HasSlot held = (rounds : Option Num) → pending (seen held) ≡ Some (statements.Loop rounds) → length held.rounds.open_loops < held.rounds.slots
+HasSlot held = (rounds : Option Num) → pending (seen held) ≡ Some (statements.Loop rounds) → length held.rounds < 4
 
 -- how it goes on from the statement whose call was answered
 abbrev pub answered : ScriptView → Answer → walks.Mode × ScriptView

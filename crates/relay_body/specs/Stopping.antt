@@ -16,19 +16,12 @@ use Rattle.dill_meaning.specs.Walks.{Stop, behind, call_at, passing, walk}
 use Rattle.relay_body.specs.declared.held.Held.{Held}
 use Rattle.relay_body.specs.declared.mode.Mode.{Mode}
 use Rattle.relay_body.specs.Modes.{meant}
-use Rattle.relay_body.specs.Running.{is_running, loops_in}
 use Rattle.relay_body.specs.Seen.{seen}
-
--- what is held between two statements: a view that is running, and a slot for each loop that is written
-pub record Consistent (held : Held) : Type 0 where
-  pub running : is_running (seen held) ≡ true
-  pub slots : loops_in (statements_of (seen held)) ≤ held.rounds.slots
 
 -- a statement more is behind
 pub record PassedOne (old new : Held) : Type 0 where
   pub there : old.passed < length (statements_of (seen old))
   pub view : seen new ≡ passing (seen old)
-  pub slots : new.rounds.slots ≡ old.rounds.slots
 
 -- the next statement is passed, or none is ahead
 abbrev pub Passes : Held → Held → Bool → Type 0
@@ -61,22 +54,21 @@ made_in walks.Runs view = made_at view true
 made_in mode view = None
 
 -- a walk leads here
-pub record WalksTo (old new : Held) (mode : Mode) (stopped : Bool) : Type 0 where
-  pub stop : walk (meant mode) (seen old) (ahead (seen old)) ≡ record { view = seen new; made = made_at (seen new) stopped }
-  pub slots : new.rounds.slots ≡ old.rounds.slots
+abbrev pub WalksTo : Held → Held → Mode → Bool → Type 0
+WalksTo old new mode stopped = walk (meant mode) (seen old) (ahead (seen old)) ≡ record { view = seen new; made = made_at (seen new) stopped }
 
 -- a call is made, or memory for it was refused
 abbrev pub MakesOne : Held → Held → Next → Type 0
-MakesOne old new (nexts.Call call) = (moved (seen old) (made_at (seen old) true) ≡ (seen new, Calls call)) × (new.rounds.slots ≡ old.rounds.slots)
+MakesOne old new (nexts.Call call) = moved (seen old) (made_at (seen old) true) ≡ (seen new, Calls call)
 MakesOne old new (nexts.Lack word) = (build_takes_memory word ≡ true) × (moved_word (moved (seen old) (made_at (seen old) true)).1 ≡ Some word) × (new ≡ old)
 MakesOne old new (nexts.End outcome) = ⊥
 
 -- a copy of bytes was put in a register, or there was no memory for it
 abbrev pub Keeps : Held → Held → ℕ → Result (List ℕ) NoMemory → Next → Type 0
-Keeps old new place (Ok value) next = (next ≡ nexts.Call (Pass Set None)) × (seen new ≡ with_bytes (seen old) place value) × (new.rounds.slots ≡ old.rounds.slots)
+Keeps old new place (Ok value) next = (next ≡ nexts.Call (Pass Set None)) × (seen new ≡ with_bytes (seen old) place value)
 Keeps old new place (Err lack) next = (next ≡ nexts.Lack Set) × (new ≡ old)
 
 -- a copy of bytes was put behind those in a register, or there was no memory for that
 abbrev pub Joins : Held → Held → ℕ → Result (List ℕ) NoMemory → Next → Type 0
-Joins old new place (Ok more) next = ((next ≡ nexts.Call (Pass Join None)) × (seen new ≡ with_bytes (seen old) place (bytes_in (seen old) place ++ more)) × (new.rounds.slots ≡ old.rounds.slots)) ⊎ ((next ≡ nexts.Lack Join) × (new ≡ old))
+Joins old new place (Ok more) next = ((next ≡ nexts.Call (Pass Join None)) × (seen new ≡ with_bytes (seen old) place (bytes_in (seen old) place ++ more))) ⊎ ((next ≡ nexts.Lack Join) × (new ≡ old))
 Joins old new place (Err lack) next = (next ≡ nexts.Lack Join) × (new ≡ old)

@@ -16,7 +16,7 @@ use std::marker::Model;
 use std::rc::Rc;
 
 /// A coroutine that runs a program of a script. It holds the script, its place, its registers and the loops that it has
-/// open.
+/// entered.
 #[derive(Drop)]
 pub struct ScriptBody {
     held: Held,
@@ -24,14 +24,15 @@ pub struct ScriptBody {
 
 impl Model for ScriptBody {
     ghost use Rattle.dill_meaning.specs.Views.{ScriptView};
+    ghost use Rattle.std.specs.Prelude.{◌≡◌, true};
+    ghost use Rattle.relay_body.specs.Running.{is_running};
     ghost use Rattle.relay_body.specs.Seen.{seen};
-    ghost use Rattle.relay_body.specs.Stopping.{Consistent};
 
     ghost Value = { ScriptView };
 
     ghost view = { λ b. seen b.held };
 
-    ghost invariant = { λ b. Consistent b.held };
+    ghost invariant = { λ b. is_running (seen b.held) ≡ true };
 }
 
 /// Whether a statement makes a call.
@@ -61,7 +62,8 @@ fn places(list: &[Statement]) -> u64
 }
 
 impl ScriptBody {
-    /// `main` of a script before its first turn. The script is within its limits, and its calls are formed and plain.
+    /// `main` of a script before its first turn. The script is within its limits, its blocks are nested, and its calls are
+    /// formed and plain.
     pub fn first(alloc: Global, script: Rc<Script>) -> Result<ScriptBody, NoMemory>
         requires { is_runnable (rc_value script) ≡ true }
         ensures { IfOk result (λ body. body ≡ main_of (rc_value script)) }

@@ -3,7 +3,7 @@ ghost use Rattle.dill_calls.specs.declared.answer.Answer.TheVariants as answers;
 ghost use Rattle.dill_script.specs.declared.operand.Dest.TheVariants as dests;
 ghost use Rattle.dill_meaning.specs.Effects.{put, fault_in, again};
 ghost use Rattle.dill_meaning.specs.Walks.{settled, looped};
-ghost use Rattle.relay_body.specs.Seen.{seen, Becomes};
+ghost use Rattle.relay_body.specs.Seen.{seen};
 ghost use Rattle.relay_body.specs.Steps.{Goes, answered};
 
 use crate::held::Held;
@@ -26,7 +26,7 @@ fn fault_in(answer: &Answer) -> Option<Errno>
 impl Held {
     /// Puts an answer in its registers, one after the other. What has another form is not put.
     fn put(&mut self, dest: Option<Dest>, answer: Answer)
-        ensures { Becomes self.old self.new (put (seen self.old) dest answer) }
+        ensures { seen self.new ≡ put (seen self.old) dest answer }
     {
         match dest {
             Some(Dest::Number(place)) => self.put_number(place, answer),
@@ -39,7 +39,7 @@ impl Held {
     }
 
     fn put_number(&mut self, place: u8, answer: Answer)
-        ensures { Becomes self.old self.new (put (seen self.old) (Some (dests.Number place)) answer) }
+        ensures { seen self.new ≡ put (seen self.old) (Some (dests.Number place)) answer }
     {
         if let Answer::Number(value) = answer {
             self.set_number(place, value);
@@ -47,7 +47,7 @@ impl Held {
     }
 
     fn put_pair(&mut self, first: u8, second: u8, answer: Answer)
-        ensures { Becomes self.old self.new (put (seen self.old) (Some (dests.Pair first second)) answer) }
+        ensures { seen self.new ≡ put (seen self.old) (Some (dests.Pair first second)) answer }
     {
         if let Answer::Pair(a, b) = answer {
             self.set_number(first, a);
@@ -56,7 +56,7 @@ impl Held {
     }
 
     fn put_bytes(&mut self, place: u8, answer: Answer)
-        ensures { Becomes self.old self.new (put (seen self.old) (Some (dests.Bytes place)) answer) }
+        ensures { seen self.new ≡ put (seen self.old) (Some (dests.Bytes place)) answer }
     {
         if let Answer::Bytes(value) = answer {
             self.set_bytes(place, value);
@@ -64,7 +64,7 @@ impl Held {
     }
 
     fn put_two(&mut self, first: u8, second: u8, answer: Answer)
-        ensures { Becomes self.old self.new (put (seen self.old) (Some (dests.Two first second)) answer) }
+        ensures { seen self.new ≡ put (seen self.old) (Some (dests.Two first second)) answer }
     {
         if let Answer::Two(a, b) = answer {
             self.set_bytes(first, a);
@@ -74,7 +74,7 @@ impl Held {
 
     /// A choice without bytes leaves its byte register as it was.
     fn put_mixed(&mut self, first: u8, second: u8, answer: Answer)
-        ensures { Becomes self.old self.new (put (seen self.old) (Some (dests.Mixed first second)) answer) }
+        ensures { seen self.new ≡ put (seen self.old) (Some (dests.Mixed first second)) answer }
     {
         match answer {
             Answer::Coded(code, value) => {
@@ -93,7 +93,7 @@ impl Held {
 
     /// With `try` the fault, or none, becomes `err`; without it a fault leads to `finally`.
     fn settle(&mut self, tried: bool, fault: Option<Errno>) -> Mode
-        ensures { Goes self.old self.new result (settled tried (seen self.old) fault) }
+        ensures { Goes self.new result (settled tried (seen self.old) fault) }
     {
         if tried {
             self.err = fault;
@@ -104,7 +104,7 @@ impl Held {
 
     /// A fault leads to `finally`.
     fn go_on(&mut self, fault: Option<Errno>) -> Mode
-        ensures { Goes self.old self.new result (settled false (seen self.old) fault) }
+        ensures { Goes self.new result (settled false (seen self.old) fault) }
     {
         match fault {
             Some(errno) => {
@@ -117,7 +117,7 @@ impl Held {
 
     /// To the first statement of the innermost loop, for its next round.
     fn again(&mut self)
-        ensures { Becomes self.old self.new (again (seen self.old) (seen self.old).rounds) }
+        ensures { seen self.new ≡ again (seen self.old) (seen self.old).rounds }
     {
         if let Some(first) = self.rounds.again() {
             self.passed = first;
@@ -126,7 +126,7 @@ impl Held {
 
     /// The `end` of a loop leads to its next round, a fault to `finally`.
     fn end_round(&mut self, fault: Option<Errno>) -> Mode
-        ensures { Goes self.old self.new result (looped (seen self.old) fault) }
+        ensures { Goes self.new result (looped (seen self.old) fault) }
     {
         match fault {
             Some(errno) => {
@@ -142,7 +142,7 @@ impl Held {
 
     /// Takes the answer of the call that was made last.
     pub(crate) fn receive(&mut self, given: Answer) -> Mode
-        ensures { Goes self.old self.new result (answered (seen self.old) given) }
+        ensures { Goes self.new result (answered (seen self.old) given) }
     {
         let fault = fault_in(&given);
         let Some(statement) = self.pending() else {

@@ -1,8 +1,7 @@
 ghost use Rattle.std.specs.Prelude.{◌≡◌, ◌≤◌, ◌-◌, ◌++◌, length, replicate, slice_get, Some, None, MatchOption, IfOk};
 ghost use Rattle.std.specs.Rc.{rc_value};
-ghost use Rattle.dill_meaning.specs.Views.{statements_in, statements_of, ahead, pending, number_in, bytes_in, with_number, with_bytes};
-ghost use Rattle.relay_body.specs.Running.{is_loop_line, loops_in};
-ghost use Rattle.relay_body.specs.Seen.{seen, Becomes, Begun};
+ghost use Rattle.dill_meaning.specs.Views.{beginning, statements_in, statements_of, ahead, pending, number_in, bytes_in, with_number, with_bytes};
+ghost use Rattle.relay_body.specs.Seen.{seen};
 
 use crate::rounds::Rounds;
 use crate::texts::Texts;
@@ -37,26 +36,6 @@ fn statements_in(script: &Script, program: u32) -> &[Statement]
     }
 }
 
-/// Whether it is the line that begins a loop.
-fn is_loop_line(statement: &Statement) -> bool
-    ensures { result ≡ is_loop_line statement.now }
-{
-    matches!(statement, Statement::Loop(_))
-}
-
-/// How many loops are written.
-fn loops_in(list: &[Statement]) -> usize
-    ensures { result ≡ loops_in list.now }
-{
-    let mut count = 0;
-    for statement in list {
-        if is_loop_line(statement) {
-            count += 1;
-        }
-    }
-    count
-}
-
 /// The arguments in the first registers, and 0 in the others.
 fn registers_of(args: &[u64]) -> [u64; 16]
     requires { length args.now ≤ 16 }
@@ -76,11 +55,9 @@ impl Held {
         args: &[u64],
     ) -> Result<Held, NoMemory>
         requires { length args.now ≤ 16 }
-        ensures { IfOk result (λ held. Begun held (rc_value script) program args.now) }
+        ensures { IfOk result (λ held. seen held ≡ beginning (rc_value script) program args.now) }
     {
-        let loops = loops_in(statements_in(&script, program));
         let texts = Texts::new(alloc)?;
-        let rounds = Rounds::new(alloc, loops)?;
         Ok(Held {
             alloc,
             script,
@@ -89,7 +66,7 @@ impl Held {
             numbers: registers_of(args),
             texts,
             err: None,
-            rounds,
+            rounds: Rounds::new(),
             outcome: None,
         })
     }
@@ -141,7 +118,7 @@ impl Held {
 
     /// Another number in a register.
     pub(crate) fn set_number(&mut self, place: u8, value: u64)
-        ensures { Becomes self.old self.new (with_number (seen self.old) place value) }
+        ensures { seen self.new ≡ with_number (seen self.old) place value }
     {
         if usize::from(place) < self.numbers.len() {
             self.numbers[usize::from(place)] = value;
@@ -150,7 +127,7 @@ impl Held {
 
     /// Other bytes in a register.
     pub(crate) fn set_bytes(&mut self, place: u8, value: Octets)
-        ensures { Becomes self.old self.new (with_bytes (seen self.old) place value) }
+        ensures { seen self.new ≡ with_bytes (seen self.old) place value }
     {
         self.texts.set(place, value);
     }

@@ -1,12 +1,10 @@
-ghost use Rattle.std.specs.Prelude.{◌≡◌, ◌<◌, ◌∷◌, [], length, IfOk};
+ghost use Rattle.std.specs.Prelude.{◌≡◌, ◌<◌, ◌∷◌, [], length};
 ghost use Rattle.dill_meaning.specs.Effects.{outside, has_round, one_less};
 ghost use Rattle.relay_body.specs.Stacks.{first_of, round_less};
 
-use dill_base::NoMemory;
-use std::alloc::Global;
 use std::marker::Model;
 
-/// A loop that is open: how many statements stand before its first, and how many rounds are to come behind this one,
+/// A loop that is entered: how many statements stand before its first, and how many rounds are to come behind this one,
 /// none of a loop without end.
 #[derive(Clone, Copy)]
 pub(crate) struct OpenLoop {
@@ -14,51 +12,46 @@ pub(crate) struct OpenLoop {
     left: Option<u64>,
 }
 
-/// The loops that are open, in a fixed number of slots: those from `from` on hold them, innermost first.
+/// How deep loops nest in a script at most.
+const DEEPEST: usize = 4;
+
+/// The loops that are entered, in four slots: those from `from` on hold them, innermost first.
 #[derive(Drop)]
 pub(crate) struct Rounds {
-    slots: Vec<OpenLoop>,
+    slots: [OpenLoop; DEEPEST],
     from: usize,
 }
 
 impl Model for Rounds {
-    ghost use Rattle.std.specs.Prelude.{◌≤◌, length, drop, map};
-    ghost use Rattle.relay_body.specs.Stacks.{Stack, round_of};
+    ghost use Rattle.std.specs.Prelude.{◌≤◌, List, drop, map};
+    ghost use Rattle.dill_meaning.specs.Views.{Round};
+    ghost use Rattle.relay_body.specs.Stacks.{round_of};
 
-    ghost Value = { Stack };
+    ghost Value = { List Round };
 
-    ghost view = { λ r. record { open_loops = map round_of (drop r.from r.slots.items); slots = length r.slots.items } };
+    ghost view = { λ r. map round_of (drop r.from r.slots) };
 
-    ghost invariant = { λ r. r.from ≤ length r.slots.items };
+    ghost invariant = { λ r. r.from ≤ 4 };
 }
 
 impl Rounds {
-    /// No open loops, and so many slots.
-    pub(crate) fn new(alloc: Global, slots: usize) -> Result<Rounds, NoMemory>
-        ensures { IfOk result (λ r. r ≡ record { open_loops = []; slots = slots }) }
+    /// No loop is entered.
+    pub(crate) fn new() -> Rounds
+        ensures { result ≡ [] }
     {
-        let mut made = Vec::new(alloc);
-        for _index in 0..slots {
-            if made
-                .push(OpenLoop {
-                    first: 0,
-                    left: None,
-                })
-                .is_err()
-            {
-                return Err(NoMemory);
-            }
+        Rounds {
+            slots: [OpenLoop {
+                first: 0,
+                left: None,
+            }; DEEPEST],
+            from: DEEPEST,
         }
-        Ok(Rounds {
-            slots: made,
-            from: slots,
-        })
     }
 
     /// Opens a loop inside the others.
     pub(crate) fn open(&mut self, first: usize, left: Option<u64>)
-        requires { length self.old.open_loops < self.old.slots }
-        ensures { self.new ≡ record { open_loops = record { first = first; left = left } ∷ self.old.open_loops; slots = self.old.slots } }
+        requires { length self.old < 4 }
+        ensures { self.new ≡ record { first = first; left = left } ∷ self.old }
     {
         self.from -= 1;
         self.slots[self.from] = OpenLoop { first, left };
@@ -66,7 +59,7 @@ impl Rounds {
 
     /// Leaves the innermost loop.
     pub(crate) fn close(&mut self)
-        ensures { self.new ≡ record { open_loops = outside self.old.open_loops; slots = self.old.slots } }
+        ensures { self.new ≡ outside self.old }
     {
         if self.from < self.slots.len() {
             self.from += 1;
@@ -75,14 +68,14 @@ impl Rounds {
 
     /// Leaves all loops.
     pub(crate) fn clear(&mut self)
-        ensures { self.new ≡ record { open_loops = []; slots = self.old.slots } }
+        ensures { self.new ≡ [] }
     {
         self.from = self.slots.len();
     }
 
     /// Whether the innermost loop has a round left.
     pub(crate) fn has_round(&self) -> bool
-        ensures { result ≡ has_round self.now.open_loops }
+        ensures { result ≡ has_round self.now }
     {
         match self.slots.get(self.from) {
             Some(slot) => match slot.left {
@@ -95,8 +88,8 @@ impl Rounds {
 
     /// Begins the next round of the innermost loop, and answers how many statements stand before its first.
     pub(crate) fn again(&mut self) -> Option<usize>
-        ensures first { result ≡ first_of self.old.open_loops }
-        ensures after { self.new ≡ record { open_loops = round_less self.old.open_loops; slots = self.old.slots } }
+        ensures first { result ≡ first_of self.old }
+        ensures after { self.new ≡ round_less self.old }
     {
         if self.from == self.slots.len() {
             return None;

@@ -2,7 +2,7 @@ ghost use Rattle.std.specs.Prelude.{◌≡◌, ◌<◌, length};
 ghost use Rattle.dill_meaning.specs.Effects.{sum_of, entering, exiting, leaving};
 ghost use Rattle.dill_meaning.specs.Views.{pending};
 ghost use Rattle.dill_meaning.specs.Walks.{begin_loop};
-ghost use Rattle.relay_body.specs.Seen.{seen, Becomes};
+ghost use Rattle.relay_body.specs.Seen.{seen};
 ghost use Rattle.relay_body.specs.Steps.{Goes, HasSlot, ran};
 
 use crate::held::Held;
@@ -23,7 +23,7 @@ fn sum_of(a: u64, b: u64) -> u64
 impl Held {
     /// To `finally`, or behind it to the end: no loop is open any more, and the first errno stays.
     pub(crate) fn leave(&mut self, errno: Option<Errno>)
-        ensures { Becomes self.old self.new (leaving (seen self.old) errno) }
+        ensures { seen self.new ≡ leaving (seen self.old) errno }
     {
         self.rounds.clear();
         if self.outcome.is_none() {
@@ -33,23 +33,23 @@ impl Held {
 
     /// Into a loop, whose first statement is the next.
     fn enter(&mut self, left: Option<u64>)
-        requires { length self.old.rounds.open_loops < self.old.rounds.slots }
-        ensures { Becomes self.old self.new (entering (seen self.old) left) }
+        requires { length self.old.rounds < 4 }
+        ensures { seen self.new ≡ entering (seen self.old) left }
     {
         self.rounds.open(self.passed, left);
     }
 
     /// Out of the innermost loop.
     fn exit(&mut self)
-        ensures { Becomes self.old self.new (exiting (seen self.old)) }
+        ensures { seen self.new ≡ exiting (seen self.old) }
     {
         self.rounds.close();
     }
 
     /// Into a loop of so many rounds, or past it where there are none.
     fn begin_loop(&mut self, rounds: u64) -> Mode
-        requires { length self.old.rounds.open_loops < self.old.rounds.slots }
-        ensures { Goes self.old self.new result (begin_loop (seen self.old) rounds) }
+        requires { length self.old.rounds < 4 }
+        ensures { Goes self.new result (begin_loop (seen self.old) rounds) }
     {
         if rounds == 0 {
             return Mode::ToEndLoop(0);
@@ -61,7 +61,7 @@ impl Held {
     /// Runs the statement that was passed last, which makes no call.
     pub(crate) fn run(&mut self) -> Mode
         requires { HasSlot self.old }
-        ensures { Goes self.old self.new result (ran (seen self.old) (pending (seen self.old))) }
+        ensures { Goes self.new result (ran (seen self.old) (pending (seen self.old))) }
     {
         let Some(statement) = self.pending() else {
             return Mode::Runs;

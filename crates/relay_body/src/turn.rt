@@ -2,11 +2,12 @@ ghost use Rattle.std.specs.Prelude.{◌≡◌, ◌≤◌, ◌<◌, ◌+◌, leng
 ghost use Rattle.dill_calls.specs.Program.{Turns};
 ghost use Rattle.dill_meaning.specs.Views.{pending, statements_of};
 ghost use Rattle.dill_meaning.specs.Walks.{join_fault};
+ghost use Rattle.relay_body.specs.Depths.{IsWalking};
 ghost use Rattle.relay_body.specs.Modes.{meant, depth_of};
 ghost use Rattle.relay_body.specs.Running.{is_running, running};
 ghost use Rattle.relay_body.specs.Seen.{seen};
 ghost use Rattle.relay_body.specs.Steps.{HasSlot};
-ghost use Rattle.relay_body.specs.Stopping.{Consistent, Passes, behind_at, made_at, made_in, WalksTo, MakesOne, Keeps, Joins};
+ghost use Rattle.relay_body.specs.Stopping.{Passes, behind_at, made_at, made_in, WalksTo, MakesOne, Keeps, Joins};
 
 use crate::held::Held;
 use crate::mode::Mode;
@@ -61,7 +62,6 @@ impl Held {
         requires depth { depth_of mode < usize.MAX }
         ensures way { meant result ≡ (behind_at (meant mode) (seen self.old) (pending (seen self.old))).0 }
         ensures view { seen self.new ≡ (behind_at (meant mode) (seen self.old) (pending (seen self.old))).1 }
-        ensures slots { self.new.rounds.slots ≡ self.old.rounds.slots }
         ensures depth { depth_of result ≤ depth_of mode + 1 }
     {
         match mode {
@@ -75,11 +75,11 @@ impl Held {
 
     /// Walks on to the next statement that makes a call, or to the end, and answers whether there is such a statement.
     fn walk(&mut self, mode: Mode) -> bool
-        requires consistent { Consistent self.old }
+        requires walking { IsWalking (meant mode) (seen self.old) }
         requires depth { depth_of mode ≤ self.old.passed }
         ensures walk { WalksTo self.old self.new mode result }
         ensures calls { result ≡ is_some (made_at (seen self.new) result) }
-        ensures consistent { Consistent self.new }
+        ensures running { is_running (seen self.new) ≡ true }
     {
         let mut mode = mode;
         while self.pass() {
@@ -171,9 +171,9 @@ impl Held {
 
     /// Takes an answer and goes on to the next call or the end.
     pub(crate) fn turn(&mut self, given: Answer) -> Next
-        requires { Consistent self.old }
+        requires { is_running (seen self.old) ≡ true }
         ensures turns { Turns running (seen self.old) given (seen self.new) result }
-        ensures consistent { Consistent self.new }
+        ensures running { is_running (seen self.new) ≡ true }
     {
         let mode = self.receive(given);
         if self.walk(mode) {

@@ -3,6 +3,7 @@ use Rattle.dill_script.proofs.Canonical.{canonical_spells, reads_back}
 use Rattle.dill_script.proofs.FormedLines.{reads_formed}
 use Rattle.dill_script.proofs.Mains.{reads_mains}
 use Rattle.dill_script.proofs.Named.{reads_apart}
+use Rattle.dill_script.proofs.Nesting.{reads_nested}
 use Rattle.dill_script.proofs.Spellings.{reads_spelling, reads_each}
 use Rattle.dill_script.proofs.Starting.{reads_starts}
 use Rattle.dill_script.proofs.Within.{reads_within}
@@ -37,3 +38,6 @@ returns-clause-mains c = reads_mains
 
 pub returns-clause-built : goal.returns-clause-built
 returns-clause-built c = reads_built
+
+pub returns-clause-nested : goal.returns-clause-nested
+returns-clause-nested c = reads_nested

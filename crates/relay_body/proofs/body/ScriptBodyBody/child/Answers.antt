@@ -5,4 +5,4 @@ use Rattle.relay_body.proofs.Known.{known_few}
 use Rattle.relay_body.proofs.body.ScriptBodyBody.child.Goals as goal
 
 pub new-requires : goal.new-requires
-new-requires c = known_few (seen c.self.inside.held) c.args.program (length c.args.args.now) c.self.invariant.running (subst (λ v. knows v c.args.program (length c.args.args.now) ≡ true) (sym c.self.view_is) c.requires)
+new-requires c = known_few (seen c.self.inside.held) c.args.program (length c.args.args.now) c.self.invariant (subst (λ v. knows v c.args.program (length c.args.args.now) ≡ true) (sym c.self.view_is) c.requires)

@@ -13,4 +13,4 @@ returns-in_default-join_fault c =
     join_makes c.args.self.now c.join.new.self c.in-Some-Join.field-0-0 c.in-Some-Join.register c.in-Some-Join.bytes c.from_slice-more.result c.join.result here fits (rw c.bytes_value-more.ensures at c.from_slice-more.ensures) c.join.ensures
 
 pub returns-in-Ok : goal.returns-in-Ok
-returns-in-Ok c = (form_moves (seen c.args.self.now) c.in-Some-Call.field-0-0 c.in-Some-Call.field-0-1 c.in-Some-Call.form c.in-Ok.call c.requires.runs (rw c.in-Some-Call.field-0-is at c.in-Some-Call.ensures) c.in-Ok.ensures.ok, refl)
+returns-in-Ok c = form_moves (seen c.args.self.now) c.in-Some-Call.field-0-0 c.in-Some-Call.field-0-1 c.in-Some-Call.form c.in-Ok.call c.requires.runs (rw c.in-Some-Call.field-0-is at c.in-Some-Call.ensures) c.in-Ok.ensures.ok

@@ -2,16 +2,15 @@
 use Rattle.std.proofs.Common.{◌≡◌, ◌≤◌, ◌-◌, length}
 use Rattle.dill_meaning.specs.Views.{ahead, statements_of}
 use Rattle.dill_meaning.specs.Walks.{walk}
+use Rattle.relay_body.specs.Depths.{IsWalking}
 use Rattle.relay_body.specs.Modes.{meant, depth_of}
 use Rattle.relay_body.specs.Seen.{seen}
-use Rattle.relay_body.specs.Stopping.{Consistent}
 use Rattle.relay_body.proofs.held.Held.walk.Given as goal
 
 abbrev pub invariant-loop-mode : goal.invariant-loop-mode
 invariant-loop-mode l = record {
-  consistent : Consistent l.self;
+  walking : IsWalking (meant l.mode) (seen l.self);
   depth : depth_of l.mode ≤ l.self.passed;
-  slots : l.self.rounds.slots ≡ l.fn.self.rounds.slots;
   same : walk (meant l.fn.mode) (seen l.fn.self) (ahead (seen l.fn.self)) ≡ walk (meant l.mode) (seen l.self) (ahead (seen l.self));
 }
 
