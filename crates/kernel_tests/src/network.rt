@@ -1,95 +1,91 @@
-use dill_base::Address;
-use dill_kernel::{Finished, Flow, Kernel, KernelFault, Limit, Made, Ready, ReadyList};
+use crate::asks::{Ask, plays, shown};
+use dill_kernel::Limit;
 use dill_loop::LoopKernel;
 use std::test::Fail;
 
-const HOME: Address = Address {
-    ip: [127, 0, 0, 1],
-    port: 7000,
-};
-
 #[test]
 fn a_stream_carries_bytes_both_ways_and_ends(rt: HostRuntime) -> Result<(), Fail> {
-    let mut kernel = LoopKernel::new(rt.alloc(), 3)?;
-    let mut ready = ReadyList::new();
-    let mut buf = [0u8; 9];
-    assert_eq!(rt; kernel.listen(1, HOME, 1), Ok(()));
-    assert_eq!(rt; kernel.listen(2, HOME, 1), Err(KernelFault::InUse));
-    assert_eq!(rt; kernel.connect(2, HOME), Ok(()));
-    assert_eq!(rt; kernel.connect(3, HOME), Err(KernelFault::Refused));
-    assert_eq!(rt; kernel.finish_connect(2), Finished::Done);
-    assert_eq!(rt; kernel.wait(Limit::Until(9), &mut ready), Ok(0));
-    assert_eq!(rt; ready.len(), 1);
-    assert_eq!(rt; kernel.wait(Limit::Until(9), &mut ready), Ok(9));
-    assert_eq!(rt; kernel.accept(1, 3), Made::Made);
-    assert_eq!(rt; kernel.accept(1, 4), Made::NotYet);
-    assert_eq!(rt; kernel.write(2, b"abcd"), Flow::Moved(4));
-    assert_eq!(rt; kernel.read(3, &mut buf), Flow::Moved(3));
-    assert_eq!(rt; kernel.read(3, &mut buf), Flow::Moved(1));
-    assert_eq!(rt; kernel.read(3, &mut buf), Flow::NotYet);
-    assert_eq!(rt; kernel.shut(2), Ok(()));
-    assert_eq!(rt; kernel.write(2, b"x"), Flow::Failed(KernelFault::Reset));
-    assert_eq!(rt; kernel.read(3, &mut buf), Flow::End);
-    assert_eq!(rt; kernel.write(3, b"back"), Flow::Moved(4));
-    kernel.close(3);
-    assert_eq!(rt; kernel.wait(Limit::NoWait, &mut ready), Ok(9));
-    assert_eq!(rt; ready.len(), 1);
-    let both = Ready {
-        link: 2,
-        read: true,
-        write: true,
-    };
-    assert_eq!(rt; ready.get(0), both);
-    assert_eq!(rt; kernel.read(2, &mut buf), Flow::Moved(3));
-    kernel.close(1);
-    kernel.close(2);
-    kernel.close(2);
-    assert_eq!(rt; kernel.shut(2), Err(KernelFault::Other));
-    Ok(())
+    let alloc = rt.alloc();
+    let table = vec![in alloc;
+        (Ask::Listen(1, 1), "Ok(())"),
+        (Ask::Listen(2, 1), "Err(InUse)"),
+        (Ask::Connect(2), "Ok(())"),
+        (Ask::Connect(3), "Err(Refused)"),
+        (Ask::Finish(2), "Done"),
+        (Ask::Wait(Limit::Until(9)), "Ok(0) 1 Ready { link: 1, read: true, write: false }"),
+        (Ask::Wait(Limit::Until(9)), "Ok(9)"),
+        (Ask::Accept(1, 3), "Made"),
+        (Ask::Accept(1, 4), "NotYet"),
+        (Ask::Write(2, b"abcd"), "Moved(4)"),
+        (Ask::Read(3, 9), "Moved(3) [97, 98, 99, 0, 0, 0, 0, 0, 0]"),
+        (Ask::Read(3, 9), "Moved(1) [100, 0, 0, 0, 0, 0, 0, 0, 0]"),
+        (Ask::Read(3, 9), "NotYet [0, 0, 0, 0, 0, 0, 0, 0, 0]"),
+        (Ask::Shut(2), "Ok(())"),
+        (Ask::Write(2, b"x"), "Failed(Reset)"),
+        (Ask::Read(3, 1), "End [0]"),
+        (Ask::Write(3, b"back"), "Moved(4)"),
+        (Ask::Close(3), "closed"),
+        (Ask::Wait(Limit::NoWait), "Ok(9) 1 Ready { link: 2, read: true, write: true }"),
+        (Ask::Read(2, 4), "Moved(3) [98, 97, 99, 0]"),
+        (Ask::Close(1), "closed"),
+        (Ask::Close(2), "closed"),
+        (Ask::Close(2), "closed"),
+        (Ask::Shut(2), "Err(Other)"),
+    ]?;
+    let mut kernel = LoopKernel::new(alloc, 3)?;
+    plays(&rt, alloc, &mut kernel, table)
 }
+
+/// How many bytes an answer says that moved, none of another answer.
+fn moved(told: &str) -> u64 {
+    let count = told.strip_prefix("Moved(").and_then(|rest| rest.strip_suffix(")"));
+    match count {
+        Some(count) => count.parse::<u64>().unwrap_or(0),
+        None => 0,
+    }
+}
+
+const PIECE: [u8; 3000] = [7; 3000];
 
 #[test]
 fn a_direction_holds_as_much_as_it_may_however_it_is_cut(rt: HostRuntime) -> Result<(), Fail> {
-    let mut kernel = LoopKernel::new(rt.alloc(), 4096)?;
-    assert_eq!(rt; kernel.listen(1, HOME, 1), Ok(()));
-    assert_eq!(rt; kernel.connect(2, HOME), Ok(()));
-    assert_eq!(rt; kernel.accept(1, 3), Made::Made);
-    let mut buf = [0u8; 4096];
-    let piece = [7u8; 3000];
+    let alloc = rt.alloc();
+    let mut kernel = LoopKernel::new(alloc, 4096)?;
+    let table = vec![in alloc;
+        (Ask::Listen(1, 1), "Ok(())"),
+        (Ask::Connect(2), "Ok(())"),
+        (Ask::Accept(1, 3), "Made"),
+    ]?;
+    plays(&rt, alloc, &mut kernel, table)?;
     let mut sent = 0u64;
     let mut came = 0u64;
-    let mut refused = 0u64;
     for round in 0..400u64 {
-        match kernel.write(2, &piece) {
-            Flow::Moved(count) => sent = sent.saturating_add(count as u64),
-            _ => refused = refused.saturating_add(1),
-        }
+        let told = shown(alloc, &mut kernel, Ask::Write(2, &PIECE))?;
+        sent = sent.saturating_add(moved(told.as_str()));
         if round % 3 == 0 {
-            if let Flow::Moved(count) = kernel.read(3, &mut buf) {
-                came = came.saturating_add(count as u64);
-            }
+            let told = shown(alloc, &mut kernel, Ask::Read(3, 4096))?;
+            came = came.saturating_add(moved(told.as_str()));
         }
     }
     assert_eq!(rt; sent.saturating_sub(came), 65_536 - 4096);
-    assert!(rt; 0 < refused);
     Ok(())
 }
 
 #[test]
 fn closing_a_listener_resets_those_that_wait(rt: HostRuntime) -> Result<(), Fail> {
-    let mut kernel = LoopKernel::new(rt.alloc(), 4096)?;
-    let mut ready = ReadyList::new();
-    assert_eq!(rt; kernel.listen(1, HOME, 4096), Ok(()));
+    let alloc = rt.alloc();
+    let mut kernel = LoopKernel::new(alloc, 4096)?;
+    plays(&rt, alloc, &mut kernel, vec![in alloc; (Ask::Listen(1, 4096), "Ok(())")]?)?;
     for link in 2..302u64 {
-        assert_eq!(rt; kernel.connect(link, HOME), Ok(()));
+        let told = shown(alloc, &mut kernel, Ask::Connect(link))?;
+        assert_eq!(rt; told.as_str(), "Ok(())");
     }
-    kernel.close(1);
-    assert_eq!(rt; kernel.wait(Limit::NoWait, &mut ready), Ok(0));
-    assert_eq!(rt; ready.len(), 256);
-    assert_eq!(rt; ready.get(255).link, 257);
-    assert_eq!(rt; kernel.wait(Limit::NoWait, &mut ready), Ok(0));
-    assert_eq!(rt; ready.len(), 44);
-    assert_eq!(rt; kernel.write(2, b"x"), Flow::Failed(KernelFault::Reset));
-    assert_eq!(rt; kernel.connect(1, HOME), Err(KernelFault::Refused));
-    Ok(())
+    let table = vec![in alloc;
+        (Ask::Close(1), "closed"),
+        (Ask::Wait(Limit::NoWait), "Ok(0) 256 Ready { link: 2, read: true, write: true }"),
+        (Ask::Wait(Limit::NoWait), "Ok(0) 44 Ready { link: 258, read: true, write: true }"),
+        (Ask::Write(2, b"x"), "Failed(Reset)"),
+        (Ask::Connect(1), "Err(Refused)"),
+    ]?;
+    plays(&rt, alloc, &mut kernel, table)
 }
