@@ -79,12 +79,12 @@ module _ {V : Type 0} where
   -- A handshake or a detach that succeeds answers a new number. Where the stack's read fails it, what that read passed and queued stays so.
   abbrev pub give_attached : World V → ℕ → Call → Answer → World V
   give_attached w who call (Fault e) = give_stack_up (if is_read (Fault e) then look_on w call else w) who call e (draws_of call)
-  give_attached w who call answer = if_some (named_by call) w (give_number w who call)
+  give_attached w who call answer = if_some (named_by call) (reply w who (word_of call) answer) (give_number w who call)
 
   -- `tcp_close` frees the socket, however it is answered
   abbrev pub give_closed : World V → ℕ → Call → Answer → World V
   give_closed w who call (Fault e) = give_stack_up w who call e 0
-  give_closed w who call answer = if_some (named_by call) w (λ number. reply (release w number) who (word_of call) answer)
+  give_closed w who call answer = reply (if_some (named_by call) w (release w)) who (word_of call) answer
 
   -- the number that was kept is given back, and so is the link, or the `close` of the link that was made is due
   abbrev pub forgo : World V → ℕ → World V

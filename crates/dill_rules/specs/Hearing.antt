@@ -3,6 +3,7 @@ use Rattle.std.specs.Prelude.{ℕ, List, [], ◌∷◌, ◌++◌, fold, Option, 
 use Rattle.dill_base.specs.declared.errno.Errno.{Errno}
 use Rattle.dill_base.specs.declared.errno.Errno.TheVariants as errnos
 use Rattle.dill_calls.specs.declared.answer.Answer.TheVariants.{Number, Fault}
+use Rattle.dill_calls.specs.declared.call.Call.{Call}
 use Rattle.dill_calls.specs.CallTable.{word_of}
 use Rattle.dill_kernel.specs.declared.replies.KernelAsk.{KernelAsk}
 use Rattle.dill_kernel.specs.declared.replies.KernelAsk.TheVariants as asks
@@ -19,6 +20,7 @@ use Rattle.dill_rules.specs.declared.thing.Thing.TheVariants as things
 use Rattle.dill_rules.specs.Links as links
 use Rattle.dill_rules.specs.Links.{Sort, Listening, Connecting, Stream, look, connector, with_stack, heated, read_cold, write_cold, as_shut, as_stream}
 use Rattle.dill_rules.specs.World.{World, call_of, reply, from_start}
+use Rattle.dill_rules.specs.Naming as naming
 use Rattle.dill_rules.specs.Effects.{next_number, make}
 use Rattle.dill_rules.specs.Sockets.{on_link}
 use Rattle.dill_rules.specs.Giving.{give}
@@ -50,13 +52,17 @@ fitting ask None = replies.Failed faults.Other
 fitting ask (Some reply) = if fits ask reply then reply else replies.Failed faults.Other
 
 module _ {V : Type 0} where
-  -- the pending call of a coroutine has an errno
-  abbrev pub fail : World V → Errno → ℕ → World V
-  fail w e who = if_some (call_of w who) w (λ call. give w who call (Fault e))
+  -- the listen, accept or connect that a coroutine is pending in
+  abbrev pub linking_call : World V → ℕ → Option Call
+  linking_call w who = if_some (call_of w who) None (λ call. if naming.links (word_of call) then Some call else None)
 
-  -- the pending call of a coroutine is answered by a handle of its own
+  -- that call has an errno
+  abbrev pub fail : World V → Errno → ℕ → World V
+  fail w e who = if_some (linking_call w who) w (λ call. give w who call (Fault e))
+
+  -- that call is answered by a handle of the coroutine's own
   abbrev pub give_handle : World V → Thing → ℕ → World V
-  give_handle w thing who = if_some (call_of w who) w (λ call. reply (make w thing who) who (word_of call) (Number (next_number w)))
+  give_handle w thing who = if_some (linking_call w who) w (λ call. reply (make w thing who) who (word_of call) (Number (next_number w)))
 
   -- the kernel made the next link, and the call is answered by its handle
   abbrev pub made : World V → Sort → (ℕ → Thing) → ℕ → World V

@@ -79,13 +79,17 @@ module _ {V : Type 0} where
   abbrev pub enter_link : World V → ℕ → Call → World V
   enter_link w who call = pend (heat (record w { links = links.keep w.links }) call true false) who call
 
-  -- a layer is attached, and the socket has a new number, which the caller owns
-  abbrev pub attach_layer : World V → ℕ → Call → ℕ → Layer → World V
-  attach_layer w who call number layer =
-      reply (move (ask_stack w call (λ random s. with_random random (attach layer s))) number who) who (word_of call) (Number (next_number w))
+  -- a layer stands on the call's stack
+  abbrev pub put_layer : World V → Call → Layer → World V
+  put_layer w call layer = ask_stack w call (λ random s. with_random random (attach layer s))
 
+  -- a layer is attached, and the socket has a new number, which the caller owns
+  abbrev pub attach_layer : World V → ℕ → Call → World V
+  attach_layer w who call = if_some (named_by call) w (λ number. if_some (layer_of call) w (λ layer. move (put_layer w call layer) number who))
+
+  -- the answer is the new number
   abbrev pub enter_attach : World V → ℕ → Call → World V
-  enter_attach w who call = if_some (named_by call) w (λ number. if_some (layer_of call) w (attach_layer w who call number))
+  enter_attach w who call = reply (attach_layer w who call) who (word_of call) (Number (next_number w))
 
   -- the errno with which a call that gives its stack up ends at once: the caller is cancelled, or the stack can't be left
   abbrev pub given_up_at_once : World V → ℕ → Call → Option Errno

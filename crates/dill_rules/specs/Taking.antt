@@ -3,7 +3,7 @@ use Rattle.std.specs.Prelude.{ℕ, ◌==◌, Bool, false, not, ◌&&◌, ◌||�
 use Rattle.std.specs.List.{list_any}
 use Rattle.dill_calls.specs.declared.call.Call.{Call}
 use Rattle.dill_calls.specs.declared.call.Call.TheVariants as calls
-use Rattle.dill_calls.specs.CallTable.{word_of, blocks, takes, gives_up, is_hclose}
+use Rattle.dill_calls.specs.CallTable.{word_of, takes, gives_up, is_hclose}
 use Rattle.dill_handles.specs.declared.entry.Entry.{Entry}
 use Rattle.dill_scope.specs.Scopes as scopes
 use Rattle.dill_base.specs.Maps.{if_some}
@@ -19,7 +19,7 @@ is_on number call = list_any (λ n. n == number) (numbers_of call)
 
 -- a handshake, a detach or `tcp_close`, which lets no other call on its number while it is pending
 abbrev pub is_alone_on : ℕ → Call → Bool
-is_alone_on number call = blocks (word_of call) && takes (word_of call) && is_on number call
+is_alone_on number call = takes (word_of call) && is_on number call
 
 -- the bundle that a thing is
 abbrev pub bundle_of : Thing → Option ℕ

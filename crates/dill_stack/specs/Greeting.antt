@@ -1,5 +1,5 @@
 -- Handshakes, by which a WebSocket layer comes on a stack of bytes (RFC 6455, section 4).
-use Rattle.std.specs.Prelude.{ℕ, List, ◌∷◌, ◌++◌, Bool, true, not, ◌&&◌, drop, if◌then◌else◌, Option, Result, Ok}
+use Rattle.std.specs.Prelude.{ℕ, List, ◌∷◌, ◌++◌, Bool, true, not, ◌&&◌, if◌then◌else◌, Option, Result, Ok}
 use Rattle.rand_core.specs.Stream.{Stream}
 use Rattle.base64.specs.GeneralPurpose.{encode_of}
 use Rattle.base64.specs.Engines.{standard}
@@ -15,7 +15,7 @@ use Rattle.dill_ws.specs.Handshakes.{accept_text, client_lines, head_of_lines, a
 use Rattle.dill_stack.specs.declared.want.ReadOut.{ReadOut}
 use Rattle.dill_stack.specs.declared.want.ReadOut.TheVariants.{Given, Need, Fault}
 use Rattle.dill_stack.specs.Layers.{fresh_ws, Ws}
-use Rattle.dill_stack.specs.Held.{Held, Plain, Task, Idle, Greets, Expects, Answers}
+use Rattle.dill_stack.specs.Held.{Held, use_bytes, Plain, Task, Idle, Greets, Expects, Answers}
 use Rattle.dill_stack.specs.Composed.{drawn_key}
 use Rattle.dill_stack.specs.Sending.{unless, is_sent, queued}
 use Rattle.dill_stack.specs.Read.{no_more}
@@ -56,7 +56,7 @@ pub record Heard : Type 0 where
 
 -- the handshake is over
 abbrev pub met_after : ℕ → Held → Heard
-met_after used s = record { stack = record s { unread = drop used s.unread; task = Idle }; said = Given (Number 0) }
+met_after used s = record { stack = record (use_bytes used s) { task = Idle }; said = Given (Number 0) }
 
 -- no whole head is there
 abbrev pub unmet : Held → Heard
@@ -70,7 +70,7 @@ by_server (front.Fault e) s = record { stack = s; said = Fault e }
 
 -- a client's head at the front: it is used, and the own head is queued
 abbrev pub by_client : Asked → Held → Heard
-by_client (asked.Whole key used) s = record { stack = record (queued Plain (server_head_of (accept_text key)) s) { unread = drop used s.unread; task = Answers }; said = Need }
+by_client (asked.Whole key used) s = record { stack = record (queued Plain (server_head_of (accept_text key)) (use_bytes used s)) { task = Answers }; said = Need }
 by_client asked.Need s = unmet s
 by_client (asked.Fault e) s = record { stack = s; said = Fault e }
 

@@ -1,5 +1,5 @@
 -- What contracts see of a stack: a link with what came on it, what is to be sent, and the layers.
-use Rattle.std.specs.Prelude.{ℕ, List, [], ◌++◌, Bool, true, false, ◌||◌}
+use Rattle.std.specs.Prelude.{ℕ, List, [], ◌++◌, Bool, true, false, ◌||◌, length, drop}
 use Rattle.dill_stack.specs.declared.layer.Top.{Top}
 use Rattle.dill_stack.specs.Layers.{Place, Placed, top_of}
 
@@ -78,9 +78,13 @@ broken_off s = record s { sending = record s.sending { broken = true }; queue = 
 abbrev pub broke : Held → Held
 broke s = record (broken_off s) { receiving = record s.receiving { broken = true } }
 
+-- so many of the unread bytes are used, the first that came
+abbrev pub use_bytes : ℕ → Held → Held
+use_bytes n s = record s { unread = drop n s.unread }
+
 -- all that is unread is dropped
 abbrev pub drop_unread : Held → Held
-drop_unread s = record s { unread = [] }
+drop_unread s = use_bytes (length s.unread) s
 
 -- the peer has ended
 abbrev pub has_ended : Held → Bool

@@ -1,6 +1,6 @@
 -- What the machine uses of a stack, passed on from one place. Declares nothing.
 pub use Rattle.dill_stack.specs.Layers.{Place, BeforeFirst, AmongFields, BehindEmpty, TermLayer, HttpLayer, WsLayer, Placed, Prefix, Suffix, Term, Http, Ws, top_of}
-pub use Rattle.dill_stack.specs.Held.{Held, Direction, Item, Origin, Task, Idle, Greets, Expects, Answers, Leaves, opening, set_link, top, is_broken, came, ended, broke, drop_unread, has_ended}
+pub use Rattle.dill_stack.specs.Held.{Held, Direction, Item, Origin, Task, Idle, Greets, Expects, Answers, Leaves, opening, set_link, top, is_broken, came, ended, broke, use_bytes, drop_unread, has_ended}
 pub use Rattle.dill_stack.specs.Composed.{composed}
 pub use Rattle.dill_stack.specs.Refusals.{first_fault, attach_fault, send_fault, line_fault, done_fault, read_fault, detach_fault}
 pub use Rattle.dill_stack.specs.Sending.{is_sent, offered, took, frame, line, done, withdraw}

@@ -1,5 +1,5 @@
 -- A receive as a step of what the stack holds: what is used, the pongs that it queues, and the direction that a refusal breaks.
-use Rattle.std.specs.Prelude.{ℕ, List, [], ◌∷◌, ◌++◌, Bool, true, false, not, ◌==◌, ◌&&◌, drop, map, if◌then◌else◌, Option, Some, None}
+use Rattle.std.specs.Prelude.{ℕ, List, [], ◌∷◌, ◌++◌, Bool, true, false, not, ◌==◌, ◌&&◌, map, if◌then◌else◌, Option, Some, None}
 use Rattle.std.specs.List.{list_any}
 use Rattle.rand_core.specs.Stream.{Stream}
 use Rattle.dill_base.specs.declared.errno.Errno.TheVariants.{Eproto, Emsgsize}
@@ -10,7 +10,7 @@ use Rattle.dill_stack.specs.declared.want.Want.{Want}
 use Rattle.dill_stack.specs.declared.want.ReadOut.{ReadOut}
 use Rattle.dill_stack.specs.declared.want.ReadOut.TheVariants.{Fault}
 use Rattle.dill_stack.specs.Layers.{WsLayer, Placed, Ws}
-use Rattle.dill_stack.specs.Held.{Held, Item, Pong}
+use Rattle.dill_stack.specs.Held.{Held, Item, Pong, use_bytes}
 use Rattle.dill_stack.specs.Composed.{drawn_key}
 use Rattle.dill_stack.specs.Sending.{is_pong}
 use Rattle.dill_stack.specs.Read.{Outcome, read_list}
@@ -60,10 +60,10 @@ with_pongs_of (Some ws) pings random s =
     if answers_pings ws s then (record s { queue = (ponged ws.side pings (s.queue, random)).0 }, (ponged ws.side pings (s.queue, random)).1)
     else (s, random)
 
--- the layers and the unread list after an outcome, with its pongs
+-- the stack after an outcome: what it uses, the layers that it leaves, and its pongs
 abbrev pub looked_over : Outcome → Stream → Held → Looked
 looked_over o random s =
-    let now = with_pongs_of (ws_of s.layers) o.pings random (record s { layers = o.layers; unread = drop o.used s.unread }) in
+    let now = with_pongs_of (ws_of s.layers) o.pings random (record (use_bytes o.used s) { layers = o.layers }) in
     record { stack = now.0; said = o.said; random = now.1 }
 
 -- a refusal that breaks the receiving direction

@@ -137,7 +137,7 @@ pub fn is_alone_on(number: u64, call: &Call) -> bool
     ensures { result ≡ is_alone_on number call.now }
 {
     let word = call.word();
-    word.blocks() && word.takes() && is_on(number, call)
+    word.takes() && is_on(number, call)
 }
 
 /// How many handle numbers a call draws.
