@@ -7,10 +7,11 @@ use Rattle.dill_rules.specs.Links.{Links, no_links}
 use Rattle.dill_rules.specs.Seen.{turn_seen}
 use Rattle.dill_rules.specs.State.{State, opening_state, expired, shut, woke}
 use Rattle.dill_rules.specs.World.{World, Place, at_start}
-use Rattle.laws_queue.specs.Following.{Follows}
+use Rattle.laws_sound.specs.PlainLaws.{KeepsPlain, FollowsPlainly}
 use Rattle.laws_queue.specs.Kept.{Kept, opening_kept, kept_turn, kept_expired, kept_shut, kept_woke}
 use Rattle.laws_queue.specs.Laws.{KeepsWell}
-use Rattle.laws_queue.specs.Plain.{no_random, IsPlain}
+use Rattle.laws_queue.specs.Lending.{no_random}
+use Rattle.laws_sound.specs.Plain.{IsPlain}
 use Rattle.laws_queue.specs.Stands.{StandsFor}
 use Rattle.laws_queue.specs.Well.{IsWell}
 use Rattle.dill_drive.specs.ByRules.{machine_of}
@@ -33,39 +34,39 @@ module _ {V : Type 0} where
 module _ {V : Type 0} (p : Program V) where
   -- a core stands for the state for which what it keeps does
   abbrev pub Stands : Holding V → State V → Type 0
-  Stands h s = IsWell p (kept_of h) × StandsFor (kept_of h) s
+  Stands h s = IsWell p (kept_of h) × IsPlain (kept_of h).world × StandsFor (kept_of h) s
 
   -- what is kept well and stands for a state is held whole
-  held : (k : Kept V) (s : State V) → IsWell p k → StandsFor k s → Stands (held_of k) s
-  held k s well stands =
+  held : (k : Kept V) (s : State V) → IsWell p k → IsPlain k.world → StandsFor k s → Stands (held_of k) s
+  held k s well plain stands =
       let random : k.world.random ≡ no_random = ap (λ (w : World V). w.random) stands.world in
-      let whole : kept_of (held_of k) ≡ k = ap (λ (w : World V). record k { world = w }) (stored_world k.world well.plain random) in
-      (subst (IsWell p) (sym whole) well, subst (λ (l : Kept V). StandsFor l s) (sym whole) stands)
+      let whole : kept_of (held_of k) ≡ k = ap (λ (w : World V). record k { world = w }) (stored_world k.world plain random) in
+      (subst (IsWell p) (sym whole) well, subst (λ (l : Kept V). IsPlain l.world) (sym whole) plain, subst (λ (l : Kept V). StandsFor l s) (sym whole) stands)
 
-  module _ (keeps : KeepsWell p) (follows : Follows p) where
+  module _ (keeps : KeepsWell p) (stays : KeepsPlain p) (follows : FollowsPlainly p) where
     pub alike : Alike (core_machine p) (machine_of p) Stands
     alike = record {
-      ended = λ h s (well, stands). (follows.seen (kept_of h) s well stands).ended;
-      answered = λ h s (well, stands). (follows.seen (kept_of h) s well stands).answered;
-      stuck = λ h s (well, stands) on. (follows.seen (kept_of h) s well stands).stuck;
-      limit = λ h s (well, stands) on. (follows.seen (kept_of h) s well stands).limit;
-      woke = λ h s moment ready (well, stands). held (kept_woke (kept_of h) moment ready) (woke s moment ready) (keeps.woke (kept_of h) moment ready well) (follows.woke (kept_of h) s moment ready well stands);
-      next_try = λ h s (well, stands). (follows.seen (kept_of h) s well stands).next_try;
+      ended = λ h s (well, plain, stands). (follows.seen (kept_of h) s well stands).ended;
+      answered = λ h s (well, plain, stands). (follows.seen (kept_of h) s well stands).answered;
+      stuck = λ h s (well, plain, stands) on. (follows.seen (kept_of h) s well stands).stuck;
+      limit = λ h s (well, plain, stands) on. (follows.seen (kept_of h) s well stands).limit;
+      woke = λ h s moment ready (well, plain, stands). held (kept_woke (kept_of h) moment ready) (woke s moment ready) (keeps.woke (kept_of h) moment ready well) (stays.woke (kept_of h) moment ready plain) (follows.woke (kept_of h) s moment ready stands);
+      next_try = λ h s (well, plain, stands). follows.next_try (kept_of h) s plain stands;
       hear = λ h s ask reply keys stands due. cc;
-      expire = λ h s (well, stands). held (kept_expired (kept_of h)) (expired s) (keeps.expired (kept_of h) well) (follows.expired (kept_of h) s well stands);
-      may_lack = λ h s place (well, stands) on may. (follows.seen (kept_of h) s well stands).may_lack place ∙ may;
-      ran = λ h s lack (well, stands) on may. (follows.seen (kept_of h) s well stands).ran lack;
-      turn = λ h s lack keys (well, stands) on may. (
-        held (kept_turn p lack (kept_of h)) (turn_seen p s lack keys).0 (keeps.turned (kept_of h) lack well) (follows.turned (kept_of h) s lack keys well stands),
-        follows.random (kept_of h) s lack keys well stands,
+      expire = λ h s (well, plain, stands). held (kept_expired (kept_of h)) (expired s) (keeps.expired (kept_of h) well) (stays.expired (kept_of h) plain) (follows.expired (kept_of h) s plain stands);
+      may_lack = λ h s place (well, plain, stands) on may. (follows.seen (kept_of h) s well stands).may_lack place ∙ may;
+      ran = λ h s lack (well, plain, stands) on may. (follows.seen (kept_of h) s well stands).ran lack;
+      turn = λ h s lack keys (well, plain, stands) on may. (
+        held (kept_turn p lack (kept_of h)) (turn_seen p s lack keys).0 (keeps.turned (kept_of h) lack well) (stays.turned (kept_of h) lack well plain) (follows.turned (kept_of h) s lack keys well plain stands),
+        follows.random (kept_of h) s lack keys well plain stands,
       );
-      shut = λ h s (well, stands). held (kept_shut (kept_of h)) (shut s) (keeps.shut (kept_of h) well) (follows.shut (kept_of h) s well stands);
-      notes = λ h s (well, stands). (follows.seen (kept_of h) s well stands).notes;
-      waiting = λ h s (well, stands). (follows.seen (kept_of h) s well stands).waiting;
-      made = λ h s (well, stands). (follows.seen (kept_of h) s well stands).made;
-      gone = λ h s (well, stands). (follows.seen (kept_of h) s well stands).gone;
+      shut = λ h s (well, plain, stands). held (kept_shut (kept_of h)) (shut s) (keeps.shut (kept_of h) well) (stays.shut (kept_of h) plain) (follows.shut (kept_of h) s plain stands);
+      notes = λ h s (well, plain, stands). (follows.seen (kept_of h) s well stands).notes;
+      waiting = λ h s (well, plain, stands). (follows.seen (kept_of h) s well stands).waiting;
+      made = λ h s (well, plain, stands). (follows.seen (kept_of h) s well stands).made;
+      gone = λ h s (well, plain, stands). (follows.seen (kept_of h) s well stands).gone;
     }
 
     -- before the first turn
     pub stands_first : (h : Holding V) (view : V) (random : Stream) → Begins p view → kept_of h ≡ opening_kept view → Stands h (opening_state view random)
-    stands_first h view random begins is = (subst (IsWell p) (sym is) (keeps.opening view begins), subst (λ (k : Kept V). StandsFor k (opening_state view random)) (sym is) (follows.opening view random))
+    stands_first h view random begins is = (subst (IsWell p) (sym is) (keeps.opening view begins), subst (λ (k : Kept V). IsPlain k.world) (sym is) (stays.opening view), subst (λ (k : Kept V). StandsFor k (opening_state view random)) (sym is) (follows.opening view random))

@@ -13,6 +13,7 @@ use Rattle.dill_rules.specs.World.{World, pending_call}
 use Rattle.laws_queue.specs.Well.{Numbered}
 use Rattle.dill_world.specs.Store.{Store, world_of}
 use Rattle.dill_steps.specs.Timing.{first_of, late_timer, Rises}
+use Rattle.laws_queue.proofs.Lining.{lined_pending}
 
 -- a list behind its first
 abbrev pub rest_of : {X : Type 0} → List X → List X
@@ -31,13 +32,6 @@ begins_not (y ∷ xs) e = cc
 pub first_all : (test : ℕ → Bool) (xs : List ℕ) → list_all test xs ≡ true → IfSome (first_of xs) (λ x. test x ≡ true)
 first_all test [] e = tt
 first_all test (x ∷ xs) e = (and_parts (test x) (list_all test xs) e).0
-
-lined_pending : (mode : Mode) → pending_call (lined_mode mode) ≡ pending_call mode
-lined_pending (modes.Pending call) = refl
-lined_pending modes.Running = refl
-lined_pending (modes.Fresh word answer) = refl
-lined_pending (modes.Answered word answer) = refl
-lined_pending (modes.Ending outcome) = refl
 
 module _ {V : Type 0} where
   -- who waits is not changed by the queue

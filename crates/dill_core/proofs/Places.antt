@@ -5,9 +5,9 @@ use Rattle.dill_calls.specs.Program.{Program}
 use Rattle.dill_scope.specs.Scopes as scopes
 use Rattle.dill_rules.specs.State.{lined, fresh}
 use Rattle.dill_rules.specs.World.{World, begin, from_start, opening}
-use Rattle.laws_queue.specs.Kept.{Kept, opening_kept, queued, has_answer}
+use Rattle.laws_queue.specs.Kept.{root_closed, Kept, opening_kept, queued, has_answer}
 use Rattle.laws_queue.specs.Laws.{HasPlaces}
-use Rattle.laws_queue.specs.Plain.{no_random}
+use Rattle.laws_queue.specs.Lending.{no_random}
 use Rattle.laws_queue.specs.Well.{IsWell}
 use Rattle.laws_debt.specs.Closing.{IsStable}
 use Rattle.dill_world.specs.Store.{Store, world_of}
@@ -43,14 +43,9 @@ spare_room true old new places few one room l = let r = room refl in omega (arit
 spare_room false old new places few one room l = let r = few refl in omega (arith, r, l)
 
 module _ {V : Type 0} where
-  -- the root is closed in a world of which nothing is noted yet
-  abbrev pub root_closed : World V → World V
-  root_closed w = record (from_start (begin w)) { scopes = scopes.close w.scopes 0 }
-
-  -- and what is kept then is kept well
+  -- what is kept as the root closes is kept well
   pub closed_well : (p : Program V) (h : Holding V) (early : ℕ) → IsWell p (kept_of h) → IsWell p (record { world = root_closed (kept_of h).world; ready = h.ready; early = early })
   closed_well p h early well = record {
-    plain = record { channels = refl; links = refl; place = refl; wrote = refl; things = well.plain.things; calls = well.plain.calls };
     lives = well.lives;
     numbered = well.numbered;
     queue = well.queue;

@@ -14,8 +14,8 @@ use Rattle.dill_rules.specs.Trying.{Try, tries}
 use Rattle.dill_rules.specs.Waiting.{Waiter, waiter_of, until, least_due, has_close, awaits_link}
 use Rattle.dill_rules.specs.World.{pending_call}
 use Rattle.laws_queue.specs.Kept.{Kept, has_answer, kept_limit, kept_stuck}
-use Rattle.laws_queue.specs.Plain.{may_wait, waits_plainly, IsPlain}
-use Rattle.laws_queue.proofs.Following.{tries_none, closes_none}
+use Rattle.laws_sound.specs.Plain.{may_wait, waits_plainly, IsPlain}
+use Rattle.laws_sound.proofs.Untried.{tries_none, closes_none}
 
 -- a call that may wait without links uses none
 uses_none : (call : Call) → may_wait call ≡ true → uses_link (word_of call) ≡ false

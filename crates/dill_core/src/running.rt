@@ -13,7 +13,8 @@ use dill_base::Sink;
 use dill_drive::{RunEnd, drive};
 use dill_kernel::Kernel;
 use dill_plain::PlainBody;
-use laws_queue::{follows_states, steps_keep_well};
+use laws_queue::steps_keep_well;
+use laws_sound::{follows_plainly, steps_keep_plain};
 use rand_core::Rng;
 use std::alloc::Global;
 
@@ -39,7 +40,8 @@ pub fn run<B: PlainBody, K: Kernel, W: Sink, R: Rng>(
     ensures wait { is_sink (status_of result) ≡ false → ReplyHasCause (K.faults kernel.old) (K.faults kernel.new) (is_wait (status_of result)) }
 {
     steps_keep_well::<B>();
-    follows_states::<B>();
+    steps_keep_plain::<B>();
+    follows_plainly::<B>();
     match Core::new(alloc, first) {
         Ok(core) => drive(core, traced, turns, kernel, out, keys),
         Err(_) => RunEnd::NoMemory,

@@ -36,7 +36,7 @@ use Rattle.dill_rules.specs.State.{is_fresh}
 use Rattle.dill_rules.specs.Turning.{is_build, is_entry, as_running, may_lack_build, resume, answer_given, move_of, make_move, lack_move, go_on}
 use Rattle.laws_queue.proofs.Crew.{close_all_crew}
 use Rattle.laws_sound.specs.Laws.{is_closing}
-use Rattle.laws_queue.proofs.Turns.{entered_plain}
+use Rattle.laws_sound.proofs.Turns.{entered_plain}
 use Rattle.laws_debt.proofs.Flagging.{all_picked}
 use Rattle.laws_debt.proofs.Lists.{all_append, all_to, found_changed}
 use Rattle.laws_debt.proofs.Tracking.{all_by_key}

@@ -24,17 +24,17 @@ use Rattle.dill_rules.specs.Settling.{can_finish, answer_due, settle, IsSettled}
 use Rattle.dill_rules.specs.State.{State, Stamp, is_stamp_of, stamp_of, opening_state, line_up, next_turn, turn_of, fresh, turned, expire_next, expired, shut, woke}
 use Rattle.dill_rules.specs.Turning.{answer_given, go_on, turn}
 use Rattle.dill_rules.specs.World.{World, begin, pending_call, is_ending}
-use Rattle.laws_queue.specs.Following.{Follows}
-use Rattle.laws_queue.specs.Kept.{Kept, opening_kept, queued, turn_first, kept_shut, kept_woke}
+use Rattle.laws_sound.specs.PlainLaws.{FollowsPlainly}
+use Rattle.laws_queue.specs.Kept.{Kept, opening_kept, queued, turn_first, kept_shut, kept_woke, root_closed}
 use Rattle.laws_queue.specs.Laws.{MayTurn, KeepsWell}
-use Rattle.laws_queue.specs.Plain.{wordless}
+use Rattle.laws_queue.specs.Lending.{wordless}
 use Rattle.laws_queue.specs.Stands.{StandsFor}
 use Rattle.laws_queue.specs.Well.{bit}
-use Rattle.laws_queue.proofs.Following.{follows_states, next_is, nobody_next, expired_next, settled_after}
+use Rattle.laws_queue.proofs.Following.{next_is, nobody_next}
+use Rattle.laws_sound.proofs.PlainLaws.{follows_plainly, expired_next, settled_after, settles_plainly}
 use Rattle.laws_queue.proofs.Keeping.{steps_keep_well}
-use Rattle.laws_queue.proofs.Settling.{settles_all}
-use Rattle.laws_queue.proofs.Plainly.{begin_plain}
-use Rattle.laws_queue.proofs.Turns.{root_closed, closed_plain, go_on_plain}
+use Rattle.laws_sound.proofs.Plainly.{begin_plain}
+use Rattle.laws_sound.proofs.Turns.{closed_plain, go_on_plain}
 use Rattle.laws_sound.specs.Laws.{is_closing, is_timed, HasGoing}
 use Rattle.laws_sound.specs.Order.{IsInOrder}
 use Rattle.laws_sound.proofs.Going.{closing_goes_on}
@@ -64,10 +64,10 @@ home_inside w n o e = let h = some_told (home_of w.scopes n) e in rooted_inside 
 
 module _ {V : Type 0} (p : Program V) (law : IsLawful p) (plainly : MakesPlain p) where
   keeps : KeepsWell p
-  keeps = steps_keep_well p law plainly
+  keeps = steps_keep_well p law
 
-  follows : Follows p
-  follows = follows_states p law plainly
+  follows : FollowsPlainly p
+  follows = follows_plainly p law plainly
 
   stable_steps : KeepsStable p
   stable_steps = steps_keep_stable p law plainly
@@ -88,8 +88,8 @@ module _ {V : Type 0} (p : Program V) (law : IsLawful p) (plainly : MakesPlain p
   turn_after : (s : State V) (lack : Option LackPlace) (even : IsEven p s) (who : ℕ) (rest : List ℕ) → even.kept.ready ≡ who ∷ rest → StandsFor (queued (turn p lack even.kept.world who) rest (even.kept.early - 1)) (turn_of p lack s who)
   turn_after s lack even who rest e =
       let k = even.kept in
-      let stands = follows.turned k s lack s.world.random even.stable.well even.stands in
-      let next : turned p lack s ≡ turn_of p lack s who = ap (λ o. if_some o s (turn_of p lack s)) (next_is k s who rest even.stands e) in
+      let stands = follows.turned k s lack s.world.random even.stable.well even.stable.plain even.stands in
+      let next : turned p lack s ≡ turn_of p lack s who = ap (λ o. if_some o s (turn_of p lack s)) (next_is k.ready s who rest even.stands.order even.stands.rise e) in
       subst (StandsFor (queued (turn p lack k.world who) rest (k.early - 1))) next (subst (λ (l : Kept V). StandsFor l (turned p lack s)) (ap (turn_first p lack k) e) stands)
 
   turn_stable : (lack : Option LackPlace) (k : Kept V) (who : ℕ) (rest : List ℕ) → IsStable p k → k.ready ≡ who ∷ rest → IsStable p (queued (turn p lack k.world who) rest (k.early - 1))
@@ -105,7 +105,7 @@ module _ {V : Type 0} (p : Program V) (law : IsLawful p) (plainly : MakesPlain p
       let moved = go_on p lack (begin w) who c.body in
       let plain_move = plainly c.body (answer_given (begin w) who).1 may.real may.some in
       let good = good_moved p law plainly lack w who may c may.found may.some may.real (good_stable p k s) in
-      subst IsSettled (sym (turn_is p law plainly lack w who c may.found)) (settles_all V moved (go_on_plain p lack (begin w) who c.body plain_move (begin_plain w s.well.plain)) good.numbered)
+      subst IsSettled (sym (turn_is p law plainly lack w who c may.found)) (settles_plainly V moved (go_on_plain p lack (begin w) who c.body plain_move (begin_plain w s.plain)) good.numbered)
 
   turn_settled : (lack : Option LackPlace) (k : Kept V) (who : ℕ) (rest : List ℕ) → IsStable p k → k.ready ≡ who ∷ rest → IsSettled (queued (turn p lack k.world who) rest (k.early - 1)).world
   turn_settled lack k who rest s e =
@@ -147,10 +147,10 @@ module _ {V : Type 0} (p : Program V) (law : IsLawful p) (plainly : MakesPlain p
   same_comes s b = record { places = λ n there. refl; no_more = omega arith }
 
   turned_is : (s : State V) (lack : Option LackPlace) (even : IsEven p s) (who : ℕ) (rest : List ℕ) → even.kept.ready ≡ who ∷ rest → turned p lack s ≡ turn_of p lack s who
-  turned_is s lack even who rest e = ap (λ o. if_some o s (turn_of p lack s)) (next_is even.kept s who rest even.stands e)
+  turned_is s lack even who rest e = ap (λ o. if_some o s (turn_of p lack s)) (next_is even.kept.ready s who rest even.stands.order even.stands.rise e)
 
   turned_none : (s : State V) (lack : Option LackPlace) (even : IsEven p s) → even.kept.ready ≡ [] → turned p lack s ≡ s
-  turned_none s lack even e = ap (λ o. if_some o s (turn_of p lack s)) (nobody_next even.kept s even.stands e)
+  turned_none s lack even e = ap (λ o. if_some o s (turn_of p lack s)) (nobody_next even.kept.ready s even.stands.order e)
 
   turned_steady : (s : State V) (lack : Option LackPlace) → IsSteady p s → IsSteady p (turned p lack s)
   turned_steady s lack st = at st.even.kept.ready refl
@@ -165,12 +165,12 @@ module _ {V : Type 0} (p : Program V) (law : IsLawful p) (plainly : MakesPlain p
       at : (ready : List ℕ) → st.even.kept.ready ≡ ready → Comes s (turned p lack s) b × (if_some (next_turn s) false (is_inside s.world.scopes b) ≡ true → debt p (turned p lack s) b < debt p s b)
       at [] e = (
         subst (λ t. Comes s t b) (sym (turned_none s lack st.even e)) (same_comes s b),
-        λ i. let none : if_some (next_turn s) false (is_inside s.world.scopes b) ≡ false = ap (λ o. if_some o false (is_inside s.world.scopes b)) (nobody_next st.even.kept s st.even.stands e) in unlike (if_some (next_turn s) false (is_inside s.world.scopes b)) none i,
+        λ i. let none : if_some (next_turn s) false (is_inside s.world.scopes b) ≡ false = ap (λ o. if_some o false (is_inside s.world.scopes b)) (nobody_next st.even.kept.ready s st.even.stands.order e) in unlike (if_some (next_turn s) false (is_inside s.world.scopes b)) none i,
       )
       at (who ∷ rest) e =
           let and_parts = turn_comes s lack st who rest b e c in (
             subst (λ t. Comes s t b) (sym (turned_is s lack st.even who rest e)) and_parts.0,
-            λ i. subst (λ t. debt p t b < debt p s b) (sym (turned_is s lack st.even who rest e)) (and_parts.1 (sym (ap (λ o. if_some o false (is_inside s.world.scopes b)) (next_is st.even.kept s who rest st.even.stands e)) ∙ i)),
+            λ i. subst (λ t. debt p t b < debt p s b) (sym (turned_is s lack st.even who rest e)) (and_parts.1 (sym (ap (λ o. if_some o false (is_inside s.world.scopes b)) (next_is st.even.kept.ready s who rest st.even.stands.order st.even.stands.rise e)) ∙ i)),
           )
 
   -- ---- steps in which no answer is taken
@@ -201,15 +201,15 @@ module _ {V : Type 0} (p : Program V) (law : IsLawful p) (plainly : MakesPlain p
       let r = root_closed k.world in
       let good = good_closed p law plainly keeps (steps_keep_order p law plainly) k.world (good_stable p k even.stable) in
       record {
-        even = other_even s even (settle r) steps (length k.ready) (stable_steps.shut k even.stable) _ (follows.shut k s even.stable.well even.stands);
-        settled = settled_queued p (settle r) k.ready (length k.ready) (good_settle p r good).sits (settles_all V r (closed_plain k.world even.stable.well.plain) good.numbered);
+        even = other_even s even (settle r) steps (length k.ready) (stable_steps.shut k even.stable) _ (follows.shut k s even.stable.plain even.stands);
+        settled = settled_queued p (settle r) k.ready (length k.ready) (good_settle p r good).sits (settles_plainly V r (closed_plain k.world even.stable.plain) good.numbered);
       }
 
   shut_comes : (s : State V) (b : ℕ) → IsSteady p s → is_closing s.world.scopes b ≡ true → Comes s (shut s) b
   shut_comes s b st c =
       let even = st.even in
       let k = even.kept in
-      other_comes s even (settle (root_closed k.world)) (shut_steps p law plainly k s even.stable even.stands even.stamps even.lowers) (length k.ready) (stable_steps.shut k even.stable) _ (follows.shut k s even.stable.well even.stands) b c
+      other_comes s even (settle (root_closed k.world)) (shut_steps p law plainly k s even.stable even.stands even.stamps even.lowers) (length k.ready) (stable_steps.shut k even.stable) _ (follows.shut k s even.stable.plain even.stands) b c
 
   -- ---- expiries
 
@@ -239,13 +239,13 @@ module _ {V : Type 0} (p : Program V) (law : IsLawful p) (plainly : MakesPlain p
       let v = expire_one w x in
       let sits = (good_stable p k even.stable).sits in
       let steps = expire_steps p law plainly k t x even.stable even.stands even.stamps even.lowers m.hushed b.0 in
-      let stands = expired_next p law plainly k t x even.stable.well even.stands in
+      let stands = expired_next k t x even.stable.plain even.stands in
       let stable = stable_steps.expires k x even.stable b.0 in
       let leaves = expire_leaves p law plainly w x sits b.0 in
       record {
         even_now = other_even t even v steps k.early stable (expire_one t.world x) stands;
         hushed = hushed_queued p law plainly v k.ready k.early (hushed_expire p law plainly w x sits b.0 m.hushed);
-        timed = all_follow (is_timed w) (is_timed (queued v k.ready k.early).world) xs (λ n e. timed_lined v k.ready k.early n (expire_timed w x n even.stable.well.plain b.0 e)) b.1;
+        timed = all_follow (is_timed w) (is_timed (queued v k.ready k.early).world) xs (λ n e. timed_lined v k.ready k.early n (expire_timed w x n even.stable.plain b.0 e)) b.1;
         scopes_still = sym (ap (λ (u : World V). u.scopes) stands.world) ∙ leaves.scopes_same ∙ ap (λ (u : World V). u.scopes) even.stands.world ∙ m.scopes_still;
         owed_still = λ c e.
             let here : is_closing t.world.scopes c ≡ true = subst (λ (q : Scopes). is_closing q c ≡ true) (sym m.scopes_still) e in
@@ -289,8 +289,8 @@ module _ {V : Type 0} (p : Program V) (law : IsLawful p) (plainly : MakesPlain p
       let k = even.kept in
       let good = good_stable p k even.stable in
       record {
-        even = other_even late even (settle k.world) (settle_steps p law plainly k late even.stable even.stands even.stamps even.lowers) k.early (stable_steps.settled k even.stable) (settle late.world) (settled_after p law plainly k late even.stable.well even.stands);
-        settled = settled_queued p (settle k.world) k.ready k.early (good_settle p k.world good).sits (settles_all V k.world even.stable.well.plain good.numbered);
+        even = other_even late even (settle k.world) (settle_steps p law plainly k late even.stable even.stands even.stamps even.lowers) k.early (stable_steps.settled k even.stable) (settle late.world) (settled_after k late even.stable.plain even.stands);
+        settled = settled_queued p (settle k.world) k.ready k.early (good_settle p k.world good).sits (settles_plainly V k.world even.stable.plain good.numbered);
       }
 
   expired_comes : (s : State V) (b : ℕ) → IsSteady p s → is_closing s.world.scopes b ≡ true → Comes s (expired s) b
@@ -300,7 +300,7 @@ module _ {V : Type 0} (p : Program V) (law : IsLawful p) (plainly : MakesPlain p
       let even = m.even_now in
       let k = even.kept in
       let here : is_closing late.world.scopes b ≡ true = subst (λ (q : Scopes). is_closing q b ≡ true) (sym m.scopes_still) c in
-      let comes = other_comes late even (settle k.world) (settle_steps p law plainly k late even.stable even.stands even.stamps even.lowers) k.early (stable_steps.settled k even.stable) (settle late.world) (settled_after p law plainly k late even.stable.well even.stands) b here in
+      let comes = other_comes late even (settle k.world) (settle_steps p law plainly k late even.stable even.stands even.stamps even.lowers) k.early (stable_steps.settled k even.stable) (settle late.world) (settled_after k late even.stable.plain even.stands) b here in
       let was = m.owed_still b c in
       let now = comes.no_more in
       record {
@@ -332,7 +332,7 @@ module _ {V : Type 0} (p : Program V) (law : IsLawful p) (plainly : MakesPlain p
       record {
         kept = kept_woke even.kept told ready;
         stable = stable_steps.woke even.kept told ready even.stable;
-        stands = follows.woke even.kept s told ready even.stable.well even.stands;
+        stands = follows.woke even.kept s told ready even.stands;
         stamps = record {
           low = subst (λ n. AllByRecursion {X = Stamp} (λ x. (x.of ≤ n) × (x.at < s.next)) s.closings) (sym h.last_kept) even.stamps.low;
           each = subst (λ (t : Scopes). AllByRecursion (λ y. is_some (stamp_of s.closings y.name) ≡ y.closing) t.bundles) (sym h.scopes_kept) even.stamps.each;
@@ -427,7 +427,7 @@ module _ {V : Type 0} (p : Program V) (law : IsLawful p) (plainly : MakesPlain p
       let same = st.even.stands.world in
       let here : is_closing k.world.scopes b ≡ true = subst (λ (w : World V). is_closing w.scopes b ≡ true) (sym same) c in
       let full : is_empty k.world.scopes b ≡ false = subst (λ (w : World V). is_empty w.scopes b ≡ false) (sym same) e in
-      let g = closing_goes_on V k.world b st.even.stable.order st.even.stable.well.plain st.settled st.even.stable.rest here full in
+      let g = closing_goes_on V k.world b st.even.stable.order st.even.stable.plain st.settled st.even.stable.rest here full in
       let there : HasGoing (wordless s.world) b = subst (λ w. HasGoing w b) same g in
       record { who = there.who; inside = there.inside; answered = there.answered }
 
@@ -438,7 +438,7 @@ module _ {V : Type 0} (p : Program V) (law : IsLawful p) (plainly : MakesPlain p
       let after = kept_shut k in
       let kept = stable_steps.shut k stable in
       let steps = shut_steps p law plainly k s stable stands st.even.stamps st.even.lowers in
-      let stands_after = follows.shut k s stable.well stands in
+      let stands_after = follows.shut k s stable.plain stands in
       let shut_now : is_closing v.scopes 0 ≡ true = (root_ends.shut k stable).closing in
       let open_here : is_closing k.world.scopes 0 ≡ false = subst (λ (w : World V). is_closing w.scopes 0 ≡ false) (sym stands.world) open_root in
       let queue = take_all (k.ready) (fresh v) in

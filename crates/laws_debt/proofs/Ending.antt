@@ -21,10 +21,10 @@ use Rattle.dill_rules.specs.Answers.{answer_of}
 use Rattle.dill_rules.specs.Settling.{is_clear, can_finish, answer_due, settle_one, settle, IsSettled}
 use Rattle.dill_rules.specs.State.{lined, fresh}
 use Rattle.dill_rules.specs.Turning.{as_running, resume, given_of, answer_given, go_on, turn}
-use Rattle.laws_queue.specs.Kept.{Kept, has_answer, queued, turn_first, kept_turn, kept_shut}
+use Rattle.laws_queue.specs.Kept.{Kept, has_answer, queued, turn_first, kept_turn, kept_shut, root_closed}
 use Rattle.laws_queue.specs.Laws.{MayTurn, KeepsWell}
-use Rattle.laws_queue.specs.Plain.{may_wait, IsPlain}
-use Rattle.laws_queue.specs.Settled.{SettlesAll}
+use Rattle.laws_sound.specs.Plain.{may_wait, IsPlain}
+use Rattle.laws_sound.specs.PlainLaws.{SettlesPlainly}
 use Rattle.laws_queue.specs.Well.{Numbered, bit, occurs, IsQueue, IsWell}
 use Rattle.laws_sound.specs.Laws.{is_closing, CancelsAll, RootGoesOn}
 use Rattle.laws_sound.specs.Order.{IsInOrder}
@@ -32,12 +32,13 @@ use Rattle.laws_debt.specs.Closing.{IsStable, IsClosing}
 use Rattle.laws_debt.specs.Laws.{KeepsStable, EndsClosing, turn_until}
 use Rattle.laws_debt.specs.Owed.{share_by, is_early, owed}
 use Rattle.laws_debt.specs.Says.{Says, SaysIn, IsLowering, AllLower}
-use Rattle.laws_queue.proofs.Plainly.{begin_plain}
-use Rattle.laws_queue.proofs.Steps.{settle_one_plain}
-use Rattle.laws_queue.proofs.Turns.{root_closed, closed_plain, go_on_plain}
+use Rattle.laws_sound.proofs.Plainly.{begin_plain}
+use Rattle.laws_sound.proofs.Steps.{settle_one_plain}
+use Rattle.laws_sound.proofs.Turns.{closed_plain, go_on_plain}
 use Rattle.laws_debt.proofs.Bounded.{owes_few, all_early}
 use Rattle.laws_debt.proofs.Keeping.{root_flags, good_stable, settle_holds, sits_resumed, turn_is}
-use Rattle.laws_debt.proofs.Lining.{lined_ending, lined_pending}
+use Rattle.laws_queue.proofs.Lining.{lined_pending}
+use Rattle.laws_debt.proofs.Lining.{lined_ending}
 use Rattle.laws_debt.proofs.Lists.{total, is_total, all_found, all_to, found_passes, equal_number, found_changed}
 use Rattle.laws_debt.proofs.Lowering.{all_calm, owed_evolves, lowers_evolves, owed_lined, all_lower_lined, others_lower, share_falls, answered_owes, called_falls, ended_falls, first_gone, others_same}
 use Rattle.laws_debt.proofs.Settling.{AllSit, leads_sits, settle_one_leads, settle_leads}
@@ -209,7 +210,7 @@ module _ {V : Type 0} (p : Program V) (law : IsLawful p) (plainly : MakesPlain p
     lowers : AllLower (early_of (early - 1) rest) v.coroutines
     falls : total (share_by p (early_of (early - 1) rest)) v.coroutines < total (share_by p (early_of early (who ∷ rest))) w.coroutines
 
-  module _ (settling_ends : SettlesAll V) where
+  module _ (settling_ends : SettlesPlainly V) where
     -- what a step comes to behind its settling
     record Settles (w : World V) (v : World V) : Type 0 where
       sits_then : AllSit p v.coroutines
@@ -259,7 +260,7 @@ module _ {V : Type 0} (p : Program V) (law : IsLawful p) (plainly : MakesPlain p
         let good = good_stable p k s.stable in
         let sits = good.sits in
         let shut : AllHold (IsShutAs 0) 0 w = record { given = omega arith; bundles = of_closing w s.stable.order.fits.forest.ordered.bundles (find (scopes.is_bundle 0) w.scopes.bundles) refl s.closing; things = s.stable.things; flags = s.stable.flags } in
-        let before : InClosing w = record { plain = s.stable.well.plain; order = s.stable.order; sits = sits; holds = shut } in
+        let before : InClosing w = record { plain = s.stable.plain; order = s.stable.order; sits = sits; holds = shut } in
         let once = (subst (λ q. IsQueue q w.coroutines) e s.stable.well.queue).once who in
         let gone = first_gone who rest k.early (absent_rest who rest _ once) in
         let lowers : AllLower (early_of k.early (who ∷ rest)) w.coroutines = subst (λ q. AllLower (λ n. list_any (λ m. m == n) (take k.early q)) w.coroutines) e s.lowers in
@@ -274,7 +275,7 @@ module _ {V : Type 0} (p : Program V) (law : IsLawful p) (plainly : MakesPlain p
         (others_lower p (early_of k.early (who ∷ rest)) (early_of (k.early - 1) rest) who gone (others_same who rest k.early)) (λ x i f. tt) lowers in
         record {
           in_closing = record {
-            plain = go_on_plain p lack b who c.body plain_move (begin_plain w s.stable.well.plain);
+            plain = go_on_plain p lack b who c.body plain_move (begin_plain w s.stable.plain);
             order = within.moved k lack who rest c s.stable.well s.stable.order e may.found;
             sits = sits_moved;
             holds = go_on_shut (IsShutAs 0) 0 (shut_lasts 0) p lack b who c.body plain_move (record { given = shut.given; bundles = shut.bundles; things = shut.things; flags = record { ranked = shut.flags.ranked; flagged = shut.flags.flagged } });
@@ -301,7 +302,7 @@ module _ {V : Type 0} (p : Program V) (law : IsLawful p) (plainly : MakesPlain p
         } in
         subst (TurnsOff w k.early who rest) (sym (turn_is p law plainly lack w who may.one may.found)) done
 
-  module _ (settling_ends : SettlesAll V) (stable : KeepsStable p) (goes : RootGoesOn p) where
+  module _ (settling_ends : SettlesPlainly V) (stable : KeepsStable p) (goes : RootGoesOn p) where
     few : (k : Kept V) → IsClosing p k → owed p k ≤ 2 ^ 48
     few k s = subst (λ n. n ≤ 2 ^ 48) (sym (is_total (share_by p (is_early k)) k.world.coroutines)) (owes_few p law (is_early k) k.world.coroutines s.stable.well.lives s.stable.order.fits.few)
 
@@ -310,7 +311,7 @@ module _ {V : Type 0} (p : Program V) (law : IsLawful p) (plainly : MakesPlain p
         let w = root_closed k.world in
         let good = good_stable p k s in
         let before : InClosing w = record {
-          plain = closed_plain k.world s.well.plain;
+          plain = closed_plain k.world s.plain;
           order = within.closed k.world s.order;
           sits = good.sits;
           holds = record { given = omega arith; bundles = root_shuts k.world.scopes.bundles s.order.fits.forest.ordered.bundles; things = s.things; flags = root_flags k.world s.flags };
@@ -370,7 +371,7 @@ module _ {V : Type 0} (p : Program V) (law : IsLawful p) (plainly : MakesPlain p
         at (who ∷ rest) e h = (turned_first k lack who rest keeps s e).1
 
     goes_on : (k : Kept V) → IsClosing p k → k.world.ended ≡ None → has_answer k.ready ≡ true
-    goes_on k s e = goes k s.stable.well s.stable.order s.settled s.stable.rest s.closing e
+    goes_on k s e = goes k s.stable.well s.stable.plain s.stable.order s.settled s.stable.rest s.closing e
 
     stays_ended : (k : Kept V) (lacks : List (Option LackPlace)) → is_some k.world.ended ≡ true → is_some (fold (turn_until p) k lacks).world.ended ≡ true
     stays_ended k [] e = e

@@ -22,7 +22,7 @@ use Rattle.dill_rules.specs.Kinds.{is_of_kind, names_dead, is_other_kind, names_
 use Rattle.dill_rules.specs.Owning.{entry_of}
 use Rattle.dill_rules.specs.Refusals.{refuse, has_twice, holds, is_invalid, is_refused_by_stack}
 use Rattle.dill_rules.specs.Entering.{entered, lack_fault}
-use Rattle.laws_queue.specs.Plain.{may_wait}
+use Rattle.laws_sound.specs.Plain.{may_wait}
 
 -- a quiet call lowers, whatever is answered
 pub by_quiet : (word : Word) (answer : Answer) → is_quiet word ≡ true → Lowers word answer

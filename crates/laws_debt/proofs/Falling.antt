@@ -25,8 +25,8 @@ use Rattle.laws_debt.specs.Closing.{IsStable}
 use Rattle.laws_debt.specs.Flags.{Ranked}
 use Rattle.laws_debt.specs.Owed.{share_by}
 use Rattle.laws_debt.specs.Says.{Says, SaysIn, IsLowering}
-use Rattle.laws_queue.proofs.Plainly.{begin_plain}
-use Rattle.laws_queue.proofs.Turns.{go_on_plain}
+use Rattle.laws_sound.proofs.Plainly.{begin_plain}
+use Rattle.laws_sound.proofs.Turns.{go_on_plain}
 use Rattle.laws_debt.proofs.Ending.{KeepsWithin, IsShutAs, shut_lasts}
 use Rattle.laws_debt.proofs.Evolving.{Evolves, Suits, newborn, evolves_all, evolves_total}
 use Rattle.laws_debt.proofs.Holding.{new_outside as new_outside_of}
@@ -107,7 +107,7 @@ module _ {V : Type 0} (p : Program V) (law : IsLawful p) (plainly : MakesPlain p
       let x = closing_found w.scopes b c in
       let name : x.0.name ≡ b = number_of x.0.name b (found_passes (is_bundle b) w.scopes.bundles x.0 x.1) in
       record {
-        plain = s.well.plain;
+        plain = s.plain;
         order = s.order;
         sits = (good_stable p k s).sits;
         holds = record { given = subst (λ n. n ≤ w.last_bundle) name (ranked_bound w.scopes.bundles 0 w.last_bundle b x.0 s.flags.ranked x.1); bundles = closing_shut w b s.order c; things = s.things; flags = s.flags };
@@ -217,7 +217,7 @@ module _ {V : Type 0} (p : Program V) (law : IsLawful p) (plainly : MakesPlain p
         let resumed = all_resumed who view (LowersAt p tree early) (LowersAt p tree less) w.coroutines 0 w.last_coroutine s.well.numbered
         (λ x i l t. others_lower p early less who gone same x i (l t)) (λ x i t f. tt) lowers in
         let in_moved : InTree p w.scopes b forest moved = record {
-          plain = go_on_plain p lack now who c.body plain_move (begin_plain w s.well.plain);
+          plain = go_on_plain p lack now who c.body plain_move (begin_plain w s.plain);
           order = within.moved k lack who rest c s.well s.order e may.found;
           sits = sits;
           holds = go_on_shut (IsShutAs b) b (shut_lasts b) p lack now who c.body plain_move (record { given = self.holds.given; bundles = self.holds.bundles; things = self.holds.things; flags = record { ranked = self.holds.flags.ranked; flagged = self.holds.flags.flagged } });

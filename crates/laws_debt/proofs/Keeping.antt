@@ -19,9 +19,12 @@ use Rattle.dill_rules.specs.Hearing.{heat_ready}
 use Rattle.dill_rules.specs.Settling.{settle_one, settle_within, settle}
 use Rattle.dill_rules.specs.State.{lined_mode, lined}
 use Rattle.dill_rules.specs.Turning.{as_running, resume, answer_given, go_on, turn}
-use Rattle.laws_queue.specs.Kept.{Kept, opening_kept, queued, turn_first, kept_turn, kept_expire_next, kept_late, kept_expired, kept_shut, kept_woke}
+use Rattle.laws_queue.specs.Kept.{Kept, opening_kept, queued, turn_first, kept_turn, kept_expire_next, kept_late, kept_expired, kept_shut, kept_woke, root_closed}
 use Rattle.laws_queue.specs.Laws.{MayTurn, KeepsWell}
-use Rattle.laws_queue.specs.Plain.{may_wait, waits_plainly}
+use Rattle.laws_sound.specs.Plain.{may_wait, waits_plainly, IsPlain}
+use Rattle.laws_sound.specs.PlainLaws.{KeepsPlain}
+use Rattle.laws_sound.proofs.Plainly.{begin_plain}
+use Rattle.laws_sound.proofs.PlainLaws.{steps_keep_plain}
 use Rattle.laws_queue.specs.Well.{Numbered, IsWell}
 use Rattle.laws_sound.specs.Laws.{KeepsOrder, is_resting, is_timed}
 use Rattle.laws_sound.specs.Order.{IsInOrder}
@@ -29,10 +32,9 @@ use Rattle.laws_debt.specs.Closing.{IsStable}
 use Rattle.laws_debt.specs.Flags.{IsFlagged, HasFlags}
 use Rattle.laws_debt.specs.Laws.{KeepsStable}
 use Rattle.laws_debt.specs.Says.{SaysIn, Says, AllSay, IsProper}
-use Rattle.laws_queue.proofs.Turns.{root_closed}
 use Rattle.laws_debt.proofs.Entering.{start_only}
 use Rattle.laws_debt.proofs.Flagging.{all_picked, ranked_change}
-use Rattle.laws_debt.proofs.Lining.{lined_pending}
+use Rattle.laws_queue.proofs.Lining.{lined_pending}
 use Rattle.laws_debt.proofs.Lists.{all_change, all_map, all_to, numbered_change, number_of}
 use Rattle.laws_debt.proofs.Settling.{Sits, AllSit, leads_sits, leads_numbered, settle_one_leads, settle_within_leads, settle_leads, pass_nothing, expire_leads}
 use Rattle.laws_debt.proofs.Shutting.{AllHold, Lasts, settle_one_shut, expire_one_shut, go_on_shut}
@@ -118,7 +120,7 @@ module _ {V : Type 0} (p : Program V) where
   pub good_stable : (k : Kept V) → IsStable p k → IsGood k.world
   good_stable k s = record {
     numbered = s.well.numbered;
-    sits = all_sit k.world.coroutines s.well.plain.calls s.says;
+    sits = all_sit k.world.coroutines s.plain.calls s.says;
     stand = all_standing k.world.coroutines s.rest;
     holds = record { given = omega arith; bundles = all_any k.world.scopes.bundles; things = s.things; flags = s.flags };
   }
@@ -142,9 +144,10 @@ module _ {V : Type 0} (p : Program V) where
   all_rest (c ∷ cs) a = and_from (is_resting (lined_mode c.mode)) (list_all (λ d. is_resting d.mode) (map lined cs)) (rests_lined c c.mode refl a.0) (all_rest cs a.1)
 
   -- who was answered in a step is queued
-  pub stable_queued : (v : World V) (ready : List ℕ) (early : ℕ) → IsWell p (queued v ready early) → IsInOrder (queued v ready early).world → IsGood v → IsStable p (queued v ready early)
-  stable_queued v ready early well order g = record {
+  pub stable_queued : (v : World V) (ready : List ℕ) (early : ℕ) → IsWell p (queued v ready early) → IsPlain (queued v ready early).world → IsInOrder (queued v ready early).world → IsGood v → IsStable p (queued v ready early)
+  stable_queued v ready early well plain order g = record {
     well = well;
+    plain = plain;
     order = order;
     says = all_map (Says p) lined v.coroutines (λ c s. says_lined (p.said c.body) c.mode s) (all_to (Sits p) (Says p) v.coroutines (λ c s. s.1) g.sits);
     things = g.holds.things;
@@ -225,9 +228,13 @@ module _ {V : Type 0} where
   heat_flags (x ∷ xs) w f = heat_flags xs (heat_ready w x) (record { ranked = f.ranked; flagged = f.flagged })
 
 module _ {V : Type 0} (p : Program V) (law : IsLawful p) (plainly : MakesPlain p) (keeps : KeepsWell p) (ordered : KeepsOrder p) where
+  stays : KeepsPlain p
+  stays = steps_keep_plain p law plainly
+
   opening : (view : V) → Begins p view → IsStable p (opening_kept view)
   opening view b = record {
     well = keeps.opening view b;
+    plain = stays.opening view;
     order = ordered.opening view;
     says = (start_only (p.said view) b.start, tt);
     things = tt;
@@ -243,13 +250,13 @@ module _ {V : Type 0} (p : Program V) (law : IsLawful p) (plainly : MakesPlain p
       at (who ∷ rest) e =
           let may = keeps.first k who rest s.well e in
           let is : kept_turn p lack k ≡ turn_first p lack k (who ∷ rest) = ap (turn_first p lack k) e in
-          stable_queued p (turn p lack k.world who) rest (k.early - 1) (subst (IsWell p) is (keeps.turned k lack s.well)) (subst (λ (l : Kept V). IsInOrder l.world) is (ordered.turned k lack s.well s.order)) (good_turn p law plainly lack k.world who may (good_stable p k s))
+          stable_queued p (turn p lack k.world who) rest (k.early - 1) (subst (IsWell p) is (keeps.turned k lack s.well)) (subst (λ (l : Kept V). IsPlain l.world) is (stays.turned k lack s.well s.plain)) (subst (λ (l : Kept V). IsInOrder l.world) is (ordered.turned k lack s.well s.plain s.order)) (good_turn p law plainly lack k.world who may (good_stable p k s))
 
   started : (k : Kept V) → IsStable p k → IsStable p (record k { world = begin k.world })
-  started k s = record { well = keeps.started k s.well; order = ordered.started k s.order; says = s.says; things = s.things; rest = s.rest; flags = record { ranked = s.flags.ranked; flagged = s.flags.flagged } }
+  started k s = record { well = keeps.started k s.well; plain = begin_plain k.world s.plain; order = ordered.started k s.order; says = s.says; things = s.things; rest = s.rest; flags = record { ranked = s.flags.ranked; flagged = s.flags.flagged } }
 
   expires : (k : Kept V) (who : ℕ) → IsStable p k → is_timed k.world who ≡ true → IsStable p (kept_expire_next k who)
-  expires k who s e = stable_queued p (expire_one k.world who) k.ready k.early (keeps.expires k who s.well) (ordered.expires k who s.well s.order e) (good_expire p k.world who (good_stable p k s))
+  expires k who s e = stable_queued p (expire_one k.world who) k.ready k.early (keeps.expires k who s.well) (stays.expires k who s.plain) (ordered.expires k who s.well s.plain s.order e) (good_expire p k.world who (good_stable p k s))
 
   good_late : (xs : List ℕ) (k : Kept V) → IsGood p k.world → IsGood p (fold kept_expire_next k xs).world
   good_late [] k g = g
@@ -260,22 +267,23 @@ module _ {V : Type 0} (p : Program V) (law : IsLawful p) (plainly : MakesPlain p
       let g = good_stable p k s in
       let begun : IsGood p (begin k.world) = record { numbered = g.numbered; sits = g.sits; stand = g.stand; holds = record { given = omega arith; bundles = g.holds.bundles; things = g.holds.things; flags = record { ranked = g.holds.flags.ranked; flagged = g.holds.flags.flagged } } } in
       let late = good_late (passed k.world) (record k { world = begin k.world }) begun in
-      stable_queued p (settle (kept_late k).world) (kept_late k).ready (kept_late k).early (keeps.expired k s.well) (ordered.expired k s.well s.order) (good_settle p (kept_late k).world late)
+      stable_queued p (settle (kept_late k).world) (kept_late k).ready (kept_late k).early (keeps.expired k s.well) (stays.expired k s.plain) (ordered.expired k s.well s.plain s.order) (good_settle p (kept_late k).world late)
 
   settled : (k : Kept V) → IsStable p k → IsStable p (queued (settle k.world) k.ready k.early)
-  settled k s = stable_queued p (settle k.world) k.ready k.early (keeps.settled k s.well) (ordered.settled k s.well s.order) (good_settle p k.world (good_stable p k s))
+  settled k s = stable_queued p (settle k.world) k.ready k.early (keeps.settled k s.well) (stays.settled k s.plain) (ordered.settled k s.well s.plain s.order) (good_settle p k.world (good_stable p k s))
 
   pub good_closed : (w : World V) → IsGood p w → IsGood p (root_closed w)
   good_closed w g = record { numbered = g.numbered; sits = g.sits; stand = g.stand; holds = record { given = omega arith; bundles = all_any (root_closed w).scopes.bundles; things = g.holds.things; flags = root_flags w g.holds.flags } }
 
   shut : (k : Kept V) → IsStable p k → IsStable p (kept_shut k)
-  shut k s = stable_queued p (settle (root_closed k.world)) k.ready (length k.ready) (keeps.shut k s.well) (ordered.shut k s.well s.order) (good_settle p (root_closed k.world) (good_closed k.world (good_stable p k s)))
+  shut k s = stable_queued p (settle (root_closed k.world)) k.ready (length k.ready) (keeps.shut k s.well) (stays.shut k s.plain) (ordered.shut k s.well s.plain s.order) (good_settle p (root_closed k.world) (good_closed k.world (good_stable p k s)))
 
   woke : (k : Kept V) (told : ℕ) (ready : List Ready) → IsStable p k → IsStable p (kept_woke k told ready)
   woke k told ready s =
       let h = heated ready (begin k.world) in
       record {
         well = keeps.woke k told ready s.well;
+        plain = stays.woke k told ready s.plain;
         order = ordered.woke k told ready s.order;
         says = subst (AllSay p) (sym h.0) s.says;
         things = subst (AllByRecursion IsProper) (sym h.1) s.things;

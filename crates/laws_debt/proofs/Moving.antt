@@ -18,11 +18,11 @@ use Rattle.dill_rules.specs.Settling.{settle_one, settle_within, settle}
 use Rattle.dill_rules.specs.Turning.{resume, answer_given, go_on, turn}
 use Rattle.laws_queue.specs.Kept.{Kept}
 use Rattle.laws_queue.specs.Laws.{MayTurn, KeepsWell}
-use Rattle.laws_queue.specs.Plain.{IsPlain}
+use Rattle.laws_sound.specs.Plain.{IsPlain}
 use Rattle.laws_queue.specs.Stands.{StandsFor}
 use Rattle.laws_queue.specs.Well.{Numbered}
-use Rattle.laws_queue.proofs.Plainly.{begin_plain}
-use Rattle.laws_queue.proofs.Turns.{go_on_plain}
+use Rattle.laws_sound.proofs.Plainly.{begin_plain}
+use Rattle.laws_sound.proofs.Turns.{go_on_plain}
 use Rattle.laws_sound.specs.Laws.{is_closing, is_resting}
 use Rattle.laws_sound.specs.Order.{IsInOrder}
 use Rattle.laws_debt.specs.Closing.{IsStable}
@@ -176,7 +176,7 @@ module _ {V : Type 0} (p : Program V) (law : IsLawful p) (plainly : MakesPlain p
       let begun = go_on_begun w.scopes p lack (begin w) who c may.found (unfresh_all w.coroutines s.rest) (old_flags w.scopes s.order.fits.forest) plain_move in
       let closing : is_closing (settle moved).scopes b ≡ true = subst (λ (v : World V). is_closing v.scopes b ≡ true) is new in
       subst (λ (v : World V). AllByRecursion (λ d. is_inside v.scopes b d.number ≡ true → LowersFresh d.mode) v.coroutines) (sym is)
-      (at moved good (go_on_plain p lack (begin w) who c.body plain_move (begin_plain w s.well.plain)) (within.moved k lack who rest c s.well s.order e may.found) closing begun)
+      (at moved good (go_on_plain p lack (begin w) who c.body plain_move (begin_plain w s.plain)) (within.moved k lack who rest c s.well s.order e may.found) closing begun)
     where
       at : (moved : World V) → IsGood p moved → IsPlain moved → IsInOrder moved → is_closing (settle moved).scopes b ≡ true → Begun k.world.scopes moved → AllByRecursion (λ d. is_inside (settle moved).scopes b d.number ≡ true → LowersFresh d.mode) (settle moved).coroutines
       at moved good plain order closing (same flags) =

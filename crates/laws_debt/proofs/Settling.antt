@@ -21,7 +21,7 @@ use Rattle.dill_rules.specs.Entering.{late_answer}
 use Rattle.dill_rules.specs.Expiring.{expire_one}
 use Rattle.dill_rules.specs.Giving.{give}
 use Rattle.dill_rules.specs.Settling.{can_finish, free_all, release_all, finish, answer_due, give_first, settle_one, settle_within, pass_one, pass_all, settle}
-use Rattle.laws_queue.specs.Plain.{may_wait, waits_plainly}
+use Rattle.laws_sound.specs.Plain.{may_wait, waits_plainly}
 use Rattle.laws_queue.specs.Well.{Numbered}
 use Rattle.laws_debt.specs.Says.{SaysIn, Says}
 use Rattle.laws_queue.proofs.Crew.{bare_crew, free_dead_crew, keep_end_last}

@@ -22,10 +22,10 @@ use Rattle.dill_rules.specs.Expiring.{due_of, expire_one}
 use Rattle.dill_rules.specs.Giving.{give}
 use Rattle.dill_rules.specs.Settling.{answer_due, settle, IsSettled}
 use Rattle.dill_rules.specs.Taking.{is_cancelled}
-use Rattle.laws_queue.specs.Kept.{Kept, queued}
-use Rattle.laws_queue.specs.Plain.{may_wait}
+use Rattle.laws_queue.specs.Kept.{Kept, queued, root_closed}
+use Rattle.laws_sound.specs.Plain.{may_wait}
 use Rattle.laws_queue.specs.Stands.{StandsFor}
-use Rattle.laws_queue.proofs.Turns.{root_closed, closed_plain}
+use Rattle.laws_sound.proofs.Turns.{closed_plain}
 use Rattle.laws_sound.specs.Laws.{is_closing, is_timed}
 use Rattle.laws_debt.specs.Closing.{IsStable}
 use Rattle.laws_debt.specs.Says.{IsLowering}
@@ -38,7 +38,7 @@ use Rattle.laws_debt.proofs.Falling.{LowersAt, owed_tree, lowers_tree, tree_self
 use Rattle.laws_debt.proofs.Flagging.{all_picked}
 use Rattle.laws_debt.proofs.Holding.{tracks_close}
 use Rattle.laws_debt.proofs.Keeping.{nobody_calm, AnyBundle, good_stable, root_flags, settles, settle_holds}
-use Rattle.laws_debt.proofs.Lining.{lined_pending}
+use Rattle.laws_queue.proofs.Lining.{lined_pending}
 use Rattle.laws_debt.proofs.Lists.{all_found, all_to, found_passes, number_of}
 use Rattle.laws_debt.proofs.Moving.{unfresh_all as all_unfresh_of, begun_settles, flag_was, flags_dropped, settle_scopes}
 use Rattle.laws_debt.proofs.Settling.{AllSit, call_pends, pending_runs, expire_leads}
@@ -110,7 +110,7 @@ module _ {V : Type 0} (p : Program V) (law : IsLawful p) (plainly : MakesPlain p
       let w = k.world in
       let self = tree_self p law plainly k b stable c in
       record {
-        plain = closed_plain w stable.well.plain;
+        plain = closed_plain w stable.plain;
         order = order_root w stable.order;
         sits = self.sits;
         holds = record {
@@ -139,7 +139,7 @@ module _ {V : Type 0} (p : Program V) (law : IsLawful p) (plainly : MakesPlain p
       record {
         holds = settle_holds p (StampOk w.scopes s.closings) w.last_bundle lasts r good.sits good.numbered closed;
         falls = λ b c. settle_falls p law plainly w r b stable.order.fits.forest.forest (is_early s b) (less_early p law plainly s b none_gone) (shut_tree k b stable c) (here_lowers k s b stands lowers c) (omega arith);
-        begun = λ b c d. begun_settles p r b (closed_plain w stable.well.plain) (order_root w stable.order) good.sits any (all_unfresh_of w.coroutines stable.rest) d;
+        begun = λ b c d. begun_settles p r b (closed_plain w stable.plain) (order_root w stable.order) good.sits any (all_unfresh_of w.coroutines stable.rest) d;
         answered = had_before k (settle r) stable (settles p r good.sits good.numbered);
         left = λ n g. refl;
         lost = λ n g. cc;

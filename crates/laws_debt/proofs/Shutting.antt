@@ -33,11 +33,11 @@ use Rattle.dill_rules.specs.Expiring.{expire_one}
 use Rattle.dill_rules.specs.Giving.{give}
 use Rattle.dill_rules.specs.Settling.{close_owned, close_all, end, can_finish, highest_first, is_owned_by, free_all, release_all, outcome_of, keep_end, leave, finish, answer_due, give_first, settle_one}
 use Rattle.dill_rules.specs.Turning.{is_build, is_entry, may_lack_build, resume, answer_given, move_of, make_move, lack_move, go_on}
-use Rattle.laws_queue.specs.Plain.{may_wait}
+use Rattle.laws_sound.specs.Plain.{may_wait}
 use Rattle.laws_debt.specs.Flags.{Ranked, IsFlagged, HasFlags}
 use Rattle.laws_debt.specs.Says.{IsProper}
 use Rattle.laws_debt.proofs.Flagging.{flagged_closed, flagged_freed, ranked_change, ranked_without, ranked_append}
-use Rattle.laws_queue.proofs.Turns.{entered_plain}
+use Rattle.laws_sound.proofs.Turns.{entered_plain}
 use Rattle.laws_debt.proofs.Entering.{MakesProper, unrefused_proper}
 use Rattle.laws_debt.proofs.Lists.{all_append, all_without, all_found}
 use Rattle.laws_debt.proofs.Settling.{AllSit, due_first, pending_runs, call_pends}

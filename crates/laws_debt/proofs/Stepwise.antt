@@ -15,7 +15,7 @@ use Rattle.dill_rules.specs.Debts.{is_early, debt}
 use Rattle.dill_rules.specs.State.{State, Stamp, is_stamp_of, stamp_of, stamped, lined_mode, lined, fresh, line_up}
 use Rattle.dill_rules.specs.World.{World, is_coroutine, is_ending, is_answered}
 use Rattle.laws_queue.specs.Kept.{Kept, queued}
-use Rattle.laws_queue.specs.Plain.{wordless}
+use Rattle.laws_queue.specs.Lending.{wordless}
 use Rattle.laws_queue.specs.Stands.{StandsFor}
 use Rattle.laws_sound.specs.Laws.{is_closing}
 use Rattle.laws_sound.specs.Order.{is_there, IsInOrder}

@@ -35,10 +35,10 @@ use Rattle.dill_rules.specs.Owning.{entry_of, drop, release, free_bundle, is_dea
 use Rattle.dill_rules.specs.Taking.{bundle_of, is_cancelled}
 use Rattle.dill_rules.specs.Settling.{can_finish, end, highest_first, is_owned_by, free_all, release_all, finish, answer_due, give_first, settle_one, settle_within, settle}
 use Rattle.dill_rules.specs.Turning.{is_build, is_entry, may_lack_build, resume, answer_given, move_of, make_move, lack_move, go_on}
-use Rattle.laws_queue.specs.Plain.{may_wait, IsPlain}
+use Rattle.laws_sound.specs.Plain.{may_wait, IsPlain}
 use Rattle.laws_queue.specs.Well.{Numbered, bit, occurs}
-use Rattle.laws_queue.proofs.Lists.{all_found}
-use Rattle.laws_queue.proofs.Steps.{settle_one_plain}
+use Rattle.laws_sound.proofs.Lists.{all_found}
+use Rattle.laws_sound.proofs.Steps.{settle_one_plain}
 use Rattle.laws_sound.specs.Laws.{is_closing}
 use Rattle.laws_sound.specs.Order.{is_there, is_held, has_bundle, IsInOrder}
 use Rattle.laws_sound.proofs.Counting.{holds, weigh_filter, weighs_found}
@@ -48,7 +48,7 @@ use Rattle.laws_sound.proofs.Owners.{owned_no_root}
 use Rattle.laws_sound.proofs.Sound.{owner_is, inside_cancelled}
 use Rattle.laws_debt.specs.Flags.{IsFlagged, HasFlags}
 use Rattle.laws_debt.proofs.Ending.{IsShutAs, shut_lasts}
-use Rattle.laws_queue.proofs.Turns.{entered_plain}
+use Rattle.laws_sound.proofs.Turns.{entered_plain}
 use Rattle.laws_debt.proofs.Flagging.{closed_names}
 use Rattle.laws_debt.proofs.Holding.{Facts, tracks_drop, tracks_ended, enter_tracks, end_tracks}
 use Rattle.laws_debt.proofs.Lists as lists

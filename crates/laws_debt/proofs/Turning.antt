@@ -21,7 +21,7 @@ use Rattle.dill_rules.specs.Turning.{given_of, is_build, is_entry, as_running, m
 use Rattle.laws_queue.specs.Well.{Numbered}
 use Rattle.laws_debt.specs.Says.{IsProper}
 use Rattle.laws_queue.proofs.Crew.{close_all_crew}
-use Rattle.laws_queue.proofs.Turns.{entered_plain}
+use Rattle.laws_sound.proofs.Turns.{entered_plain}
 use Rattle.laws_debt.proofs.Entering.{word_entered, entered_passes, lack_lowers}
 use Rattle.laws_debt.proofs.Evolving.{Evolves, turns}
 use Rattle.laws_debt.proofs.Lists.{found_changed, found_passes, number_of, some_same, above_other, total}

@@ -27,7 +27,7 @@ use Rattle.dill_rules.specs.Taking.{bundle_named, is_cancelled}
 use Rattle.dill_rules.specs.Refusals.{refuse}
 use Rattle.dill_rules.specs.Effects.{make, add_bundle, close_thing, start, give_all, told, bear, next_number, passed_answer}
 use Rattle.dill_rules.specs.Entering.{keep_for, is_too_late, late_answer, meet_deadline, done, enter}
-use Rattle.laws_queue.specs.Plain.{may_wait}
+use Rattle.laws_sound.specs.Plain.{may_wait}
 use Rattle.laws_queue.proofs.Crew.{SameCrew, crew_then, move_crew, release_crew, give_all_crew}
 use Rattle.laws_debt.proofs.Entering.{by_quiet, refusal_lowers, unrefused_quiet, starts_nobody, is_called_off_at_once, go_known, bundle_go_known}
 use Rattle.laws_debt.proofs.Evolving.{Evolves, stays, turns, begins, goes_on}

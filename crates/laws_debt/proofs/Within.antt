@@ -15,7 +15,8 @@ use Rattle.dill_rules.specs.Settling.{end}
 use Rattle.dill_rules.specs.Turning.{is_build, is_entry, as_running, may_lack_build, resume, answer_given, move_of, make_move, lack_move, go_on}
 use Rattle.laws_queue.specs.Laws.{KeepsWell}
 use Rattle.laws_sound.specs.Order.{IsInOrder}
-use Rattle.laws_queue.proofs.Turns.{root_closed, entered_plain}
+use Rattle.laws_sound.proofs.Turns.{entered_plain}
+use Rattle.laws_queue.specs.Kept.{root_closed}
 use Rattle.laws_sound.proofs.Entering.{order_enter}
 use Rattle.laws_sound.proofs.Keeping.{order_settle_one, order_begin}
 use Rattle.laws_sound.proofs.Nearly.{is_free}

@@ -6,14 +6,16 @@ use Rattle.dill_calls.specs.Program.{Program}
 use Rattle.laws_queue.specs.Kept.{Kept}
 use Rattle.laws_queue.specs.Well.{IsWell}
 use Rattle.laws_sound.specs.Laws.{is_closing, IsAtRest}
+use Rattle.laws_sound.specs.Plain.{IsPlain}
 use Rattle.laws_sound.specs.Order.{IsInOrder}
 use Rattle.laws_debt.specs.Flags.{HasFlags}
 use Rattle.laws_debt.specs.Owed.{is_early}
 use Rattle.laws_debt.specs.Says.{AllSay, AllLower, IsProper}
 
--- Well and in order. What each waits for or has the answer of is its program's last call, handles are those of plain programs, nobody is running, and each closing is noted.
+-- Well and in order, and neither channels nor links are there. What each waits for or has the answer of is its program's last call, handles are those of plain programs, nobody is running, and each closing is noted.
 pub record IsStable {V : Type 0} (p : Program V) (k : Kept V) : Type 0 where
   pub well : IsWell p k
+  pub plain : IsPlain k.world
   pub order : IsInOrder k.world
   pub says : AllSay p k.world.coroutines
   pub things : AllByRecursion IsProper k.world.handles.entries

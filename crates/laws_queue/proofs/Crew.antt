@@ -32,7 +32,7 @@ module _ {V : Type 0} where
   fold_crew f [] w h = no_change w
   fold_crew f (x ∷ xs) w h = crew_then w (f w x) (fold f (f w x) xs) (h w x) (fold_crew f xs (f w x) h)
 
-  take_thing_crew : (w : World V) (thing : Thing) (owner : ℕ) → SameCrew w (take_thing w thing owner)
+  pub take_thing_crew : (w : World V) (thing : Thing) (owner : ℕ) → SameCrew w (take_thing w thing owner)
   take_thing_crew w (things.Bundle name) owner = record { coroutines = refl; last = refl }
   take_thing_crew w (things.End end) owner = no_change w
   take_thing_crew w (things.Listener link) owner = no_change w

@@ -1,12 +1,8 @@
-pub mod Blind
-pub mod Settles
-pub mod Lists
-pub mod Plainly
-pub mod Steps
-pub mod Turns
 pub mod Evolving
 pub mod Answered
 pub mod Crew
+pub mod Besides
+pub mod Linked
 pub mod Walking
 pub mod Stepping
 pub mod Lining

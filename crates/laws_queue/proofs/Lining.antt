@@ -8,11 +8,8 @@ use Rattle.dill_rules.specs.declared.coroutine.Mode.TheVariants as modes
 use Rattle.dill_rules.specs.State.{is_fresh, lined_mode, lined, fresh}
 use Rattle.dill_rules.specs.World.{World, is_coroutine, is_answered, pending_call}
 use Rattle.laws_queue.specs.Kept.{queued}
-use Rattle.laws_queue.specs.Plain.{may_wait, waits_plainly, IsPlain}
 use Rattle.laws_queue.specs.Well.{has_more, Lives, Numbered, bit, occurs, is_at, counts, IsQueue, IsWell}
 use Rattle.laws_queue.proofs.Answered.{number_of, none_below, evolves_at, evolves_count}
-use Rattle.laws_queue.proofs.Lists.{all_map}
-use Rattle.laws_queue.proofs.Plainly.{plain_with}
 use Rattle.laws_queue.proofs.Stepping.{lives_leads, numbered_leads}
 use Rattle.laws_queue.proofs.Walking.{Leads}
 
@@ -38,7 +35,7 @@ lined_more (modes.Fresh word answer) = refl
 lined_more (modes.Answered word answer) = refl
 lined_more (modes.Ending outcome) = refl
 
-lined_pending : (mode : Mode) → pending_call (lined_mode mode) ≡ pending_call mode
+pub lined_pending : (mode : Mode) → pending_call (lined_mode mode) ≡ pending_call mode
 lined_pending (modes.Pending call) = refl
 lined_pending modes.Running = refl
 lined_pending (modes.Fresh word answer) = refl
@@ -128,14 +125,13 @@ module _ {V : Type 0} where
   lives_lined p (c ∷ cs) l = (record { real = l.0.real; some = λ e. l.0.some (sym (lined_more c.mode) ∙ e) }, lives_lined p cs l.1)
 
   -- a step without a place in the queue, and then its answers
-  pub well_queued : (p : Program V) (w v : World V) (ready : List ℕ) (early : ℕ) → IsPlain v → Lives p w.coroutines → Numbered 0 w.coroutines w.last_coroutine → IsQueue ready w.coroutines → Leads p w v → IsWell p (queued v ready early)
-  well_queued p w v ready early plain l n q e =
+  pub well_queued : (p : Program V) (w v : World V) (ready : List ℕ) (early : ℕ) → Lives p w.coroutines → Numbered 0 w.coroutines w.last_coroutine → IsQueue ready w.coroutines → Leads p w v → IsWell p (queued v ready early)
+  well_queued p w v ready early l n q e =
       let same : IsQueue ready v.coroutines = record {
         once = λ k. q.once k ∙ ap bit (sym (evolves_at p w.coroutines v.coroutines w.last_coroutine v.last_coroutine k e n));
         all = q.all ∙ sym (evolves_count p w.coroutines v.coroutines w.last_coroutine v.last_coroutine e);
       } in
       record {
-        plain = plain_with v (queued v ready early).world refl refl refl refl (λ h. h) (all_map waits_plainly lined v.coroutines (λ c f. ap (λ o. if_some o true may_wait) (lined_pending c.mode) ∙ f)) plain;
         lives = lives_lined p v.coroutines (lives_leads p w v e l);
         numbered = numbered_lined v.coroutines 0 v.last_coroutine (numbered_leads p w v e n);
         queue = queue_lined ready v.coroutines v.last_coroutine (numbered_leads p w v e n) same;

@@ -1,26 +1,37 @@
--- Settling goes on until nothing is due: each of its steps leaves one coroutine fewer that is pending or ending.
-use Rattle.std.proofs.Common.{◌≡◌, ◌∙◌, ◌+◌, ◌≤◌, ℕ, zero, suc, List, [], ◌∷◌, length, find, Bool, true, false, ◌&&◌, cond, Option, Some, None, refl, sym, ap, subst, arith}
+-- Settling goes on until nothing is due, whatever anybody is pending in: each of its steps leaves one coroutine fewer that is pending or ending. What the looks behind it pass is not told here.
+use Rattle.std.proofs.Common.{◌≡◌, ◌∙◌, ◌+◌, ◌≤◌, ℕ, zero, suc, List, [], ◌∷◌, length, find, Bool, true, false, ◌&&◌, cond, Option, Some, None, refl, sym, ap, subst, arith, ◌||◌, if◌then◌else◌}
 use Rattle.dill_calls.specs.declared.answer.Answer.{Answer}
 use Rattle.dill_calls.specs.declared.call.Call.{Call}
 use Rattle.dill_calls.specs.declared.call.Call.TheVariants as calls
 use Rattle.dill_calls.specs.declared.word.Word.{Word}
 use Rattle.dill_calls.specs.declared.word.Word.TheVariants as words
-use Rattle.dill_calls.specs.CallTable.{word_of}
+use Rattle.dill_calls.specs.CallTable.{word_of, named_by, gives_up}
 use Rattle.dill_base.specs.Maps.{if_some, first_some, change, without}
 use Rattle.dill_rules.specs.declared.coroutine.Coroutine.{Coroutine}
 use Rattle.dill_rules.specs.declared.coroutine.Mode.{Mode}
 use Rattle.dill_rules.specs.declared.coroutine.Mode.TheVariants as modes
-use Rattle.dill_rules.specs.World.{World, is_coroutine, with_mode, pending_call, is_ending}
-use Rattle.dill_rules.specs.Giving.{give}
-use Rattle.dill_rules.specs.Settling.{can_finish, is_clear, free_all, release_all, finish, answer_due, give_first, settle_one, settle_within, IsSettled}
-use Rattle.laws_queue.specs.Plain.{may_wait, IsPlain}
-use Rattle.laws_queue.specs.Settled.{SettlesAll}
+use Rattle.dill_rules.specs.World.{World, is_coroutine, with_mode, pending_call, is_ending, reply}
+use Rattle.dill_rules.specs.Giving.{give, is_read, look_on, after_send, give_send, give_receive, give_number, give_attached, give_closed, forgo, give_forgone, give_class}
+use Rattle.dill_rules.specs.Settling.{can_finish, is_clear, finish, answer_due, give_first, settle_one, settle_within, IsSettled}
 use Rattle.laws_queue.specs.Well.{bit, Numbered, counts}
 use Rattle.laws_queue.proofs.Answered.{some_same}
-use Rattle.laws_queue.proofs.Crew.{bare_crew, free_dead_crew, keep_end_last}
-use Rattle.laws_queue.proofs.Steps.{first_waits, settle_one_plain, pass_plain, within_plain}
+use Rattle.laws_queue.proofs.Crew.{bare_crew, free_dead_crew, keep_end_last, SameCrew, no_change, crew_then, some_crew, move_crew, release_crew}
 use Rattle.laws_queue.proofs.Evolving.{numbered_change, numbered_without}
 use Rattle.laws_queue.proofs.Stepping.{by_number, passes, due_first}
+use Rattle.dill_base.specs.declared.errno.Errno.{Errno}
+use Rattle.dill_calls.specs.declared.answer.Answer.TheVariants.{Fault, Number}
+use Rattle.dill_handles.specs.Handles as handles
+use Rattle.dill_rules.specs.Links.{with_stack}
+use Rattle.dill_rules.specs.Naming.{links, draws_of}
+use Rattle.dill_rules.specs.Owning.{move, release, is_dead_as, free_bundle}
+use Rattle.dill_rules.specs.Effects.{next_number}
+use Rattle.dill_rules.specs.Directions.{is_send, is_receive, is_handshake}
+use Rattle.dill_rules.specs.LinkAnswers.{is_tcp_close}
+use Rattle.dill_rules.specs.Sockets.{on_named}
+use Rattle.dill_rules.specs.Linking.{give_stack_up}
+use Rattle.laws_queue.specs.Settled.{SettlesAll}
+use Rattle.laws_queue.proofs.Besides.{besides_crew, on_named_besides, look_besides}
+use Rattle.laws_queue.proofs.Linked.{if_crew, release_named_crew, forgo_crew}
 
 -- pending or ending: something may still be due of it
 rests : Mode → Bool
@@ -81,70 +92,98 @@ module _ {V : Type 0} (test : Mode → Bool) where
       at false r = omega (arith, r)
 
 module _ {V : Type 0} where
-  -- a coroutine that was pending has its answer, and else the coroutines are as they were
-  give_changes : (w : World V) (who : ℕ) (call : Call) (answer : Answer) → may_wait call ≡ true → (give w who call answer).coroutines ≡ change (is_coroutine who) (with_mode (modes.Fresh (word_of call) answer)) w.coroutines
-  give_changes w who (calls.Msleep deadline) answer e = refl
-  give_changes w who (calls.BundleWait number deadline) answer e = refl
-  give_changes w who (calls.Hclose number) answer e = ap (change (is_coroutine who) (with_mode (modes.Fresh words.Hclose answer))) (free_dead_crew w number).coroutines
-  give_changes w who _ answer e = cc
+  -- who was pending has its answer, and else the coroutines are as they were
+  record Gives (w : World V) (who : ℕ) (word : Word) (v : World V) : Type 0 where
+    answer : Answer
+    coroutines : v.coroutines ≡ change (is_coroutine who) (with_mode (modes.Fresh word answer)) w.coroutines
+    last : v.last_coroutine ≡ w.last_coroutine
+
+  gives : (w v : World V) (who : ℕ) (word : Word) (answer : Answer) → SameCrew w v → Gives w who word (reply v who word answer)
+  gives w v who word answer s = record { answer = answer; coroutines = ap (change (is_coroutine who) (with_mode (modes.Fresh word answer))) s.coroutines; last = s.last }
+
+  if_gives : (b : Bool) (w : World V) (who : ℕ) (word : Word) (v u : World V) → Gives w who word v → Gives w who word u → Gives w who word (if b then v else u)
+  if_gives true w who word v u e f = e
+  if_gives false w who word v u e f = f
+
+  either_gives : {A : Type 0} (o : Option A) (w : World V) (who : ℕ) (word : Word) (v : World V) (f : A → World V) → Gives w who word v → ((a : A) → Gives w who word (f a)) → Gives w who word (if_some o v f)
+  either_gives None w who word v f e h = e
+  either_gives (Some a) w who word v f e h = h a
+
+  up_gives : (w v : World V) (who : ℕ) (call : Call) (e : Errno) (kept : ℕ) → SameCrew w v → Gives w who (word_of call) (give_stack_up v who call e kept)
+  up_gives w v who call e kept s =
+      let u = if_some (named_by call) v (λ number. release (record v { handles = handles.unkeep v.handles kept }) number) in
+      gives w u who (word_of call) (Fault e) (crew_then w v u s (release_named_crew v call kept))
+
+  attached_gives : (w : World V) (who : ℕ) (call : Call) (answer : Answer) → Gives w who (word_of call) (give_attached w who call answer)
+  attached_gives w who call (Fault e) = up_gives w (if is_read (Fault e) then look_on w call else w) who call e (draws_of call) (if_crew (is_read (Fault e)) w (look_on w call) w (besides_crew (look_besides w call)) (no_change w))
+  attached_gives w who call answer =
+      either_gives (named_by call) w who (word_of call) (reply w who (word_of call) answer) (give_number w who call) (gives w w who (word_of call) answer (no_change w))
+      (λ number. gives w (move (look_on w call) number who) who (word_of call) (Number (next_number w)) (crew_then w (look_on w call) (move (look_on w call) number who) (besides_crew (look_besides w call)) (move_crew (look_on w call) number who)))
+
+  closed_gives : (w : World V) (who : ℕ) (call : Call) (answer : Answer) → Gives w who (word_of call) (give_closed w who call answer)
+  closed_gives w who call (Fault e) = up_gives w w who call e 0 (no_change w)
+  closed_gives w who call answer = gives w (if_some (named_by call) w (release w)) who (word_of call) answer (some_crew (named_by call) w w (release w) (no_change w) (release_crew w))
+
+  class_gives : (w : World V) (who : ℕ) (call : Call) (answer : Answer) → Gives w who (word_of call) (give_class w who call answer)
+  class_gives w who call answer =
+      let word = word_of call in
+      if_gives (is_send word) w who word (give_send w who call answer) _
+      (gives w (if_some (named_by call) w (λ number. on_named w number (with_stack (after_send word answer)))) who word answer (some_crew (named_by call) w w (λ number. on_named w number (with_stack (after_send word answer))) (no_change w) (λ number. besides_crew (on_named_besides w number (with_stack (after_send word answer))))))
+      (if_gives (is_receive word) w who word (give_receive w who call answer) _
+      (gives w (if is_read answer then look_on w call else w) who word answer (if_crew (is_read answer) w (look_on w call) w (besides_crew (look_besides w call)) (no_change w)))
+      (if_gives (is_tcp_close word) w who word (give_closed w who call answer) _ (closed_gives w who call answer)
+      (if_gives (is_handshake word || gives_up word) w who word (give_attached w who call answer) _ (attached_gives w who call answer)
+      (if_gives (links word) w who word (give_forgone w who call answer) (reply w who word answer) (gives w (forgo w who) who word answer (forgo_crew w who)) (gives w w who word answer (no_change w))))))
+
+  -- every giving answers
+  give_gives : (w : World V) (who : ℕ) (call : Call) (answer : Answer) → Gives w who (word_of call) (give w who call answer)
+  give_gives w who (calls.Hclose number) answer = gives w (if_some (find (is_dead_as number) w.closings) w (free_bundle w)) who words.Hclose answer (free_dead_crew w number)
+  give_gives w who call answer = class_gives w who call answer
 
   -- nothing is due, or a step of settling leaves one fewer
   data Steps (w : World V) : Type 0 where
     done : IsSettled w → settle_one w ≡ w → Steps w
     fewer : counts rests (settle_one w).coroutines + 1 ≡ counts rests w.coroutines → Numbered 0 (settle_one w).coroutines (settle_one w).last_coroutine → Steps w
 
-  finish_fewer : (w : World V) (c : Coroutine V) → Numbered 0 w.coroutines w.last_coroutine → find (can_finish w) w.coroutines ≡ Some c → (counts rests (finish w c).coroutines + 1 ≡ counts rests w.coroutines) × Numbered 0 (finish w c).coroutines (finish w c).last_coroutine
-  finish_fewer w c n e =
-      let same = bare_crew w c.number in
-      let here = by_number 0 w.last_coroutine (can_finish w) w.coroutines c e n in
-      let ends = ending_waits c.mode (is_clear w c.number) (passes (can_finish w) w.coroutines c e) in
-      let left : (finish w c).coroutines ≡ without (is_coroutine c.number) w.coroutines = ap (without (is_coroutine c.number)) same.coroutines in
-      let last : (finish w c).last_coroutine ≡ w.last_coroutine = keep_end_last (release_all (free_all w c.number) c.number) c ∙ same.last in (
-        ap (λ cs. counts rests cs + 1) left ∙ count_removed rests c.number c w.coroutines here ends,
-        subst (λ cs. Numbered 0 cs (finish w c).last_coroutine) (sym left) (subst (Numbered 0 (without (is_coroutine c.number) w.coroutines)) (sym last) (numbered_without c.number w.coroutines 0 w.last_coroutine n)),
-      )
-
-  give_last : (w : World V) (who : ℕ) (call : Call) (answer : Answer) → may_wait call ≡ true → (give w who call answer).last_coroutine ≡ w.last_coroutine
-  give_last w who (calls.Msleep deadline) answer e = refl
-  give_last w who (calls.BundleWait number deadline) answer e = refl
-  give_last w who (calls.Hclose number) answer e = (free_dead_crew w number).last
-  give_last w who _ answer e = cc
-
-  step : (w : World V) → IsPlain w → Numbered 0 w.coroutines w.last_coroutine → Steps w
-  step w plain n = at (find (can_finish w) w.coroutines) refl (first_some (answer_due w) w.coroutines) refl
+  step : (w : World V) → Numbered 0 w.coroutines w.last_coroutine → Steps w
+  step w n = at (find (can_finish w) w.coroutines) refl (first_some (answer_due w) w.coroutines) refl
     where
       at : (o : Option (Coroutine V)) → find (can_finish w) w.coroutines ≡ o → (r : Option (ℕ × Call × Answer)) → first_some (answer_due w) w.coroutines ≡ r → Steps w
       at (Some c) e r f =
           let is : settle_one w ≡ finish w c = ap (λ o. if_some o (give_first w) (finish w)) e in
-          let both = finish_fewer w c n e in
-          fewer (subst (λ v. counts rests v.coroutines + 1 ≡ counts rests w.coroutines) (sym is) both.0) (subst (λ v. Numbered 0 v.coroutines v.last_coroutine) (sym is) both.1)
+          let same = bare_crew w c.number in
+          let here = by_number 0 w.last_coroutine (can_finish w) w.coroutines c e n in
+          let ends = ending_waits c.mode (is_clear w c.number) (passes (can_finish w) w.coroutines c e) in
+          let left : (settle_one w).coroutines ≡ without (is_coroutine c.number) w.coroutines = ap (λ (v : World V). v.coroutines) is ∙ ap (without (is_coroutine c.number)) same.coroutines in
+          let last : (settle_one w).last_coroutine ≡ w.last_coroutine = ap (λ (v : World V). v.last_coroutine) is ∙ keep_end_last _ c ∙ same.last in
+          fewer (ap (λ cs. counts rests cs + 1) left ∙ count_removed rests c.number c w.coroutines here ends)
+          (subst (λ cs. Numbered 0 cs (settle_one w).last_coroutine) (sym left) (subst (Numbered 0 (without (is_coroutine c.number) w.coroutines)) (sym last) (numbered_without c.number w.coroutines 0 w.last_coroutine n)))
       at None e None f = done (record { endings = e; answers = f }) (ap (λ o. if_some o (give_first w) (finish w)) e ∙ ap (λ r. if_some r w (λ x. give w x.0 x.1 x.2)) f)
       at None e (Some x) f =
           let is : settle_one w ≡ give w x.0 x.1 x.2 = ap (λ o. if_some o (give_first w) (finish w)) e ∙ ap (λ r. if_some r w (λ y. give w y.0 y.1 y.2)) f in
-          let may = first_waits w w.coroutines x plain.calls f in
           let due = (due_first w 0 w.last_coroutine w.coroutines x n f).1 in
-          let now = give_changes w x.0 x.1 x.2 may in
-          let count : counts rests (give w x.0 x.1 x.2).coroutines + 1 ≡ counts rests w.coroutines = ap (λ cs. counts rests cs + 1) now ∙ count_moved rests x.0 (modes.Fresh (word_of x.1) x.2) due.one w.coroutines (rests_fresh (word_of x.1) x.2) due.found (pending_waits due.one.mode x.1 due.call) in
-          let rises : Numbered 0 (give w x.0 x.1 x.2).coroutines (give w x.0 x.1 x.2).last_coroutine = subst (λ cs. Numbered 0 cs (give w x.0 x.1 x.2).last_coroutine) (sym now) (subst (Numbered 0 (change (is_coroutine x.0) (with_mode (modes.Fresh (word_of x.1) x.2)) w.coroutines)) (sym (give_last w x.0 x.1 x.2 may)) (numbered_change x.0 (modes.Fresh (word_of x.1) x.2) w.coroutines 0 w.last_coroutine n)) in
-          fewer (subst (λ v. counts rests v.coroutines + 1 ≡ counts rests w.coroutines) (sym is) count) (subst (λ v. Numbered 0 v.coroutines v.last_coroutine) (sym is) rises)
+          let g = give_gives w x.0 x.1 x.2 in
+          let mode = modes.Fresh (word_of x.1) g.answer in
+          let now : (settle_one w).coroutines ≡ change (is_coroutine x.0) (with_mode mode) w.coroutines = ap (λ (v : World V). v.coroutines) is ∙ g.coroutines in
+          let last : (settle_one w).last_coroutine ≡ w.last_coroutine = ap (λ (v : World V). v.last_coroutine) is ∙ g.last in
+          fewer (ap (λ cs. counts rests cs + 1) now ∙ count_moved rests x.0 mode due.one w.coroutines (rests_fresh (word_of x.1) g.answer) due.found (pending_waits due.one.mode x.1 due.call))
+          (subst (λ cs. Numbered 0 cs (settle_one w).last_coroutine) (sym now) (subst (Numbered 0 (change (is_coroutine x.0) (with_mode mode) w.coroutines)) (sym last) (numbered_change x.0 mode w.coroutines 0 w.last_coroutine n)))
 
   within_same : (k : ℕ) (w : World V) → settle_one w ≡ w → settle_within k w ≡ w
   within_same zero w e = refl
   within_same (suc k) w e = ap (settle_within k) e ∙ within_same k w e
 
-  within_settles : (k : ℕ) (w : World V) → IsPlain w → Numbered 0 w.coroutines w.last_coroutine → counts rests w.coroutines ≤ k → IsSettled (settle_within k w)
-  within_settles zero w plain n l = at (step w plain n)
+  within_settles : (k : ℕ) (w : World V) → Numbered 0 w.coroutines w.last_coroutine → counts rests w.coroutines ≤ k → IsSettled (settle_within k w)
+  within_settles zero w n l = at (step w n)
     where
       at : Steps w → IsSettled w
       at (done s e) = s
       at (fewer c m) = absurd (omega (arith, c, l))
-  within_settles (suc k) w plain n l = at (step w plain n) (within_settles k (settle_one w) (settle_one_plain w plain))
+  within_settles (suc k) w n l = at (step w n) (within_settles k (settle_one w))
     where
       at : Steps w → (Numbered 0 (settle_one w).coroutines (settle_one w).last_coroutine → counts rests (settle_one w).coroutines ≤ k → IsSettled (settle_within k (settle_one w))) → IsSettled (settle_within k (settle_one w))
       at (done s e) rest = subst IsSettled (sym (ap (settle_within k) e ∙ within_same k w e)) s
       at (fewer c m) rest = rest m (omega (arith, c, l))
 
 pub settles_all : (V : Type 0) → SettlesAll V
-settles_all V w plain n =
-    let settled = within_settles (length w.coroutines) w plain n (counts_le rests w.coroutines) in
-    subst IsSettled (sym (pass_plain (settle_within (length w.coroutines) w) (within_plain (length w.coroutines) w plain))) settled
+settles_all V w n = within_settles (length w.coroutines) w n (counts_le rests w.coroutines)

@@ -1,4 +1,4 @@
--- Every plain step changes the coroutines as told: one that has no answer stands elsewhere or is gone, or a new one begins.
+-- Every step changes the coroutines as told: one that has no answer stands elsewhere or is gone, or a new one begins.
 use Rattle.std.proofs.Common.{◌≡◌, ◌∙◌, ◌+◌, ◌≤◌, ℕ, suc, List, [], ◌∷◌, ◌++◌, length, find, Bool, true, false, not, ◌&&◌, ◌||◌, cond, Option, Some, None, refl, sym, ap, subst}
 use Rattle.dill_base.specs.declared.errno.Errno.{Errno}
 use Rattle.dill_base.specs.declared.errno.Errno.TheVariants as errnos
@@ -11,10 +11,11 @@ use Rattle.dill_calls.specs.declared.lists.Arg.TheVariants.{Show, Give}
 use Rattle.dill_calls.specs.declared.word.Word.{Word}
 use Rattle.dill_calls.specs.declared.word.Word.TheVariants as words
 use Rattle.dill_calls.specs.Program.{Program, Begins}
-use Rattle.dill_plain.specs.Plain.{is_plain}
+use Rattle.dill_base.specs.Maps.{change}
 use Rattle.dill_rules.specs.declared.coroutine.Coroutine.{Coroutine}
+use Rattle.dill_rules.specs.declared.coroutine.Mode.{Mode}
 use Rattle.dill_rules.specs.declared.coroutine.Mode.TheVariants as modes
-use Rattle.dill_rules.specs.World.{World, is_coroutine, coroutine_of, reply, pend, is_answered}
+use Rattle.dill_rules.specs.World.{World, is_coroutine, coroutine_of, with_mode, set_mode, reply, pend, is_answered}
 use Rattle.dill_rules.specs.Naming.{gifts_of}
 use Rattle.dill_rules.specs.Refusals.{refuse, has_twice, holds, is_invalid, is_refused_by_stack}
 use Rattle.dill_rules.specs.Effects.{told, bear}
@@ -54,6 +55,38 @@ module _ {V : Type 0} (p : Program V) where
   -- an effect that leaves the coroutines, and then an answer
   pub reply_behind : (w v : World V) (who : ℕ) (word : Word) (answer : Answer) → SameCrew w v → Runs w who → Leads p w (reply v who word answer)
   reply_behind w v who word answer same r = leads_then w v (reply v who word answer) (crew_leads w v same) (reply_leads v who word answer (runs_crew w v who same r))
+
+  -- an effect that leaves the coroutines, and then the caller waits
+  pub pend_behind : (w v : World V) (who : ℕ) (call : Call) → SameCrew w v → Runs w who → Leads p w (pend v who call)
+  pend_behind w v who call same r = leads_then w v (pend v who call) (crew_leads w v same) (pend_leads v who call (runs_crew w v who same r))
+
+  -- somebody stands elsewhere, and has no answer in the queue there: so does who could be answered before
+  record Found (who : ℕ) (c : Coroutine V) (cs : List (Coroutine V)) : Type 0 where
+    one : Coroutine V
+    found : find (is_coroutine who) cs ≡ Some one
+    body : one.body ≡ c.body
+    mode : is_answered one.mode ≡ false
+
+  found_changed : (who n : ℕ) (mode : Mode) (c : Coroutine V) (cs : List (Coroutine V)) → is_answered mode ≡ false → is_answered c.mode ≡ false → find (is_coroutine who) cs ≡ Some c → Found who c (change (is_coroutine n) (with_mode mode) cs)
+  found_changed who n mode c [] e f g = cc
+  found_changed who n mode c (x ∷ cs) e f g = at (is_coroutine n x) (is_coroutine who x) refl g (found_changed who n mode c cs e f)
+    where
+      at : (t s : Bool) → is_coroutine who x ≡ s → cond s (Some x) (find (is_coroutine who) cs) ≡ Some c → (find (is_coroutine who) cs ≡ Some c → Found who c (change (is_coroutine n) (with_mode mode) cs)) → Found who c (cond t (with_mode mode x ∷ cs) (x ∷ change (is_coroutine n) (with_mode mode) cs))
+      at true true i h rest = let it : x ≡ c = cc in record { one = with_mode mode x; found = rw i refl; body = ap (λ (y : Coroutine V). y.body) it; mode = e }
+      at true false i h rest = record { one = c; found = rw i h; body = refl; mode = f }
+      at false true i h rest = let it : x ≡ c = cc in record { one = x; found = rw i refl; body = ap (λ (y : Coroutine V). y.body) it; mode = ap (λ (y : Coroutine V). is_answered y.mode) it ∙ f }
+      at false false i h rest = let r = rest h in record { one = r.one; found = rw i r.found; body = r.body; mode = r.mode }
+
+  -- whoever is answered or waits, the caller may be answered still
+  pub runs_mode : (w : World V) (who n : ℕ) (mode : Mode) → is_answered mode ≡ false → Runs w who → Runs (set_mode w n mode) who
+  runs_mode w who n mode e r =
+      let there = found_changed who n mode r.one w.coroutines e r.mode r.found in
+      record { one = there.one; found = there.found; mode = there.mode; some = subst (λ b. 1 ≤ p.left b) (sym there.body) r.some }
+
+  pub runs_replied : (w : World V) (who n : ℕ) (word : Word) (answer : Answer) → Runs w who → Runs (reply w n word answer) who
+  runs_replied w who n word answer r =
+      let there = runs_mode w who n (modes.Fresh word answer) refl r in
+      record { one = there.one; found = there.found; mode = there.mode; some = there.some }
 
   find_append : (test : Coroutine V → Bool) (cs ds : List (Coroutine V)) (c : Coroutine V) → find test cs ≡ Some c → find test (cs ++ ds) ≡ Some c
   find_append test [] ds c e = cc
@@ -104,22 +137,11 @@ module _ {V : Type 0} (p : Program V) where
       (picks_none (f d) d (find f rest) three.1).0
 
   -- what isn't refused starts a program that is known
-  pub unrefused_known : (w : World V) (who : ℕ) (view : V) (call : Call) → is_plain call ≡ true → refuse p w who view call ≡ None → Known p view call
-  unrefused_known w who view (calls.Go program args) e f =
+  pub unrefused_known : (w : World V) (who : ℕ) (view : V) (call : Call) → refuse p w who view call ≡ None → Known p view call
+  unrefused_known w who view (calls.Go program args) f =
       let held = fourth_none (holds p w who view (calls.Go program args)) errnos.Ecanceled errnos.Ebadf errnos.Enotsup errnos.Einval (errnos.Ebusy ∷ errnos.Epipe ∷ errnos.Econnreset ∷ errnos.Emsgsize ∷ errnos.Emfile ∷ []) f in
       not_true (p.knows view program (length args)) (has_twice (gifts_of args)) (or_false (is_invalid p view (calls.Go program args)) (is_refused_by_stack w (calls.Go program args) errnos.Einval) held)
-  unrefused_known w who view (calls.BundleGo number program args) e f =
+  unrefused_known w who view (calls.BundleGo number program args) f =
       let held = fourth_none (holds p w who view (calls.BundleGo number program args)) errnos.Ecanceled errnos.Ebadf errnos.Enotsup errnos.Einval (errnos.Ebusy ∷ errnos.Epipe ∷ errnos.Econnreset ∷ errnos.Emsgsize ∷ errnos.Emfile ∷ []) f in
       not_true (p.knows view program (length args)) (has_twice (gifts_of args)) (or_false (is_invalid p view (calls.BundleGo number program args)) (is_refused_by_stack w (calls.BundleGo number program args) errnos.Einval) held)
-  unrefused_known w who view (calls.Print text) e f = tt
-  unrefused_known w who view calls.Now e f = tt
-  unrefused_known w who view calls.Yield e f = tt
-  unrefused_known w who view (calls.Msleep deadline) e f = tt
-  unrefused_known w who view (calls.Hmake kind value) e f = tt
-  unrefused_known w who view (calls.Hquery number kind) e f = tt
-  unrefused_known w who view (calls.Hown number) e f = tt
-  unrefused_known w who view (calls.Hclose number) e f = tt
-  unrefused_known w who view calls.Bundle e f = tt
-  unrefused_known w who view (calls.BundleWait number deadline) e f = tt
-  unrefused_known w who view (calls.Pass word fault) e f = tt
-  unrefused_known w who view _ e f = cc
+  unrefused_known w who view call f = tt

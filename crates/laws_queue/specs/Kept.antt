@@ -4,6 +4,10 @@ use Rattle.dill_calls.specs.declared.ran.LackPlace.{LackPlace}
 use Rattle.dill_calls.specs.declared.ran.Ran.{Ran}
 use Rattle.dill_calls.specs.declared.word.Word.{Word}
 use Rattle.dill_calls.specs.Program.{Program}
+use Rattle.std.specs.Option.{option_map}
+use Rattle.rand_core.specs.Stream.{Stream}
+use Rattle.dill_kernel.specs.declared.replies.KernelAsk.{KernelAsk}
+use Rattle.dill_kernel.specs.declared.replies.KernelReply.{KernelReply}
 use Rattle.dill_kernel.specs.declared.ready.Limit.{Limit}
 use Rattle.dill_kernel.specs.declared.ready.Limit.TheVariants.{NoWait}
 use Rattle.dill_kernel.specs.declared.ready.Ready.{Ready}
@@ -11,14 +15,14 @@ use Rattle.dill_scope.specs.Scopes as scopes
 use Rattle.dill_base.specs.Maps.{if_some}
 use Rattle.dill_rules.specs.World.{World, opening, begin, from_start, coroutine_of}
 use Rattle.dill_rules.specs.Expiring.{passed, expire_one}
-use Rattle.dill_rules.specs.Hearing.{woken}
+use Rattle.dill_rules.specs.Hearing.{heard, woken}
 use Rattle.dill_rules.specs.Seen.{nobody}
 use Rattle.dill_rules.specs.Settling.{settle}
 use Rattle.dill_rules.specs.State.{lined, fresh}
-use Rattle.dill_rules.specs.Trying.{tries}
+use Rattle.dill_rules.specs.Trying.{tries, next_try}
 use Rattle.dill_rules.specs.Turning.{turn, shown, may_lack_move, move_of}
 use Rattle.dill_rules.specs.Waiting.{until, least_due, has_close, awaits_link, waiters}
-use Rattle.laws_queue.specs.Plain.{no_random}
+use Rattle.laws_queue.specs.Lending.{no_random, lent, wordless}
 
 -- Who has an answer, in the order in which they had it, and how many of these had it before the root began to close.
 pub record Kept (V : Type 0) : Type 0 where
@@ -76,9 +80,21 @@ module _ {V : Type 0} where
   abbrev pub kept_expired : Kept V → Kept V
   kept_expired k = queued (settle (kept_late k).world) (kept_late k).ready (kept_late k).early
 
+  -- the world at whose settling the root closes
+  abbrev pub root_closed : World V → World V
+  root_closed w = record (from_start (begin w)) { scopes = scopes.close w.scopes 0 }
+
   -- the root is closed: everybody is cancelled
   abbrev pub kept_shut : Kept V → Kept V
-  kept_shut k = queued (settle (record (from_start (begin k.world)) { scopes = scopes.close k.world.scopes 0 })) k.ready (length k.ready)
+  kept_shut k = queued (settle (root_closed k.world)) k.ready (length k.ready)
+
+  -- what is asked next of the kernel
+  abbrev pub kept_ask : Kept V → Option KernelAsk
+  kept_ask k = option_map (λ x. x.ask) (next_try k.world)
+
+  -- the reply to it is heard, and then the world settles
+  abbrev pub kept_hear : Kept V → Option KernelReply → Kept V
+  kept_hear k said = if_some (next_try k.world) k (λ x. queued (settle (heard (begin k.world) x said)) k.ready k.early)
 
   -- after a wait: the moment is the greatest that was told
   abbrev pub kept_woke : Kept V → ℕ → List Ready → Kept V
@@ -95,3 +111,11 @@ module _ {V : Type 0} where
   -- nobody can go on
   abbrev pub kept_stuck : Kept V → Bool
   kept_stuck k = not (has_answer k.ready || has_close k.world) && (not (awaits_link k.world) && is_none (least_due k.world))
+
+  -- random numbers are lent for a step
+  abbrev pub lend_kept : Kept V → Stream → Kept V
+  lend_kept k random = record k { world = lent random k.world }
+
+  -- and those that are left are given back
+  abbrev pub returned : Kept V → Kept V
+  returned k = record k { world = wordless k.world }

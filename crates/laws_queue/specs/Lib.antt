@@ -1,4 +1,4 @@
-pub mod Plain
+pub mod Lending
 pub mod Kept
 pub mod Stands
 pub mod Well

@@ -2,7 +2,7 @@
 use Rattle.std.specs.Prelude.{◌≡◌, ℕ, ◌+◌, ◌≤◌, List, [], ◌∷◌, map}
 use Rattle.dill_rules.specs.State.{State, Stamp}
 use Rattle.laws_queue.specs.Kept.{Kept}
-use Rattle.laws_queue.specs.Plain.{wordless}
+use Rattle.laws_queue.specs.Lending.{wordless}
 
 -- the stamps rise from a number on, up to the next one
 abbrev pub Rise : ℕ → List Stamp → ℕ → Type 0

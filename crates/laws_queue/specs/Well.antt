@@ -7,7 +7,6 @@ use Rattle.dill_rules.specs.declared.coroutine.Mode.{Mode}
 use Rattle.dill_rules.specs.declared.coroutine.Mode.TheVariants as modes
 use Rattle.dill_rules.specs.World.{is_coroutine, is_answered}
 use Rattle.laws_queue.specs.Kept.{Kept}
-use Rattle.laws_queue.specs.Plain.{IsPlain}
 
 -- it will have a turn: it waits for its answer or has it
 abbrev pub has_more : Mode → Bool
@@ -53,7 +52,6 @@ pub record IsQueue {V : Type 0} (ready : List ℕ) (cs : List (Coroutine V)) : T
   pub all : length ready ≡ counts is_answered cs
 
 pub record IsWell {V : Type 0} (p : Program V) (k : Kept V) : Type 0 where
-  pub plain : IsPlain k.world
   pub lives : Lives p k.world.coroutines
   pub numbered : Numbered 0 k.world.coroutines k.world.last_coroutine
   pub queue : IsQueue k.ready k.world.coroutines

@@ -20,8 +20,8 @@ use Rattle.dill_rules.specs.Settling.{answer_due, finish, give_first, settle, se
 use Rattle.dill_rules.specs.Giving.{give}
 use Rattle.dill_rules.specs.State.{lined, lined_mode, is_fresh, fresh}
 use Rattle.laws_queue.specs.Kept.{Kept, queued, kept_shut}
-use Rattle.laws_queue.specs.Plain.{IsPlain, may_wait, waits_plainly}
-use Rattle.laws_queue.proofs.Steps.{pass_plain}
+use Rattle.laws_sound.specs.Plain.{IsPlain, may_wait, waits_plainly}
+use Rattle.laws_sound.proofs.Steps.{pass_plain}
 use Rattle.laws_sound.specs.Laws.{is_closing, is_resting, IsAtRest}
 use Rattle.laws_debt.specs.Closing.{IsClosing}
 
@@ -122,7 +122,7 @@ module _ {V : Type 0} where
     pub again_same : (k : Kept V) → IsClosing p k → kept_shut k ≡ record (noted k) { early = length k.ready }
     again_same k closing =
         let w = k.world in
-        let plain = closing.stable.well.plain in
+        let plain = closing.stable.plain in
         ap (λ v. queued (settle v) k.ready (length k.ready)) (again_world w plain closing.closing)
         ∙ ap (λ v. queued v k.ready (length k.ready)) (settle_same (begin w) (begun_plain w plain) (begun_settled w plain closing.settled))
         ∙ queued_same (begin w) k.ready (length k.ready) closing.stable.rest

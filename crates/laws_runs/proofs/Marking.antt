@@ -34,10 +34,10 @@ use Rattle.dill_rules.specs.Expiring.{expire_one}
 use Rattle.dill_rules.specs.Giving.{give}
 use Rattle.dill_rules.specs.Settling.{close_owned, close_all, end, can_finish, highest_first, is_owned_by, free_all, release_all, outcome_of, keep_end, leave, finish, answer_due, give_first, settle_one}
 use Rattle.dill_rules.specs.Turning.{is_build, is_entry, may_lack_build, resume, answer_given, move_of, make_move, lack_move, go_on}
-use Rattle.laws_queue.specs.Plain.{may_wait}
+use Rattle.laws_sound.specs.Plain.{may_wait}
 use Rattle.laws_debt.specs.Flags.{Ranked}
 use Rattle.laws_debt.proofs.Flagging.{both_all, closed_names, ranked_change, ranked_without, ranked_append}
-use Rattle.laws_queue.proofs.Turns.{entered_plain}
+use Rattle.laws_sound.proofs.Turns.{entered_plain}
 use Rattle.laws_debt.proofs.Lists.{all_append, all_without, all_found, all_to, equal_number, found_passes, number_of}
 use Rattle.laws_debt.proofs.Settling.{AllSit, due_first, pending_runs, call_pends}
 use Rattle.laws_queue.specs.Well.{Numbered, bit, occurs}

@@ -28,13 +28,12 @@ use Rattle.dill_rules.specs.Turning.{answer_given, go_on}
 use Rattle.dill_rules.specs.World.{World, begin, call_of}
 use Rattle.dill_drive.specs.ByRules.{machine_of}
 use Rattle.dill_drive.specs.Play.{opening, play}
-use Rattle.laws_queue.specs.Following.{Follows}
-use Rattle.laws_queue.specs.Kept.{Kept, kept_expire_next, kept_expired, kept_late, kept_shut, kept_turn, kept_woke, turn_first}
+use Rattle.laws_sound.specs.PlainLaws.{FollowsPlainly}
+use Rattle.laws_queue.specs.Kept.{Kept, kept_expire_next, kept_expired, kept_late, kept_shut, kept_turn, kept_woke, turn_first, root_closed}
 use Rattle.laws_queue.specs.Laws.{KeepsWell}
-use Rattle.laws_queue.specs.Plain.{wordless}
+use Rattle.laws_queue.specs.Lending.{wordless}
 use Rattle.laws_queue.specs.Stands.{StandsFor}
 use Rattle.laws_queue.specs.Well.{Numbered, bit, occurs}
-use Rattle.laws_queue.proofs.Turns.{root_closed}
 use Rattle.laws_sound.specs.Laws.{is_closing, KeepsOrder}
 use Rattle.laws_sound.specs.Order.{IsInOrder}
 use Rattle.laws_sound.proofs.Lists.{occurs_found}
@@ -179,7 +178,7 @@ pub record IsSteadyMarked {V : Type 0} (tie : Closing) (p : Program V) (s : Stat
   pub steady : IsSteady p s
   pub marked : Marked tie s.world
 
-module _ {V : Type 0} (tie : Closing) (p : Program V) (law : IsLawful p) (plainly : MakesPlain p) (keeps : KeepsWell p) (ordered : KeepsOrder p) (stays : KeepsStable p) (follows : Follows p) (debts : DebtFalls p) where
+module _ {V : Type 0} (tie : Closing) (p : Program V) (law : IsLawful p) (plainly : MakesPlain p) (keeps : KeepsWell p) (ordered : KeepsOrder p) (stays : KeepsStable p) (follows : FollowsPlainly p) (debts : DebtFalls p) where
   -- what a core keeps of it is stable and marked
   kept_marked : (s : State V) (h : IsSteadyMarked tie p s) → Marked tie h.steady.even.kept.world
   kept_marked s h = to_kept tie h.steady.even.kept s h.steady.even.stands h.marked
@@ -189,23 +188,23 @@ module _ {V : Type 0} (tie : Closing) (p : Program V) (law : IsLawful p) (plainl
       let even = h.steady.even in
       record {
         steady = debts.steady (lend s random) (Turn lack) (debts.lent s random h.steady);
-        marked = to_state tie (kept_turn p lack even.kept) (turn_seen p s lack random).0 (follows.turned even.kept s lack random even.stable.well even.stands) (turned_marked tie p law plainly keeps stays even.kept lack even.stable (kept_marked s h));
+        marked = to_state tie (kept_turn p lack even.kept) (turn_seen p s lack random).0 (follows.turned even.kept s lack random even.stable.well even.stable.plain even.stands) (turned_marked tie p law plainly keeps stays even.kept lack even.stable (kept_marked s h));
       }
 
   after_expiry : (s : State V) → IsSteadyMarked tie p s → IsSteadyMarked tie p (expired s)
   after_expiry s h =
       let even = h.steady.even in
-      record { steady = debts.steady s Expire h.steady; marked = to_state tie (kept_expired even.kept) (expired s) (follows.expired even.kept s even.stable.well even.stands) (expired_marked tie p law plainly keeps stays even.kept even.stable (kept_marked s h)) }
+      record { steady = debts.steady s Expire h.steady; marked = to_state tie (kept_expired even.kept) (expired s) (follows.expired even.kept s even.stable.plain even.stands) (expired_marked tie p law plainly keeps stays even.kept even.stable (kept_marked s h)) }
 
   after_shut : (s : State V) → IsSteadyMarked tie p s → IsSteadyMarked tie p (shut s)
   after_shut s h =
       let even = h.steady.even in
-      record { steady = debts.steady s Shut h.steady; marked = to_state tie (kept_shut even.kept) (shut s) (follows.shut even.kept s even.stable.well even.stands) (shut_marked tie p law plainly keeps ordered even.kept even.stable (kept_marked s h)) }
+      record { steady = debts.steady s Shut h.steady; marked = to_state tie (kept_shut even.kept) (shut s) (follows.shut even.kept s even.stable.plain even.stands) (shut_marked tie p law plainly keeps ordered even.kept even.stable (kept_marked s h)) }
 
   after_wake : (s : State V) (told : ℕ) (ready : List Ready) → IsSteadyMarked tie p s → IsSteadyMarked tie p (woke s told ready)
   after_wake s told ready h =
       let even = h.steady.even in
-      record { steady = debts.steady s (Wake told ready) h.steady; marked = to_state tie (kept_woke even.kept told ready) (woke s told ready) (follows.woke even.kept s told ready even.stable.well even.stands) (woke_marked tie even.kept told ready (kept_marked s h)) }
+      record { steady = debts.steady s (Wake told ready) h.steady; marked = to_state tie (kept_woke even.kept told ready) (woke s told ready) (follows.woke even.kept s told ready even.stands) (woke_marked tie even.kept told ready (kept_marked s h)) }
 
   pub marked_step : (s : State V) (x : Step) → IsSteadyMarked tie p s → IsSteadyMarked tie p (step p s x)
   marked_step s (Turn lack) h = after_turn s lack s.world.random h
@@ -216,7 +215,7 @@ module _ {V : Type 0} (tie : Closing) (p : Program V) (law : IsLawful p) (plainl
   marked_lasts : Lasts (machine_of p) (IsSteadyMarked tie p)
   marked_lasts = record {
     woke = after_wake;
-    none = λ s h. (follows.seen h.steady.even.kept s h.steady.even.stable.well h.steady.even.stands).next_try;
+    none = λ s h. follows.next_try h.steady.even.kept s h.steady.even.stable.plain h.steady.even.stands;
     expire = after_expiry;
     turn = after_turn;
     shut = after_shut;
@@ -311,7 +310,7 @@ module _ {V : Type 0} (w : World V) (order : IsInOrder w) (number name : ℕ) wh
         given = below number w.handles.last (bit_true (nat_le number w.handles.last) (omega (arith, used, noted)));
       }
 
-module _ {V : Type 0} (p : Program V) (law : IsLawful p) (plainly : MakesPlain p) (keeps : KeepsWell p) (ordered : KeepsOrder p) (stays : KeepsStable p) (follows : Follows p) (debts : DebtFalls p) where
+module _ {V : Type 0} (p : Program V) (law : IsLawful p) (plainly : MakesPlain p) (keeps : KeepsWell p) (ordered : KeepsOrder p) (stays : KeepsStable p) (follows : FollowsPlainly p) (debts : DebtFalls p) where
   module _ (who number name : ℕ) where
     abbrev tie : Closing
     tie = record { bundle = name; number = number }
@@ -355,7 +354,7 @@ module _ {V : Type 0} (p : Program V) (law : IsLawful p) (plainly : MakesPlain p
 abbrev no_tie : Closing
 no_tie = record { bundle = 0; number = 0 }
 
-module _ {V : Type 0} (p : Program V) (law : IsLawful p) (plainly : MakesPlain p) (keeps : KeepsWell p) (ordered : KeepsOrder p) (stays : KeepsStable p) (follows : Follows p) (debts : DebtFalls p) where
+module _ {V : Type 0} (p : Program V) (law : IsLawful p) (plainly : MakesPlain p) (keeps : KeepsWell p) (ordered : KeepsOrder p) (stays : KeepsStable p) (follows : FollowsPlainly p) (debts : DebtFalls p) where
   opening_marked : (view : V) (random : Stream) → Marked no_tie (opening_state view random).world
   opening_marked view random = record { ranked = (omega arith, omega arith); marked = ((λ e. refl), tt); noted = tt; things = tt; tied = tt; others = tt; given = omega arith }
 

@@ -30,15 +30,16 @@ use Rattle.dill_rules.specs.Seen.{lend, turn_seen}
 use Rattle.dill_rules.specs.State.{State, Stamp, is_stamp_of, closed_now, expire_next, expired, line_up, lined, lined_mode, next_turn, opening_state, turn_of, woke}
 use Rattle.dill_rules.specs.Turning.{answer_given, go_on, turn}
 use Rattle.dill_rules.specs.World.{World, begin, call_of, pending_call}
-use Rattle.laws_queue.specs.Following.{Follows}
+use Rattle.laws_sound.specs.PlainLaws.{FollowsPlainly}
 use Rattle.laws_queue.specs.Kept.{Kept, kept_expire_next, kept_expired, kept_late, kept_turn, turn_first}
 use Rattle.laws_queue.specs.Laws.{KeepsWell}
-use Rattle.laws_queue.specs.Plain.{IsPlain, may_wait, waits_plainly, wordless}
-use Rattle.laws_queue.proofs.Lists.{all_map}
+use Rattle.laws_queue.specs.Lending.{wordless}
+use Rattle.laws_sound.specs.Plain.{IsPlain, may_wait, waits_plainly}
+use Rattle.laws_sound.proofs.Lists.{all_map}
 use Rattle.laws_queue.specs.Stands.{StandsFor}
-use Rattle.laws_queue.proofs.Plainly.{plain_with}
-use Rattle.laws_queue.proofs.Steps.{call_waits}
-use Rattle.laws_queue.proofs.Turns.{expire_one_plain}
+use Rattle.laws_sound.proofs.Plainly.{plain_with}
+use Rattle.laws_sound.proofs.Steps.{call_waits}
+use Rattle.laws_sound.proofs.Turns.{expire_one_plain}
 use Rattle.laws_debt.specs.Closing.{IsStable}
 use Rattle.laws_debt.specs.Laws.{KeepsStable}
 use Rattle.laws_debt.proofs.Keeping.{IsGood, good_expire, good_moved, good_queued, good_stable, nobody_calm, turn_is}
@@ -47,6 +48,7 @@ use Rattle.laws_debt.proofs.Settling.{AllSit, leads_numbered, leads_sits, pass_n
 use Rattle.laws_queue.specs.Well.{Numbered}
 use Rattle.laws_debt.proofs.Shutting.{AllHold, LastsOwned, settle_one_owned, expire_one_owned, go_on_owned}
 use Rattle.laws_debt.proofs.Tracking.{all_by_key}
+use Rattle.laws_queue.proofs.Lining.{lined_pending}
 
 -- the root is open
 abbrev pub IsOpenRoot : Bundle → Type 0
@@ -89,13 +91,6 @@ root_open s forest a = all_both s.bundles (all_by_key (λ (x : Bundle). x.name) 
     all_both : (xs : List Bundle) → AllByRecursion (λ x. find (is_bundle x.name) s.bundles ≡ Some x) xs → AllByRecursion IsOpenUnowned xs → AllByRecursion IsOpenRoot xs
     all_both [] e a = tt
     all_both (x ∷ xs) e a = ((λ f. a.0 (nobody x e.0 f)), all_both xs e.1 a.1)
-
-lined_pending : (mode : Mode) → pending_call (lined_mode mode) ≡ pending_call mode
-lined_pending (modes.Pending call) = refl
-lined_pending modes.Running = refl
-lined_pending (modes.Fresh word answer) = refl
-lined_pending (modes.Answered word answer) = refl
-lined_pending (modes.Ending outcome) = refl
 
 -- ---- no stamp for the root
 
@@ -185,7 +180,7 @@ module _ {V : Type 0} where
   to_kept : (k : Kept V) (s : State V) → StandsFor k s → RootIsOpen s.world.scopes → RootIsOpen k.world.scopes
   to_kept k s stands a = subst (λ (w : World V). RootIsOpen w.scopes) (sym stands.world) a
 
-module _ {V : Type 0} (p : Program V) (law : IsLawful p) (plainly : MakesPlain p) (keeps : KeepsWell p) (stays : KeepsStable p) (follows : Follows p) where
+module _ {V : Type 0} (p : Program V) (law : IsLawful p) (plainly : MakesPlain p) (keeps : KeepsWell p) (stays : KeepsStable p) (follows : FollowsPlainly p) where
   abbrev Holds : World V → Type 0
   Holds w = AllHold IsOpenUnowned 0 w
 
@@ -240,7 +235,7 @@ module _ {V : Type 0} (p : Program V) (law : IsLawful p) (plainly : MakesPlain p
   turned_unshut k s lack random stable stands h =
       let now = stays.turned k lack stable in
       let held = root_open (kept_turn p lack k).world.scopes now.order.fits.forest (turned_holds k lack stable (to_kept k s stands h.root)) in
-      let root = to_state (kept_turn p lack k) (turn_seen p s lack random).0 (follows.turned k s lack random stable.well stands) held in
+      let root = to_state (kept_turn p lack k) (turn_seen p s lack random).0 (follows.turned k s lack random stable.well stable.plain stands) held in
       record { root = root; none = turned_stamps lack (lend s random) (next_turn (lend s random)) root h.none }
 
   -- deadlines
@@ -248,9 +243,9 @@ module _ {V : Type 0} (p : Program V) (law : IsLawful p) (plainly : MakesPlain p
   expired_unshut k s stable stands h =
       let now = stays.expired k stable in
       let held = root_open (kept_expired k).world.scopes now.order.fits.forest (expired_holds k stable (to_kept k s stands h.root)) in
-      let root = to_state (kept_expired k) (expired s) (follows.expired k s stable.well stands) held in
+      let root = to_state (kept_expired k) (expired s) (follows.expired k s stable.plain stands) held in
       let began : State V = record s { world = begin s.world } in
-      let plain : IsPlain (wordless s.world) = subst IsPlain stands.world stable.well.plain in
+      let plain : IsPlain (wordless s.world) = subst IsPlain stands.world stable.plain in
       let late = late_unshut (passed s.world) began (record { channels = plain.channels; links = plain.links; place = plain.place; wrote = plain.wrote; things = plain.things; calls = plain.calls }) (record { root = h.root; none = h.none }) in
       let last = fold expire_next began (passed s.world) in
       record { root = root; none = none_lined (settle last.world) last.answers last.closings last.next root late.none }

@@ -21,8 +21,8 @@ use Rattle.dill_rules.specs.Owning.{is_dead_as}
 use Rattle.dill_rules.specs.Settling.{answer_due, can_finish, is_clear, IsSettled}
 use Rattle.dill_rules.specs.Taking.{bundle_named, is_cancelled}
 use Rattle.dill_rules.specs.World.{World, call_of, coroutine_of, is_coroutine, is_ending, pending_call}
-use Rattle.laws_queue.specs.Plain.{wordless}
-use Rattle.laws_queue.proofs.Lists.{all_found}
+use Rattle.laws_queue.specs.Lending.{wordless}
+use Rattle.laws_sound.proofs.Lists.{all_found}
 use Rattle.laws_sound.specs.Order.{closes, has_bundle, has_closing, IsInOrder}
 use Rattle.laws_sound.proofs.Going.{its_number, or_none}
 use Rattle.laws_sound.proofs.Sound.{owner_is}

@@ -24,15 +24,16 @@ use Rattle.dill_rules.specs.Settling.{can_finish, is_clear, answer_due, settle, 
 use Rattle.dill_rules.specs.State.{lined}
 use Rattle.dill_rules.specs.Turning.{go_on, move_of, answer_given}
 use Rattle.dill_rules.specs.World.{World, Place, at_start, begin, pending_call}
-use Rattle.laws_queue.specs.Kept.{Kept, opening_kept, queued, turn_first, kept_turn, kept_expire_next, kept_late, kept_expired, kept_shut, kept_woke}
+use Rattle.laws_queue.specs.Kept.{Kept, opening_kept, queued, turn_first, kept_turn, kept_expire_next, kept_late, kept_expired, kept_shut, kept_woke, root_closed}
 use Rattle.laws_queue.specs.Laws.{KeepsWell}
-use Rattle.laws_queue.specs.Plain.{may_wait, waits_plainly, IsPlain}
+use Rattle.laws_sound.specs.Plain.{may_wait, waits_plainly, IsPlain}
 use Rattle.laws_queue.specs.Well.{Numbered, IsWell}
 use Rattle.laws_queue.proofs.Keeping.{steps_keep_well}
-use Rattle.laws_queue.proofs.Plainly.{begin_plain}
-use Rattle.laws_queue.proofs.Settling.{settles_all}
-use Rattle.laws_queue.proofs.Steps.{settle_plain}
-use Rattle.laws_queue.proofs.Turns.{root_closed, closed_plain, go_on_plain}
+use Rattle.laws_sound.proofs.Plainly.{begin_plain}
+use Rattle.laws_sound.specs.PlainLaws.{KeepsPlain}
+use Rattle.laws_sound.proofs.PlainLaws.{settles_plainly, steps_keep_plain}
+use Rattle.laws_sound.proofs.Steps.{settle_plain}
+use Rattle.laws_sound.proofs.Turns.{closed_plain, go_on_plain}
 use Rattle.laws_sound.specs.Laws.{IsAtRest, IsBetweenSteps, StepsKeepRest}
 use Rattle.laws_sound.specs.Order.{IsInOrder}
 use Rattle.laws_sound.proofs.Going.{or_none}
@@ -98,7 +99,7 @@ module _ {V : Type 0} where
   queued_rests : (w : World V) (ready : List ℕ) (early : ℕ) → IsPlain w → Numbered 0 w.coroutines w.last_coroutine → Still w.coroutines → IsBetweenSteps (queued (settle w) ready early).world
   queued_rests w ready early plain n s = record {
     rest = rests_lined (settle w).coroutines (still_settle w plain s);
-    settled = settled_lined (settle w) (settle_plain w plain) (settles_all V w plain n);
+    settled = settled_lined (settle w) (settle_plain w plain) (settles_plainly V w plain n);
   }
 
   opening_rests : (view : V) → IsBetweenSteps (opening_kept view).world
@@ -119,53 +120,57 @@ module _ {V : Type 0} where
 
 module _ {V : Type 0} (p : Program V) (law : IsLawful p) (plainly : MakesPlain p) where
   well : KeepsWell p
-  well = steps_keep_well p law plainly
+  well = steps_keep_well p law
 
-  turned : (k : Kept V) (lack : Option LackPlace) → IsWell p k → IsInOrder k.world → IsBetweenSteps k.world → IsBetweenSteps (kept_turn p lack k).world
-  turned k lack w o r = at k.ready refl
+  stays : KeepsPlain p
+  stays = steps_keep_plain p law plainly
+
+  turned : (k : Kept V) (lack : Option LackPlace) → IsWell p k → IsPlain k.world → IsInOrder k.world → IsBetweenSteps k.world → IsBetweenSteps (kept_turn p lack k).world
+  turned k lack w plain o r = at k.ready refl
     where
       at : (ready : List ℕ) → k.ready ≡ ready → IsBetweenSteps (turn_first p lack k ready).world
       at [] e = r
       at (who ∷ rest) e =
           let m = well.first k who rest w e in
           let c = m.one in
-          let plain : MovesPlain (move_of p k.world who c.body) = plainly c.body (answer_given k.world who).1 m.real m.some in
+          let moves : MovesPlain (move_of p k.world who c.body) = plainly c.body (answer_given k.world who).1 m.real m.some in
           let moved = go_on p lack (begin k.world) who c.body in
-          let order = order_go_on p lack k.world who c o m.found m.answered plain in
-          let still = still_go_on p lack k.world who c.body w.plain.things o.fits.kinds plain (still_rests k.world r.rest) in
+          let order = order_go_on p lack k.world who c o m.found m.answered moves in
+          let still = still_go_on p lack k.world who c.body plain.things o.fits.kinds moves (still_rests k.world r.rest) in
           subst (λ v. IsBetweenSteps (queued v rest (k.early - 1)).world) (turn_is p lack k.world who c m.found)
-          (queued_rests moved rest (k.early - 1) (go_on_plain p lack (begin k.world) who c.body plain (begin_plain k.world w.plain)) order.fits.numbered still)
+          (queued_rests moved rest (k.early - 1) (go_on_plain p lack (begin k.world) who c.body moves (begin_plain k.world plain)) order.fits.numbered still)
 
-  expires : (k : Kept V) (who : ℕ) → IsWell p k → IsAtRest k.world → IsAtRest (kept_expire_next k who).world
-  expires k who w r = rests_lined (expire_one k.world who).coroutines (still_expire k.world who w.plain (still_rests k.world r))
+  expires : (k : Kept V) (who : ℕ) → IsWell p k → IsPlain k.world → IsAtRest k.world → IsAtRest (kept_expire_next k who).world
+  expires k who w plain r = rests_lined (expire_one k.world who).coroutines (still_expire k.world who plain (still_rests k.world r))
 
-  settled : (k : Kept V) → IsWell p k → IsAtRest k.world → IsBetweenSteps (queued (settle k.world) k.ready k.early).world
-  settled k w r = queued_rests k.world k.ready k.early w.plain w.numbered (still_rests k.world r)
+  settled : (k : Kept V) → IsWell p k → IsPlain k.world → IsAtRest k.world → IsBetweenSteps (queued (settle k.world) k.ready k.early).world
+  settled k w plain r = queued_rests k.world k.ready k.early plain w.numbered (still_rests k.world r)
 
   record Keeps (k : Kept V) : Type 0 where
     well : IsWell p k
+    plain : IsPlain k.world
     rest : IsAtRest k.world
 
   expire_all : (xs : List ℕ) (k : Kept V) → Keeps k → Keeps (fold kept_expire_next k xs)
   expire_all [] k h = h
-  expire_all (x ∷ xs) k h = expire_all xs (kept_expire_next k x) (record { well = well.expires k x h.well; rest = expires k x h.well h.rest })
+  expire_all (x ∷ xs) k h = expire_all xs (kept_expire_next k x) (record { well = well.expires k x h.well; plain = stays.expires k x h.plain; rest = expires k x h.well h.plain h.rest })
 
-  expired : (k : Kept V) → IsWell p k → IsAtRest k.world → IsBetweenSteps (kept_expired k).world
-  expired k w r =
-      let late = expire_all (passed k.world) (record k { world = begin k.world }) (record { well = well.started k w; rest = r }) in
-      settled (kept_late k) late.well late.rest
+  expired : (k : Kept V) → IsWell p k → IsPlain k.world → IsAtRest k.world → IsBetweenSteps (kept_expired k).world
+  expired k w plain r =
+      let late = expire_all (passed k.world) (record k { world = begin k.world }) (record { well = well.started k w; plain = begin_plain k.world plain; rest = r }) in
+      settled (kept_late k) late.well late.plain late.rest
 
-  shut : (k : Kept V) → IsWell p k → IsAtRest k.world → IsBetweenSteps (kept_shut k).world
-  shut k w r = queued_rests (root_closed k.world) k.ready (length k.ready) (closed_plain k.world w.plain) w.numbered (still_rests k.world r)
+  shut : (k : Kept V) → IsWell p k → IsPlain k.world → IsAtRest k.world → IsBetweenSteps (kept_shut k).world
+  shut k w plain r = queued_rests (root_closed k.world) k.ready (length k.ready) (closed_plain k.world plain) w.numbered (still_rests k.world r)
 
 pub steps_keep_rest : {V : Type 0} (p : Program V) → StepsKeepRest p
 steps_keep_rest p law plainly = record {
   opening = opening_rests;
   turned = turned p law plainly;
-  started = λ k w r. begin_rests k.world w.plain.calls r;
+  started = λ k w plain r. begin_rests k.world plain.calls r;
   expires = expires p law plainly;
   settled = settled p law plainly;
   expired = expired p law plainly;
   shut = shut p law plainly;
-  woke = λ k told ready w r. woke_rests k told ready w.plain.calls r;
+  woke = λ k told ready w plain r. woke_rests k told ready plain.calls r;
 }

@@ -25,14 +25,13 @@ use Rattle.dill_rules.specs.Settling.{highest_first, is_clear, is_owned_by, free
 use Rattle.dill_rules.specs.Taking.{bundle_of}
 use Rattle.dill_rules.specs.World.{World, is_coroutine, coroutine_of, with_mode, set_mode, reply, is_ending}
 use Rattle.laws_queue.specs.Well.{bit, is_at}
-use Rattle.laws_queue.proofs.Lists.{all_found, all_without}
+use Rattle.laws_sound.proofs.Lists.{all_found, all_without, all_follow, all_both, all_from}
 use Rattle.laws_sound.specs.Order.{closes, waits_for, is_there, has_bundle, is_held, is_kept_open, has_waiter, has_closing, FitsTogether, IsInOrder}
 use Rattle.laws_sound.proofs.Counting.{weigh, weightless, weighs_found, heavy_found, weigh_found, none_left, only_found, small_bit}
 use Rattle.laws_sound.proofs.Crews.{change_here}
 use Rattle.laws_sound.proofs.Fitting.{names_it, closes_it, died_as, used_is, named, named_is}
 use Rattle.laws_sound.proofs.Going.{its_number}
 use Rattle.laws_sound.proofs.Handing.{equal, unequal, same_number}
-use Rattle.laws_sound.proofs.Lists.{all_follow, all_both, all_from}
 use Rattle.laws_sound.proofs.Nearly.{Nearly, nearly, near_set, settle_in}
 use Rattle.laws_sound.proofs.Ordering.{apart, all_true, order_anyway, going_open}
 use Rattle.laws_sound.proofs.Owners.{owns, owns_is, owns_as, drop_other, drop_here}

@@ -27,10 +27,10 @@ use Rattle.dill_rules.specs.Owning.{is_dead_as}
 use Rattle.dill_rules.specs.Settling.{can_finish, is_clear, answer_due, IsSettled}
 use Rattle.dill_rules.specs.Taking.{is_cancelled}
 use Rattle.dill_rules.specs.World.{World, is_coroutine, coroutine_of, pending_call, is_answered, is_ending}
-use Rattle.laws_queue.specs.Plain.{may_wait, waits_plainly, IsPlain}
+use Rattle.laws_sound.specs.Plain.{may_wait, waits_plainly, IsPlain}
 use Rattle.laws_queue.specs.Kept.{has_answer}
 use Rattle.laws_queue.specs.Well.{Numbered, bit, occurs}
-use Rattle.laws_queue.proofs.Lists.{all_found}
+use Rattle.laws_sound.proofs.Lists.{all_found}
 use Rattle.laws_queue.proofs.Stepping.{passes}
 use Rattle.laws_sound.specs.Laws.{is_closing, is_resting, IsAtRest, HasGoing, GoesOn, RootGoesOn, BundleGoesOn}
 use Rattle.laws_sound.specs.Order.{is_there, has_bundle, has_closing, closes, FitsTogether, IsInOrder}
@@ -275,12 +275,12 @@ main_there : {V : Type 0} (w : World V) → FitsTogether w → w.ended ≡ None 
 main_there w fits e = sym fits.main ∙ ap is_none e
 
 pub root_goes_on : {V : Type 0} (p : Program V) → RootGoesOn p
-root_goes_on p k well order settled rest e lives_on =
+root_goes_on p k well plain order settled rest e lives_on =
     let there = main_there k.world order.fits lives_on in
-    let one = deeper k.world 0 (record { order = order; plain = well.plain; settled = settled; rest = rest }) e (length k.world.scopes.homes) 0 1 (omega arith) refl (there_inside k.world 1 order.fits there) there in
+    let one = deeper k.world 0 (record { order = order; plain = plain; settled = settled; rest = rest }) e (length k.world.scopes.homes) 0 1 (omega arith) refl (there_inside k.world 1 order.fits there) there in
     queued_one k.ready one.who (well.queue.once one.who ∙ ap bit one.answered)
 
 pub bundle_goes_on : {V : Type 0} (p : Program V) → BundleGoesOn p
-bundle_goes_on {V} p k name well order settled rest e lived =
-    let one = closing_goes_on V k.world name order well.plain settled rest e lived in
+bundle_goes_on {V} p k name well plain order settled rest e lived =
+    let one = closing_goes_on V k.world name order plain settled rest e lived in
     record { who = one.who; inside = one.inside; queued = well.queue.once one.who ∙ ap bit one.answered }

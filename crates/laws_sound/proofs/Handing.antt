@@ -20,7 +20,7 @@ use Rattle.dill_rules.specs.Taking.{bundle_of}
 use Rattle.dill_rules.specs.World.{World}
 use Rattle.dill_rules.specs.Effects.{make, add_bundle}
 use Rattle.laws_queue.specs.Well.{bit}
-use Rattle.laws_queue.proofs.Lists.{all_found}
+use Rattle.laws_sound.proofs.Lists.{all_found}
 use Rattle.laws_sound.specs.Order.{is_there, has_bundle, is_held, is_proper_thing, is_proper, FitsTogether}
 use Rattle.laws_sound.proofs.Counting.{weigh, holds, weigh_push, weigh_found, weigh_without, length_push, weightless, used_more, all_push}
 use Rattle.laws_sound.proofs.Fitting.{names_it, closes_it, has_number, used, named, used_is, named_is, held_follow, there_is}

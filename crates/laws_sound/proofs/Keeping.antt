@@ -24,11 +24,11 @@ use Rattle.dill_rules.specs.Owning.{is_dead_as}
 use Rattle.dill_rules.specs.Settling.{can_finish, is_clear, finish, answer_due, give_first, settle_one, settle_within, settle, end}
 use Rattle.dill_rules.specs.Turning.{is_build, is_entry, as_running, may_lack_build, resume, answer_given, move_of, make_move, lack_move, go_on, turn}
 use Rattle.dill_rules.specs.World.{World, is_coroutine, coroutine_of, call_of, reply, begin, pending_call, is_ending, is_answered}
-use Rattle.laws_queue.specs.Plain.{may_wait, IsPlain}
+use Rattle.laws_sound.specs.Plain.{may_wait, IsPlain}
 use Rattle.laws_queue.proofs.Stepping.{by_number, passes, due_first}
-use Rattle.laws_queue.proofs.Steps.{settle_one_plain, within_plain, pass_plain, first_waits}
-use Rattle.laws_queue.proofs.Turns.{entered_plain, go_on_plain}
-use Rattle.laws_queue.proofs.Plainly.{begin_plain}
+use Rattle.laws_sound.proofs.Steps.{settle_one_plain, within_plain, pass_plain, first_waits}
+use Rattle.laws_sound.proofs.Turns.{entered_plain, go_on_plain}
+use Rattle.laws_sound.proofs.Plainly.{begin_plain}
 use Rattle.laws_sound.specs.Order.{IsInOrder}
 use Rattle.laws_sound.proofs.Crews.{change_here}
 use Rattle.laws_sound.proofs.Entering.{order_enter, found_call}

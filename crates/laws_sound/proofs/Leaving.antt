@@ -24,7 +24,7 @@ use Rattle.dill_rules.specs.State.{lined, lined_mode}
 use Rattle.dill_rules.specs.Taking.{bundle_of}
 use Rattle.dill_rules.specs.World.{World, from_start, is_coroutine, coroutine_of, note, is_ending}
 use Rattle.laws_queue.specs.Well.{bit, is_at}
-use Rattle.laws_queue.proofs.Lists.{all_found, all_without}
+use Rattle.laws_sound.proofs.Lists.{all_found, all_without, all_follow, all_from}
 use Rattle.laws_sound.specs.Order.{closes, waits_for, has_bundle, is_kept_open, has_waiter, has_closing, FitsTogether, IsInOrder}
 use Rattle.laws_sound.proofs.Coming.{newborn, fits_born, fits_left}
 use Rattle.laws_sound.proofs.Counting.{weigh, weightless, weightless_none, none_left, none_without, all_push, all_unique}
@@ -32,7 +32,6 @@ use Rattle.laws_sound.proofs.Crews.{other_without, map_numbers, map_numbered, ma
 use Rattle.laws_sound.proofs.Finishing.{free_bare}
 use Rattle.laws_sound.proofs.Fitting.{has_number, fits_crew}
 use Rattle.laws_sound.proofs.Handing.{equal, unequal, same_number, tell}
-use Rattle.laws_sound.proofs.Lists.{all_follow, all_from}
 use Rattle.laws_sound.proofs.Nearly.{settle_in}
 use Rattle.laws_sound.proofs.Ordering.{apart, all_true, order_release}
 use Rattle.laws_sound.proofs.Owners.{owns}

@@ -1,4 +1,11 @@
 pub mod Lists
+pub mod Plainly
+pub mod Blind
+pub mod Settles
+pub mod Steps
+pub mod Turns
+pub mod Untried
+pub mod PlainLaws
 pub mod Sound
 pub mod Going
 pub mod Counting

@@ -16,12 +16,11 @@ use Rattle.dill_rules.specs.Taking.{bundle_of}
 use Rattle.dill_rules.specs.World.{World, is_coroutine, coroutine_of, with_mode, set_mode, is_ending}
 use Rattle.laws_queue.specs.Well.{Numbered, is_at}
 use Rattle.laws_queue.proofs.Answered.{none_below}
-use Rattle.laws_queue.proofs.Lists.{all_found}
+use Rattle.laws_sound.proofs.Lists.{all_found, all_follow, all_from}
 use Rattle.laws_sound.specs.Order.{closes, waits_for, is_kept_open, has_waiter, has_closing, FitsTogether, IsInOrder}
 use Rattle.laws_sound.proofs.Crews.{change_numbers, change_numbered, change_length, change_other}
 use Rattle.laws_sound.proofs.Fitting.{fits_crew}
 use Rattle.laws_sound.proofs.Handing.{equal, unequal, same_number}
-use Rattle.laws_sound.proofs.Lists.{all_follow, all_from}
 use Rattle.laws_sound.proofs.Owners.{owns}
 
 pub or_false : (a b : Bool) → (a || b) ≡ true → a ≡ false → b ≡ true

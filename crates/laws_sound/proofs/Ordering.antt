@@ -29,13 +29,12 @@ use Rattle.dill_rules.specs.Taking.{bundle_of}
 use Rattle.dill_rules.specs.World.{World, Place, is_coroutine, coroutine_of, with_mode, set_mode, reply, note, is_ending}
 use Rattle.dill_rules.specs.Effects.{make, add_bundle}
 use Rattle.laws_queue.specs.Well.{bit, is_at}
-use Rattle.laws_queue.proofs.Lists.{all_found, all_without}
+use Rattle.laws_sound.proofs.Lists.{all_found, all_without, all_follow, all_from}
 use Rattle.laws_sound.specs.Order.{closes, waits_for, is_there, has_bundle, is_kept_open, has_waiter, has_closing, FitsTogether, IsInOrder, is_proper_thing}
 use Rattle.laws_sound.proofs.Counting.{weigh, weightless, all_push}
 use Rattle.laws_sound.proofs.Crews.{change_here}
 use Rattle.laws_sound.proofs.Fitting.{closes_it, has_number, named, named_is, fits_anyway}
 use Rattle.laws_sound.proofs.Handing.{equal, live, live_there, fits_make, fits_add_bundle}
-use Rattle.laws_sound.proofs.Lists.{all_follow, all_from}
 use Rattle.laws_sound.proofs.Moving.{renumbered, fits_renumbered, fits_taken, fits_retired, fits_closed}
 use Rattle.laws_sound.proofs.Nearly.{is_free, free_waits, nearly, near_change, settle_in}
 use Rattle.laws_sound.proofs.Owners.{owns, new_is_free, bundle_other, take_other, close_same}

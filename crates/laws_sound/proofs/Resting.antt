@@ -36,16 +36,15 @@ use Rattle.dill_rules.specs.State.{lined, lined_mode}
 use Rattle.dill_rules.specs.Taking.{bundle_of, bundle_named}
 use Rattle.dill_rules.specs.Turning.{is_build, is_entry, as_running, may_lack_build, resume, answer_given, move_of, make_move, lack_move, go_on}
 use Rattle.dill_rules.specs.World.{World, is_coroutine, call_of, with_mode, reply, pend, begin}
-use Rattle.laws_queue.specs.Plain.{may_wait, is_plain_thing, is_plain_entry, IsPlain}
+use Rattle.laws_sound.specs.Plain.{may_wait, is_plain_thing, is_plain_entry, IsPlain}
 use Rattle.laws_queue.proofs.Crew.{SameCrew, move_crew, release_crew, free_dead_crew, close_all_crew, give_all_crew, bare_crew}
-use Rattle.laws_queue.proofs.Lists.{all_found, all_without}
-use Rattle.laws_queue.proofs.Steps.{settle_one_plain, within_plain, pass_plain, first_waits, call_waits}
-use Rattle.laws_queue.proofs.Turns.{entered_plain}
+use Rattle.laws_sound.proofs.Lists.{all_found, all_without, all_follow}
+use Rattle.laws_sound.proofs.Steps.{settle_one_plain, within_plain, pass_plain, first_waits, call_waits}
+use Rattle.laws_sound.proofs.Turns.{entered_plain}
 use Rattle.laws_sound.specs.Laws.{is_resting, IsAtRest}
 use Rattle.laws_sound.specs.Order.{is_proper, is_proper_thing}
 use Rattle.laws_sound.proofs.Counting.{all_push}
 use Rattle.laws_sound.proofs.Entering.{May, may}
-use Rattle.laws_sound.proofs.Lists.{all_follow}
 
 -- it isn't making a call
 abbrev pub is_still : Mode → Bool

@@ -22,14 +22,13 @@ use Rattle.dill_rules.specs.Settling.{close_owned, close_all, end}
 use Rattle.dill_rules.specs.Taking.{bundle_of}
 use Rattle.dill_rules.specs.World.{World, coroutine_of, with_mode, set_mode, pend, note, is_ending}
 use Rattle.laws_queue.specs.Well.{bit, is_at}
-use Rattle.laws_queue.proofs.Lists.{all_found, all_without}
+use Rattle.laws_sound.proofs.Lists.{all_found, all_without, all_follow, all_from}
 use Rattle.laws_sound.specs.Order.{closes, waits_for, is_there, has_bundle, is_kept_open, has_closing, FitsTogether, IsInOrder}
 use Rattle.laws_sound.proofs.Counting.{weigh, weightless, weightless_none, weighs_found, found_push, pushed_found, found_without, none_left, small_bit, all_push, filter_first, filter_none, filter_both}
 use Rattle.laws_sound.proofs.Crews.{change_here}
 use Rattle.laws_sound.proofs.Fitting.{names_it, closes_it, has_number, died_as, used_is, named, named_is, fits_anyway}
 use Rattle.laws_sound.proofs.Going.{its_number, found_there}
 use Rattle.laws_sound.proofs.Handing.{equal, unequal, same_number, tell, live}
-use Rattle.laws_sound.proofs.Lists.{all_follow, all_from}
 use Rattle.laws_sound.proofs.Moving.{fits_shut, fits_freed}
 use Rattle.laws_sound.proofs.Nearly.{is_free, mine_or, Nearly, nearly, near_set, settle_in}
 use Rattle.laws_sound.proofs.Ordering.{apart, all_true, free_owns, going_open}

@@ -16,10 +16,9 @@ use Rattle.dill_rules.specs.Owning.{entry_of}
 use Rattle.dill_rules.specs.Taking.{bundle_of}
 use Rattle.dill_rules.specs.World.{World}
 use Rattle.laws_queue.specs.Well.{bit, occurs}
-use Rattle.laws_queue.proofs.Lists.{all_found}
+use Rattle.laws_sound.proofs.Lists.{all_found, occurs_found}
 use Rattle.laws_sound.specs.Order.{is_there, has_bundle, is_held, FitsTogether}
 use Rattle.laws_sound.specs.Laws.{is_closing, OrderIsSound, CancelsAll}
-use Rattle.laws_sound.proofs.Lists.{occurs_found}
 
 pub owner_is : (o : Option ℕ) (who : ℕ) → if_some o false (λ owner. owner == who) ≡ true → o ≡ Some who
 owner_is None who e = cc

@@ -28,13 +28,16 @@ use Rattle.dill_rules.specs.Settling.{settle}
 use Rattle.dill_rules.specs.State.{lined, lined_mode}
 use Rattle.dill_rules.specs.Turning.{turn, move_of, answer_given}
 use Rattle.dill_rules.specs.World.{World, at_start, is_coroutine, coroutine_of, call_of, with_mode, begin, pending_call}
-use Rattle.laws_queue.specs.Kept.{Kept, opening_kept, queued, turn_first, kept_turn, kept_expire_next, kept_late, kept_expired, kept_shut, kept_woke}
+use Rattle.laws_queue.specs.Kept.{Kept, opening_kept, queued, turn_first, kept_turn, kept_expire_next, kept_late, kept_expired, kept_shut, kept_woke, root_closed}
 use Rattle.laws_queue.specs.Laws.{KeepsWell}
-use Rattle.laws_queue.specs.Plain.{may_wait, IsPlain}
+use Rattle.laws_sound.specs.Plain.{may_wait, IsPlain}
 use Rattle.laws_queue.specs.Well.{bit, IsWell}
 use Rattle.laws_queue.proofs.Keeping.{steps_keep_well}
-use Rattle.laws_queue.proofs.Steps.{call_waits}
-use Rattle.laws_queue.proofs.Turns.{root_closed, closed_plain}
+use Rattle.laws_sound.proofs.Steps.{call_waits}
+use Rattle.laws_sound.proofs.Turns.{closed_plain}
+use Rattle.laws_sound.proofs.Plainly.{begin_plain}
+use Rattle.laws_sound.proofs.PlainLaws.{steps_keep_plain}
+use Rattle.laws_sound.specs.PlainLaws.{KeepsPlain}
 use Rattle.laws_sound.specs.Laws.{is_timed, StepsKeepOrder}
 use Rattle.laws_sound.specs.Order.{IsInOrder}
 use Rattle.laws_sound.proofs.Crews.{change_here, change_other}
@@ -193,27 +196,31 @@ module _ {V : Type 0} where
 
 module _ {V : Type 0} (p : Program V) (law : IsLawful p) (plainly : MakesPlain p) where
   well : KeepsWell p
-  well = steps_keep_well p law plainly
+  well = steps_keep_well p law
 
-  turned : (k : Kept V) (lack : Option LackPlace) → IsWell p k → IsInOrder k.world → IsInOrder (kept_turn p lack k).world
-  turned k lack w o = at k.ready refl
+  stays : KeepsPlain p
+  stays = steps_keep_plain p law plainly
+
+  turned : (k : Kept V) (lack : Option LackPlace) → IsWell p k → IsPlain k.world → IsInOrder k.world → IsInOrder (kept_turn p lack k).world
+  turned k lack w plain o = at k.ready refl
     where
       at : (ready : List ℕ) → k.ready ≡ ready → IsInOrder (turn_first p lack k ready).world
       at [] e = o
       at (who ∷ rest) e =
           let m = well.first k who rest w e in
-          let plain : MovesPlain (move_of p k.world who m.one.body) = plainly m.one.body (answer_given k.world who).1 m.real m.some in
-          order_queued (turn p lack k.world who) rest (k.early - 1) (order_turn p lack k.world who m.one w.plain o m.found m.answered plain)
+          let moves : MovesPlain (move_of p k.world who m.one.body) = plainly m.one.body (answer_given k.world who).1 m.real m.some in
+          order_queued (turn p lack k.world who) rest (k.early - 1) (order_turn p lack k.world who m.one plain o m.found m.answered moves)
 
-  expires : (k : Kept V) (who : ℕ) → IsWell p k → IsInOrder k.world → is_timed k.world who ≡ true → IsInOrder (kept_expire_next k who).world
-  expires k who w o d = order_queued (expire_one k.world who) k.ready k.early (order_expire_one k.world who w.plain o d)
+  expires : (k : Kept V) (who : ℕ) → IsWell p k → IsPlain k.world → IsInOrder k.world → is_timed k.world who ≡ true → IsInOrder (kept_expire_next k who).world
+  expires k who w plain o d = order_queued (expire_one k.world who) k.ready k.early (order_expire_one k.world who plain o d)
 
-  settled : (k : Kept V) → IsWell p k → IsInOrder k.world → IsInOrder (queued (settle k.world) k.ready k.early).world
-  settled k w o = order_queued (settle k.world) k.ready k.early (order_settle k.world w.plain o)
+  settled : (k : Kept V) → IsWell p k → IsPlain k.world → IsInOrder k.world → IsInOrder (queued (settle k.world) k.ready k.early).world
+  settled k w plain o = order_queued (settle k.world) k.ready k.early (order_settle k.world plain o)
 
   -- what an expiry keeps
   record Keeps (k : Kept V) : Type 0 where
     well : IsWell p k
+    plain : IsPlain k.world
     order : IsInOrder k.world
 
   expire_all : (xs : List ℕ) (k : Kept V) → Keeps k → list_all (is_timed k.world) xs ≡ true → Keeps (fold kept_expire_next k xs)
@@ -221,17 +228,17 @@ module _ {V : Type 0} (p : Program V) (law : IsLawful p) (plainly : MakesPlain p
   expire_all (x ∷ xs) k h t =
       let b = and_parts (is_timed k.world x) (list_all (is_timed k.world) xs) t in
       let next = kept_expire_next k x in
-      expire_all xs next (record { well = well.expires k x h.well; order = expires k x h.well h.order b.0 })
-      (all_follow (is_timed k.world) (is_timed next.world) xs (λ n e. ap timed (calls_lined (expire_one k.world x).coroutines n) ∙ expire_timed k.world x n h.well.plain b.0 e) b.1)
+      expire_all xs next (record { well = well.expires k x h.well; plain = stays.expires k x h.plain; order = expires k x h.well h.plain h.order b.0 })
+      (all_follow (is_timed k.world) (is_timed next.world) xs (λ n e. ap timed (calls_lined (expire_one k.world x).coroutines n) ∙ expire_timed k.world x n h.plain b.0 e) b.1)
 
-  expired : (k : Kept V) → IsWell p k → IsInOrder k.world → IsInOrder (kept_expired k).world
-  expired k w o =
+  expired : (k : Kept V) → IsWell p k → IsPlain k.world → IsInOrder k.world → IsInOrder (kept_expired k).world
+  expired k w plain o =
       let from = record k { world = begin k.world } in
-      let late = expire_all (passed k.world) from (record { well = well.started k w; order = order_begin k.world o }) (passed_timed k.world o) in
-      settled (kept_late k) late.well late.order
+      let late = expire_all (passed k.world) from (record { well = well.started k w; plain = begin_plain k.world plain; order = order_begin k.world o }) (passed_timed k.world o) in
+      settled (kept_late k) late.well late.plain late.order
 
-  shut : (k : Kept V) → IsWell p k → IsInOrder k.world → IsInOrder (kept_shut k).world
-  shut k w o = order_queued (settle (root_closed k.world)) k.ready (length k.ready) (order_settle (root_closed k.world) (closed_plain k.world w.plain) (order_root_closed k.world o))
+  shut : (k : Kept V) → IsWell p k → IsPlain k.world → IsInOrder k.world → IsInOrder (kept_shut k).world
+  shut k w plain o = order_queued (settle (root_closed k.world)) k.ready (length k.ready) (order_settle (root_closed k.world) (closed_plain k.world plain) (order_root_closed k.world o))
 
 pub steps_keep_order : {V : Type 0} (p : Program V) → StepsKeepOrder p
 steps_keep_order p law plainly = record {

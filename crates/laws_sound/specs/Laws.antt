@@ -16,7 +16,7 @@ use Rattle.dill_rules.specs.Taking.{is_cancelled}
 use Rattle.dill_rules.specs.Expiring.{due_of}
 use Rattle.dill_rules.specs.World.{World, begin, call_of, is_answered}
 use Rattle.laws_queue.specs.Kept.{Kept, has_answer, opening_kept, queued, kept_turn, kept_expire_next, kept_expired, kept_shut, kept_woke}
-use Rattle.laws_queue.specs.Plain.{IsPlain}
+use Rattle.laws_sound.specs.Plain.{IsPlain}
 use Rattle.laws_queue.specs.Well.{occurs, is_at, IsWell}
 use Rattle.laws_sound.specs.Order.{is_there, IsInOrder}
 
@@ -46,12 +46,12 @@ is_timed w who = if_some (call_of w who) true (λ call. is_some (due_of call))
 -- so it is of programs that make plain calls
 pub record KeepsOrder {V : Type 0} (p : Program V) : Type 0 where
   pub opening : (view : V) → IsInOrder (opening_kept view).world
-  pub turned : (k : Kept V) (lack : Option LackPlace) → IsWell p k → IsInOrder k.world → IsInOrder (kept_turn p lack k).world
+  pub turned : (k : Kept V) (lack : Option LackPlace) → IsWell p k → IsPlain k.world → IsInOrder k.world → IsInOrder (kept_turn p lack k).world
   pub started : (k : Kept V) → IsInOrder k.world → IsInOrder (begin k.world)
-  pub expires : (k : Kept V) (who : ℕ) → IsWell p k → IsInOrder k.world → is_timed k.world who ≡ true → IsInOrder (kept_expire_next k who).world
-  pub settled : (k : Kept V) → IsWell p k → IsInOrder k.world → IsInOrder (queued (settle k.world) k.ready k.early).world
-  pub expired : (k : Kept V) → IsWell p k → IsInOrder k.world → IsInOrder (kept_expired k).world
-  pub shut : (k : Kept V) → IsWell p k → IsInOrder k.world → IsInOrder (kept_shut k).world
+  pub expires : (k : Kept V) (who : ℕ) → IsWell p k → IsPlain k.world → IsInOrder k.world → is_timed k.world who ≡ true → IsInOrder (kept_expire_next k who).world
+  pub settled : (k : Kept V) → IsWell p k → IsPlain k.world → IsInOrder k.world → IsInOrder (queued (settle k.world) k.ready k.early).world
+  pub expired : (k : Kept V) → IsWell p k → IsPlain k.world → IsInOrder k.world → IsInOrder (kept_expired k).world
+  pub shut : (k : Kept V) → IsWell p k → IsPlain k.world → IsInOrder k.world → IsInOrder (kept_shut k).world
   pub woke : (k : Kept V) (told : ℕ) (ready : List Ready) → IsInOrder k.world → IsInOrder (kept_woke k told ready).world
 
 abbrev pub StepsKeepOrder : {V : Type 0} → Program V → Type 0
@@ -60,13 +60,13 @@ StepsKeepOrder p = IsLawful p → MakesPlain p → KeepsOrder p
 -- so each step leads from rest to rest; after an expiry something may be due until the world settles
 pub record KeepsRest {V : Type 0} (p : Program V) : Type 0 where
   pub opening : (view : V) → IsBetweenSteps (opening_kept view).world
-  pub turned : (k : Kept V) (lack : Option LackPlace) → IsWell p k → IsInOrder k.world → IsBetweenSteps k.world → IsBetweenSteps (kept_turn p lack k).world
-  pub started : (k : Kept V) → IsWell p k → IsBetweenSteps k.world → IsBetweenSteps (begin k.world)
-  pub expires : (k : Kept V) (who : ℕ) → IsWell p k → IsAtRest k.world → IsAtRest (kept_expire_next k who).world
-  pub settled : (k : Kept V) → IsWell p k → IsAtRest k.world → IsBetweenSteps (queued (settle k.world) k.ready k.early).world
-  pub expired : (k : Kept V) → IsWell p k → IsAtRest k.world → IsBetweenSteps (kept_expired k).world
-  pub shut : (k : Kept V) → IsWell p k → IsAtRest k.world → IsBetweenSteps (kept_shut k).world
-  pub woke : (k : Kept V) (told : ℕ) (ready : List Ready) → IsWell p k → IsBetweenSteps k.world → IsBetweenSteps (kept_woke k told ready).world
+  pub turned : (k : Kept V) (lack : Option LackPlace) → IsWell p k → IsPlain k.world → IsInOrder k.world → IsBetweenSteps k.world → IsBetweenSteps (kept_turn p lack k).world
+  pub started : (k : Kept V) → IsWell p k → IsPlain k.world → IsBetweenSteps k.world → IsBetweenSteps (begin k.world)
+  pub expires : (k : Kept V) (who : ℕ) → IsWell p k → IsPlain k.world → IsAtRest k.world → IsAtRest (kept_expire_next k who).world
+  pub settled : (k : Kept V) → IsWell p k → IsPlain k.world → IsAtRest k.world → IsBetweenSteps (queued (settle k.world) k.ready k.early).world
+  pub expired : (k : Kept V) → IsWell p k → IsPlain k.world → IsAtRest k.world → IsBetweenSteps (kept_expired k).world
+  pub shut : (k : Kept V) → IsWell p k → IsPlain k.world → IsAtRest k.world → IsBetweenSteps (kept_shut k).world
+  pub woke : (k : Kept V) (told : ℕ) (ready : List Ready) → IsWell p k → IsPlain k.world → IsBetweenSteps k.world → IsBetweenSteps (kept_woke k told ready).world
 
 abbrev pub StepsKeepRest : {V : Type 0} → Program V → Type 0
 StepsKeepRest p = IsLawful p → MakesPlain p → KeepsRest p
@@ -91,7 +91,7 @@ GoesOn V = (w : World V) (name : ℕ) → IsInOrder w → IsPlain w → IsSettle
 
 -- where the root is closing and `main` hasn't ended, somebody is queued
 abbrev pub RootGoesOn : {V : Type 0} → Program V → Type 0
-RootGoesOn {V} p = (k : Kept V) → IsWell p k → IsInOrder k.world → IsSettled k.world → IsAtRest k.world → is_closing k.world.scopes 0 ≡ true → k.world.ended ≡ None → has_answer k.ready ≡ true
+RootGoesOn {V} p = (k : Kept V) → IsWell p k → IsPlain k.world → IsInOrder k.world → IsSettled k.world → IsAtRest k.world → is_closing k.world.scopes 0 ≡ true → k.world.ended ≡ None → has_answer k.ready ≡ true
 
 -- somebody inside a bundle is queued with an answer
 pub record HasQueued {V : Type 0} (k : Kept V) (name : ℕ) : Type 0 where
@@ -101,4 +101,4 @@ pub record HasQueued {V : Type 0} (k : Kept V) (name : ℕ) : Type 0 where
 
 -- where a bundle is closing in which somebody lives, somebody inside it is queued
 abbrev pub BundleGoesOn : {V : Type 0} → Program V → Type 0
-BundleGoesOn {V} p = (k : Kept V) (name : ℕ) → IsWell p k → IsInOrder k.world → IsSettled k.world → IsAtRest k.world → is_closing k.world.scopes name ≡ true → is_empty k.world.scopes name ≡ false → HasQueued k name
+BundleGoesOn {V} p = (k : Kept V) (name : ℕ) → IsWell p k → IsPlain k.world → IsInOrder k.world → IsSettled k.world → IsAtRest k.world → is_closing k.world.scopes name ≡ true → is_empty k.world.scopes name ≡ false → HasQueued k name

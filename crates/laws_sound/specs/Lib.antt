@@ -1,2 +1,4 @@
+pub mod Plain
+pub mod PlainLaws
 pub mod Order
 pub mod Laws

@@ -1,7 +1,24 @@
+ghost use Rattle.laws_sound.specs.PlainLaws.{KeepsPlain, FollowsPlainly, SettlesPlainly};
 ghost use Rattle.laws_sound.specs.Laws.{KeepsOrder, KeepsRest, OrderIsSound, CancelsAll, GoesOn, RootGoesOn, BundleGoesOn};
 
 use dill_calls::Body;
 use dill_plain::PlainBody;
+
+/// Each step of programs that make plain calls leaves a world without channels and links so.
+pub fn steps_keep_plain<B: PlainBody>()
+    ensures { KeepsPlain B.means }
+{}
+
+/// Without channels and links the steps of what a core keeps draw no random number, so none has to be lent for them, and
+/// nothing is asked of the kernel.
+pub fn follows_plainly<B: PlainBody>()
+    ensures { FollowsPlainly B.means }
+{}
+
+/// Without channels and links nothing is due behind a whole settling.
+pub fn settles_plainly<B: Body>()
+    ensures { SettlesPlainly B }
+{}
 
 /// A world in order is sound.
 pub fn order_is_sound<B: Body>()

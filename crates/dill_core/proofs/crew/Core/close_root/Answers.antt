@@ -3,11 +3,11 @@ use Rattle.dill_rules.specs.Settling.{settle}
 use Rattle.dill_rules.specs.World as world
 use Rattle.dill_rules.specs.World.{World}
 use Rattle.dill_scope.specs.Scopes as scopes
-use Rattle.laws_queue.specs.Kept.{queued}
+use Rattle.laws_queue.specs.Kept.{root_closed, queued}
 use Rattle.laws_debt.specs.Closing.{IsStable}
 use Rattle.dill_world.specs.Store.{Store, world_of}
 use Rattle.dill_core.specs.Holding.{Holding, kept_of}
-use Rattle.dill_core.proofs.Places.{has_places, lined_held, root_closed, closed_well}
+use Rattle.dill_core.proofs.Places.{has_places, lined_held, closed_well}
 use Rattle.dill_core.proofs.crew.Core.close_root.Goals as goal
 
 closed_is : {V : Type 0} (old begun closed : Store V) → world_of begun ≡ world.begin (world_of old) → world_of closed ≡ record (world_of begun) { scopes = scopes.close begun.scopes 0 } → world_of closed ≡ root_closed (world_of old)

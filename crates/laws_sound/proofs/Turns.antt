@@ -12,14 +12,13 @@ use Rattle.dill_calls.specs.CallTable.{word_of, takes_memory}
 use Rattle.dill_calls.specs.Program.{Program, Move, Calls, Ends}
 use Rattle.rand_core.specs.Stream.{Stream}
 use Rattle.dill_handles.specs.Handles as handles
-use Rattle.dill_scope.specs.Scopes as scopes
 use Rattle.dill_base.specs.Maps.{if_some}
 use Rattle.dill_plain.specs.Plain.{is_plain, MovesPlain}
 use Rattle.dill_rules.specs.declared.coroutine.Coroutine.{Coroutine}
 use Rattle.dill_rules.specs.declared.coroutine.Mode.TheVariants as modes
 use Rattle.dill_rules.specs.declared.thing.Thing.{Thing}
 use Rattle.dill_rules.specs.declared.thing.Thing.TheVariants as things
-use Rattle.dill_rules.specs.World.{World, is_coroutine, coroutine_of, call_of, reply, from_start, begin, set_mode}
+use Rattle.dill_rules.specs.World.{World, is_coroutine, coroutine_of, call_of, reply, begin, set_mode}
 use Rattle.dill_rules.specs.Naming.{gifts_of}
 use Rattle.dill_rules.specs.Kinds.{value_of}
 use Rattle.dill_rules.specs.Owning.{entry_of, close_bundle, release}
@@ -30,12 +29,14 @@ use Rattle.dill_rules.specs.Entering.{entered, keep_for, perform, is_too_late, l
 use Rattle.dill_rules.specs.Expiring.{expire_one}
 use Rattle.dill_rules.specs.Settling.{close_owned, close_all, end, settle}
 use Rattle.dill_rules.specs.Turning.{is_build, is_entry, as_running, may_lack_build, resume, answer_given, move_of, make_move, lack_move, go_on, turn}
-use Rattle.laws_queue.specs.Plain.{lent, may_wait, waits_plainly, IsPlain}
-use Rattle.laws_queue.proofs.Blind.{if_blind, query_blind, own_blind, close_blind, go_blind, bundle_go_blind}
-use Rattle.laws_queue.proofs.Lists.{all_change}
-use Rattle.laws_queue.proofs.Plainly.{plain_with, set_mode_plain, reply_plain, pend_plain, begin_plain, make_plain, add_bundle_plain, move_plain, release_plain, close_bundle_plain, fold_plain, give_all_plain, bear_plain}
-use Rattle.laws_queue.proofs.Settles.{give_blind, close_all_blind}
-use Rattle.laws_queue.proofs.Steps.{some_blind_at, some_plain_at, if_plain, call_waits, give_plain, settle_plain, settle_blind}
+use Rattle.laws_queue.specs.Kept.{root_closed}
+use Rattle.laws_queue.specs.Lending.{lent}
+use Rattle.laws_sound.specs.Plain.{may_wait, waits_plainly, IsPlain}
+use Rattle.laws_sound.proofs.Blind.{if_blind, query_blind, own_blind, close_blind, go_blind, bundle_go_blind}
+use Rattle.laws_sound.proofs.Lists.{all_change}
+use Rattle.laws_sound.proofs.Plainly.{plain_with, set_mode_plain, reply_plain, pend_plain, begin_plain, make_plain, add_bundle_plain, move_plain, release_plain, close_bundle_plain, fold_plain, give_all_plain, bear_plain}
+use Rattle.laws_sound.proofs.Settles.{give_blind, close_all_blind}
+use Rattle.laws_sound.proofs.Steps.{some_blind_at, some_plain_at, if_plain, call_waits, give_plain, settle_plain, settle_blind}
 
 -- a deadline from its entry on makes no call another
 pub entered_plain : (moment : ℕ) (call : Call) → is_plain call ≡ true → is_plain (entered moment call) ≡ true
@@ -216,10 +217,6 @@ module _ {V : Type 0} where
 
   pub expire_one_blind : (u : Stream) (w : World V) (who : ℕ) → IsPlain w → expire_one ((lent u) w) who ≡ (lent u) (expire_one w who)
   expire_one_blind u w who plain = (some_blind_at u) (call_of w who) ((lent u) w) w _ _ refl (λ call e. (give_blind u) w who call (late_answer call) (call_waits w who call plain e))
-
-  -- the world at whose settling the root closes
-  abbrev pub root_closed : World V → World V
-  root_closed w = record (from_start (begin w)) { scopes = scopes.close w.scopes 0 }
 
   pub closed_plain : (w : World V) → IsPlain w → IsPlain (root_closed w)
   closed_plain w plain = record { channels = plain.channels; links = plain.links; place = refl; wrote = refl; things = plain.things; calls = plain.calls }

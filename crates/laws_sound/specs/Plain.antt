@@ -1,7 +1,6 @@
--- Worlds in which neither channels nor links are there, and random numbers that nobody asks for.
+-- Worlds in which neither channels nor links are there.
 use Rattle.std.specs.Prelude.{◌≡◌, [], Bool, true, false}
 use Rattle.std.specs.List.{list_all}
-use Rattle.rand_core.specs.Stream.{Stream}
 use Rattle.dill_calls.specs.declared.call.Call.{Call}
 use Rattle.dill_calls.specs.declared.call.Call.TheVariants as calls
 use Rattle.dill_handles.specs.declared.entry.Entry.{Entry}
@@ -41,15 +40,3 @@ pub record IsPlain {V : Type 0} (w : World V) : Type 0 where
   pub wrote : w.wrote ≡ []
   pub things : list_all is_plain_entry w.handles.entries ≡ true
   pub calls : list_all waits_plainly w.coroutines ≡ true
-
--- random numbers that nobody asks for
-abbrev pub no_random : Stream
-no_random = record { u32_after = λ asked. 0; u64_after = λ asked. 0; bytes_after = λ asked count. [] }
-
--- a world whose random numbers are others
-abbrev pub lent : {V : Type 0} → Stream → World V → World V
-lent random w = record w { random = random }
-
--- a world but for its random numbers
-abbrev pub wordless : {V : Type 0} → World V → World V
-wordless w = lent no_random w

@@ -22,8 +22,8 @@ use Rattle.dill_rules.specs.declared.thing.Thing.TheVariants as things
 use Rattle.dill_rules.specs.World.{World, is_coroutine, set_mode, with_mode, reply, pend, note, begin, pending_call}
 use Rattle.dill_rules.specs.Owning.{entry_of, take_thing, move, drop, release, close_bundle, free_bundle}
 use Rattle.dill_rules.specs.Effects.{make, add_bundle, bear, give_all}
-use Rattle.laws_queue.specs.Plain.{may_wait, waits_plainly, is_plain_thing, is_plain_entry, IsPlain}
-use Rattle.laws_queue.proofs.Lists.{all_append, all_without, all_change, all_found}
+use Rattle.laws_sound.specs.Plain.{may_wait, waits_plainly, is_plain_thing, is_plain_entry, IsPlain}
+use Rattle.laws_sound.proofs.Lists.{all_append, all_without, all_change, all_found}
 
 module _ {V : Type 0} where
   -- a step that touches neither channels nor links

@@ -1,5 +1,5 @@
 -- What settling and expiring do without looking at random numbers, in a plain world.
-use Rattle.std.proofs.Common.{◌≡◌, ◌∙◌, ◌==◌, ℕ, List, [], ◌∷◌, filter, reverse, find, Bool, true, false, ◌&&◌, Option, Some, None, refl, ap}
+use Rattle.std.proofs.Common.{◌≡◌, ◌∙◌, ◌==◌, ℕ, List, [], ◌∷◌, filter, reverse, find, true, Option, Some, None, refl, ap}
 use Rattle.std.proofs.lemmas.Bool.{and_parts}
 use Rattle.std.specs.List.{list_all}
 use Rattle.std.specs.Option.{option_or}
@@ -19,8 +19,9 @@ use Rattle.dill_rules.specs.Taking.{bundle_of}
 use Rattle.dill_rules.specs.Answers.{answer_of}
 use Rattle.dill_rules.specs.Giving.{give}
 use Rattle.dill_rules.specs.Settling.{close_owned, close_all, highest_first, is_owned_by, free_all, release_all, outcome_of, leave, finish, answer_due}
-use Rattle.laws_queue.specs.Plain.{lent, may_wait, waits_plainly}
-use Rattle.laws_queue.proofs.Blind.{some_blind, if_blind, fold_blind, release_blind}
+use Rattle.laws_queue.specs.Lending.{lent}
+use Rattle.laws_sound.specs.Plain.{may_wait, waits_plainly}
+use Rattle.laws_sound.proofs.Blind.{some_blind, if_blind, fold_blind, release_blind}
 
 module _ {V : Type 0} where
   pub answer_blind : (u : Stream) (w : World V) (who : ℕ) (call : Call) → may_wait call ≡ true → answer_of ((lent u) w) who call ≡ answer_of w who call

@@ -16,7 +16,7 @@ use Rattle.dill_rules.specs.Owning.{entry_of, take_thing, move, drop, release}
 use Rattle.dill_rules.specs.Taking.{bundle_named}
 use Rattle.dill_rules.specs.Effects.{next_number, add_bundle, query, own, close_thing, close, bear, give_all, told, start, go, bundle_go}
 use Rattle.dill_rules.specs.Kinds.{value_of}
-use Rattle.laws_queue.specs.Plain.{lent}
+use Rattle.laws_queue.specs.Lending.{lent}
 
 pub some_blind : {V A : Type 0} (u : Stream) (o : Option A) (n w : World V) (g f : A → World V) → n ≡ (lent u) w → ((a : A) → g a ≡ (lent u) (f a)) → if_some o n g ≡ (lent u) (if_some o w f)
 some_blind u None n w g f e h = e

@@ -16,11 +16,12 @@ use Rattle.dill_rules.specs.Owning.{free_bundle, release, is_dead_as}
 use Rattle.dill_rules.specs.Answers.{answer_of}
 use Rattle.dill_rules.specs.Giving.{give}
 use Rattle.dill_rules.specs.Settling.{can_finish, highest_first, is_owned_by, free_all, release_all, outcome_of, keep_end, leave, finish, answer_due, give_first, settle_one, settle_within, pass_one, pass_all, settle}
-use Rattle.laws_queue.specs.Plain.{lent, may_wait, waits_plainly, IsPlain}
-use Rattle.laws_queue.proofs.Blind.{some_blind}
-use Rattle.laws_queue.proofs.Lists.{all_without, all_found}
-use Rattle.laws_queue.proofs.Plainly.{plain_with, reply_plain, release_plain, free_bundle_plain, fold_plain}
-use Rattle.laws_queue.proofs.Settles.{first_blind, give_blind, finish_blind}
+use Rattle.laws_queue.specs.Lending.{lent}
+use Rattle.laws_sound.specs.Plain.{may_wait, waits_plainly, IsPlain}
+use Rattle.laws_sound.proofs.Blind.{some_blind}
+use Rattle.laws_sound.proofs.Lists.{all_without, all_found}
+use Rattle.laws_sound.proofs.Plainly.{plain_with, reply_plain, release_plain, free_bundle_plain, fold_plain}
+use Rattle.laws_sound.proofs.Settles.{first_blind, give_blind, finish_blind}
 
 pub some_blind_at : {V A : Type 0} (u : Stream) (o : Option A) (n w : World V) (g f : A → World V) → n ≡ (lent u) w → ((a : A) → o ≡ Some a → g a ≡ (lent u) (f a)) → if_some o n g ≡ (lent u) (if_some o w f)
 some_blind_at u None n w g f e h = e
