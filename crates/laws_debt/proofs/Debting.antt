@@ -76,7 +76,7 @@ module _ {V : Type 0} (p : Program V) (law : IsLawful p) (plainly : MakesPlain p
   root_ends = root_debt_falls p law plainly
 
   within_steps : KeepsWithin p
-  within_steps = keeps_within p plainly keeps
+  within_steps = keeps_within p keeps
 
   -- what a step comes to, of a bundle that is closing
   record Comes (s t : State V) (b : ℕ) : Type 0 where
@@ -199,7 +199,7 @@ module _ {V : Type 0} (p : Program V) (law : IsLawful p) (plainly : MakesPlain p
       let k = even.kept in
       let steps = shut_steps p law plainly k s even.stable even.stands even.stamps even.lowers in
       let r = root_closed k.world in
-      let good = good_closed p law plainly keeps (steps_keep_order p law plainly) k.world (good_stable p k even.stable) in
+      let good = good_closed p law plainly keeps (steps_keep_order p law) k.world (good_stable p k even.stable) in
       record {
         even = other_even s even (settle r) steps (length k.ready) (stable_steps.shut k even.stable) _ (follows.shut k s even.stable.plain even.stands);
         settled = settled_queued p (settle r) k.ready (length k.ready) (good_settle p r good).sits (settles_plainly V r (closed_plain k.world even.stable.plain) good.numbered);
@@ -245,7 +245,7 @@ module _ {V : Type 0} (p : Program V) (law : IsLawful p) (plainly : MakesPlain p
       record {
         even_now = other_even t even v steps k.early stable (expire_one t.world x) stands;
         hushed = hushed_queued p law plainly v k.ready k.early (hushed_expire p law plainly w x sits b.0 m.hushed);
-        timed = all_follow (is_timed w) (is_timed (queued v k.ready k.early).world) xs (λ n e. timed_lined v k.ready k.early n (expire_timed w x n even.stable.plain b.0 e)) b.1;
+        timed = all_follow (is_timed w) (is_timed (queued v k.ready k.early).world) xs (λ n e. timed_lined v k.ready k.early n (expire_timed w x n e)) b.1;
         scopes_still = sym (ap (λ (u : World V). u.scopes) stands.world) ∙ leaves.scopes_same ∙ ap (λ (u : World V). u.scopes) even.stands.world ∙ m.scopes_still;
         owed_still = λ c e.
             let here : is_closing t.world.scopes c ≡ true = subst (λ (q : Scopes). is_closing q c ≡ true) (sym m.scopes_still) e in
@@ -273,7 +273,7 @@ module _ {V : Type 0} (p : Program V) (law : IsLawful p) (plainly : MakesPlain p
       record {
         even_now = begun_even s st.even;
         hushed = hushed_settled p law plainly k st.even.stable st.settled;
-        timed = subst (λ xs. list_all (is_timed k.world) xs ≡ true) (ap passed st.even.stands.world) (passed_timed k.world st.even.stable.order);
+        timed = subst (λ xs. list_all (is_timed k.world) xs ≡ true) (ap passed st.even.stands.world) (passed_timed k.world st.even.stable.order.order);
         scopes_still = refl;
         owed_still = λ b e. omega arith;
       }
@@ -427,7 +427,7 @@ module _ {V : Type 0} (p : Program V) (law : IsLawful p) (plainly : MakesPlain p
       let same = st.even.stands.world in
       let here : is_closing k.world.scopes b ≡ true = subst (λ (w : World V). is_closing w.scopes b ≡ true) (sym same) c in
       let full : is_empty k.world.scopes b ≡ false = subst (λ (w : World V). is_empty w.scopes b ≡ false) (sym same) e in
-      let g = closing_goes_on V k.world b st.even.stable.order st.even.stable.plain st.settled st.even.stable.rest here full in
+      let g = closing_goes_on V k.world b st.even.stable.order.order st.even.stable.plain st.settled st.even.stable.rest here full in
       let there : HasGoing (wordless s.world) b = subst (λ w. HasGoing w b) same g in
       record { who = there.who; inside = there.inside; answered = there.answered }
 
@@ -442,10 +442,10 @@ module _ {V : Type 0} (p : Program V) (law : IsLawful p) (plainly : MakesPlain p
       let shut_now : is_closing v.scopes 0 ≡ true = (root_ends.shut k stable).closing in
       let open_here : is_closing k.world.scopes 0 ≡ false = subst (λ (w : World V). is_closing w.scopes 0 ≡ false) (sym stands.world) open_root in
       let queue = take_all (k.ready) (fresh v) in
-      let there = all_there after.world kept.order in
+      let there = all_there after.world kept.order.order in
       let same = all_to (λ (c : Coroutine V). IsThere after.world.scopes c.number) (λ c. share_by p (early_in after) c ≡ share_in p (is_inside after.world.scopes 0) (is_early (shut s) 0) c) after.world.coroutines
       (λ c e.
-      let inside = (search_is_inside after.world.scopes 0 c.number kept.order.fits.forest.forest).1 (home_inside after.world c.number kept.order e) in
+      let inside = (search_is_inside after.world.scopes 0 c.number kept.order.order.fits.forest.forest).1 (home_inside after.world c.number kept.order.order e) in
       let early = early_queued p law plainly k s stable stands st.even.stamps v none_gone s.answers steps k.ready (length k.ready) kept _ stands_after 0 open_here shut_now c.number refl in
       ap (λ xs. if is_ending c.mode then 0 else (if list_any (λ m. m == c.number) xs then 1 + p.most c.body else p.left c.body)) queue
       ∙ ap (λ b. if is_ending c.mode then 0 else (if b then 1 + p.most c.body else p.left c.body)) (sym early)

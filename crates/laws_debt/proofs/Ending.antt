@@ -28,6 +28,7 @@ use Rattle.laws_sound.specs.PlainLaws.{SettlesPlainly}
 use Rattle.laws_queue.specs.Well.{Numbered, bit, occurs, IsQueue, IsWell}
 use Rattle.laws_sound.specs.Laws.{is_closing, CancelsAll, RootGoesOn}
 use Rattle.laws_sound.specs.Order.{IsInOrder}
+use Rattle.laws_sound.specs.Orderly.{IsOrderly}
 use Rattle.laws_debt.specs.Closing.{IsStable, IsClosing}
 use Rattle.laws_debt.specs.Laws.{KeepsStable, EndsClosing, turn_until}
 use Rattle.laws_debt.specs.Owed.{share_by, is_early, owed}
@@ -38,7 +39,7 @@ use Rattle.laws_sound.proofs.Turns.{closed_plain, go_on_plain}
 use Rattle.laws_debt.proofs.Bounded.{owes_few, all_early}
 use Rattle.laws_debt.proofs.Keeping.{root_flags, good_stable, settle_holds, sits_resumed, turn_is}
 use Rattle.laws_queue.proofs.Lining.{lined_pending}
-use Rattle.laws_debt.proofs.Lining.{lined_ending}
+use Rattle.laws_sound.proofs.Leaving.{lined_ends}
 use Rattle.laws_debt.proofs.Lists.{total, is_total, all_found, all_to, found_passes, equal_number, found_changed}
 use Rattle.laws_debt.proofs.Lowering.{all_calm, owed_evolves, lowers_evolves, owed_lined, all_lower_lined, others_lower, share_falls, answered_owes, called_falls, ended_falls, first_gone, others_same}
 use Rattle.laws_debt.proofs.Settling.{AllSit, leads_sits, settle_one_leads, settle_leads}
@@ -48,9 +49,9 @@ use Rattle.laws_debt.proofs.Walking.{Leads, unlike}
 
 -- steps within a step keep a world in order
 pub record KeepsWithin {V : Type 0} (p : Program V) : Type 0 where
-  pub moved : (k : Kept V) (lack : Option LackPlace) (who : ℕ) (rest : List ℕ) (c : Coroutine V) → IsWell p k → IsInOrder k.world → k.ready ≡ who ∷ rest → coroutine_of k.world who ≡ Some c → IsInOrder (go_on p lack (begin k.world) who c.body)
-  pub one : (w : World V) → IsPlain w → IsInOrder w → IsInOrder (settle_one w)
-  pub closed : (w : World V) → IsInOrder w → IsInOrder (root_closed w)
+  pub moved : (k : Kept V) (lack : Option LackPlace) (who : ℕ) (rest : List ℕ) (c : Coroutine V) → IsWell p k → IsOrderly k.world → k.ready ≡ who ∷ rest → coroutine_of k.world who ≡ Some c → IsOrderly (go_on p lack (begin k.world) who c.body)
+  pub one : (w : World V) → IsOrderly w → IsOrderly (settle_one w)
+  pub closed : (w : World V) → IsOrderly w → IsOrderly (root_closed w)
 
 -- ---- the root, once it is closing
 
@@ -147,7 +148,7 @@ module _ {V : Type 0} where
   -- a place in the queue makes nothing due
   pub settled_queued : (p : Program V) (w : World V) (ready : List ℕ) (early : ℕ) → AllSit p w.coroutines → IsSettled w → IsSettled (queued w ready early).world
   settled_queued p w ready early a s = record {
-    endings = none_lined (can_finish w) (can_finish (queued w ready early).world) w.coroutines (λ x. ap (λ b. b && is_clear w x.number) (lined_ending x.mode)) s.endings;
+    endings = none_lined (can_finish w) (can_finish (queued w ready early).world) w.coroutines (λ x. ap (λ b. b && is_clear w x.number) (lined_ends x.mode)) s.endings;
     answers = due_lined p w (queued w ready early).world w.coroutines a refl refl refl ∙ s.answers;
   }
 
@@ -174,29 +175,29 @@ absent_rest who rest false e = let one : bit (who == who) ≡ 1 = ap bit (equal_
 module _ {V : Type 0} (p : Program V) (law : IsLawful p) (plainly : MakesPlain p) (cancels : CancelsAll V) (within : KeepsWithin p) where
   record InClosing (w : World V) : Type 0 where
     plain : IsPlain w
-    order : IsInOrder w
+    order : IsOrderly w
     sits : AllSit p w.coroutines
     holds : AllHold (IsShutAs 0) 0 w
 
   off : (w : World V) (who : ℕ) (c : Coroutine V) → InClosing w → coroutine_of w who ≡ Some c → all_calm who ≡ true → is_cancelled w who ≡ true
-  off w who c i e f = cancels w who i.order (root_shut w i.order i.holds) (ap (λ (o : Option (Coroutine V)). is_some o) e)
+  off w who c i e f = cancels w who i.order.order (root_shut w i.order.order i.holds) (ap (λ (o : Option (Coroutine V)). is_some o) e)
 
   one_leads : (w : World V) → InClosing w → Leads p all_calm w (settle_one w)
-  one_leads w i = settle_one_leads p all_calm InClosing off w i i.sits i.order.fits.numbered
+  one_leads w i = settle_one_leads p all_calm InClosing off w i i.sits i.order.order.fits.numbered
 
   settles : (w : World V) → InClosing w → InClosing (settle_one w)
   settles w i = record {
     plain = settle_one_plain w i.plain;
-    order = within.one w i.plain i.order;
+    order = within.one w i.order;
     sits = leads_sits p all_calm w (settle_one w) (one_leads w i) i.sits;
-    holds = settle_one_shut (IsShutAs 0) 0 (shut_lasts 0) p w i.sits i.order.fits.numbered i.holds;
+    holds = settle_one_shut (IsShutAs 0) 0 (shut_lasts 0) p w i.sits i.order.order.fits.numbered i.holds;
   }
 
   settling : (w : World V) → InClosing w → Leads p all_calm w (settle w)
-  settling w i = settle_leads p all_calm InClosing off settles w i i.sits i.order.fits.numbered
+  settling w i = settle_leads p all_calm InClosing off settles w i i.sits i.order.order.fits.numbered
 
   settling_holds : (w : World V) → InClosing w → AllHold (IsShutAs 0) 0 (settle w)
-  settling_holds w i = settle_holds p (IsShutAs 0) 0 (shut_lasts 0) w i.sits i.order.fits.numbered i.holds
+  settling_holds w i = settle_holds p (IsShutAs 0) 0 (shut_lasts 0) w i.sits i.order.order.fits.numbered i.holds
 
   -- those of a queue of whom is counted
   abbrev early_of : ℕ → List ℕ → ℕ → Bool
@@ -224,7 +225,7 @@ module _ {V : Type 0} (p : Program V) (law : IsLawful p) (plainly : MakesPlain p
         record {
           sits_then = leads_sits p all_calm w (settle w) e i.sits;
           holds_then = settling_holds w i;
-          settled_then = settling_ends w i.plain i.order.fits.numbered;
+          settled_then = settling_ends w i.plain i.order.order.fits.numbered;
           leads_then_to = e;
         }
 
@@ -259,7 +260,7 @@ module _ {V : Type 0} (p : Program V) (law : IsLawful p) (plainly : MakesPlain p
         let moved = go_on p lack b who c.body in
         let good = good_stable p k s.stable in
         let sits = good.sits in
-        let shut : AllHold (IsShutAs 0) 0 w = record { given = omega arith; bundles = of_closing w s.stable.order.fits.forest.ordered.bundles (find (scopes.is_bundle 0) w.scopes.bundles) refl s.closing; things = s.stable.things; flags = s.stable.flags } in
+        let shut : AllHold (IsShutAs 0) 0 w = record { given = omega arith; bundles = of_closing w s.stable.order.order.fits.forest.ordered.bundles (find (scopes.is_bundle 0) w.scopes.bundles) refl s.closing; things = s.stable.things; flags = s.stable.flags } in
         let before : InClosing w = record { plain = s.stable.plain; order = s.stable.order; sits = sits; holds = shut } in
         let once = (subst (λ q. IsQueue q w.coroutines) e s.stable.well.queue).once who in
         let gone = first_gone who rest k.early (absent_rest who rest _ once) in
@@ -304,7 +305,7 @@ module _ {V : Type 0} (p : Program V) (law : IsLawful p) (plainly : MakesPlain p
 
   module _ (settling_ends : SettlesPlainly V) (stable : KeepsStable p) (goes : RootGoesOn p) where
     few : (k : Kept V) → IsClosing p k → owed p k ≤ 2 ^ 48
-    few k s = subst (λ n. n ≤ 2 ^ 48) (sym (is_total (share_by p (is_early k)) k.world.coroutines)) (owes_few p law (is_early k) k.world.coroutines s.stable.well.lives s.stable.order.fits.few)
+    few k s = subst (λ n. n ≤ 2 ^ 48) (sym (is_total (share_by p (is_early k)) k.world.coroutines)) (owes_few p law (is_early k) k.world.coroutines s.stable.well.lives s.stable.order.order.fits.few)
 
     shut : (k : Kept V) → IsStable p k → IsClosing p (kept_shut k)
     shut k s =
@@ -314,7 +315,7 @@ module _ {V : Type 0} (p : Program V) (law : IsLawful p) (plainly : MakesPlain p
           plain = closed_plain k.world s.plain;
           order = within.closed k.world s.order;
           sits = good.sits;
-          holds = record { given = omega arith; bundles = root_shuts k.world.scopes.bundles s.order.fits.forest.ordered.bundles; things = s.things; flags = root_flags k.world s.flags };
+          holds = record { given = omega arith; bundles = root_shuts k.world.scopes.bundles s.order.order.fits.forest.ordered.bundles; things = s.things; flags = root_flags k.world s.flags };
         } in
         let over = settles_to settling_ends w before in
         let all : ℕ → Bool = λ n. list_any (λ m. m == n) k.ready in
@@ -324,7 +325,7 @@ module _ {V : Type 0} (p : Program V) (law : IsLawful p) (plainly : MakesPlain p
         let kept = stable.shut k s in
         record {
           stable = kept;
-          closing = root_shut after.world kept.order (record { given = over.holds_then.given; bundles = over.holds_then.bundles; things = over.holds_then.things; flags = kept.flags });
+          closing = root_shut after.world kept.order.order (record { given = over.holds_then.given; bundles = over.holds_then.bundles; things = over.holds_then.things; flags = kept.flags });
           settled = settled_queued p (settle w) k.ready (length k.ready) over.sits_then over.settled_then;
           early = length_more k.ready (fresh (settle w));
           lowers = subst (λ q. AllLower (λ n. list_any (λ m. m == n) q) after.world.coroutines) (sym (take_all k.ready (fresh (settle w)))) lined_lower;
@@ -345,7 +346,7 @@ module _ {V : Type 0} (p : Program V) (law : IsLawful p) (plainly : MakesPlain p
         let same : is_early after ≡ early_of (k.early - 1) rest = ap (λ q. λ n. list_any (λ m. m == n) q) front in
         let closing : IsClosing p after = record {
           stable = kept;
-          closing = root_shut after.world kept.order (record { given = off.holds.given; bundles = off.holds.bundles; things = off.holds.things; flags = kept.flags });
+          closing = root_shut after.world kept.order.order (record { given = off.holds.given; bundles = off.holds.bundles; things = off.holds.things; flags = kept.flags });
           settled = settled_queued p v rest (k.early - 1) off.sits off.settled;
           early = let m = length_more rest (fresh v) in omega (arith, less, m);
           lowers = subst (λ f. AllLower f after.world.coroutines) (sym same) (all_lower_lined (early_of (k.early - 1) rest) v.coroutines off.lowers);
@@ -371,7 +372,7 @@ module _ {V : Type 0} (p : Program V) (law : IsLawful p) (plainly : MakesPlain p
         at (who ∷ rest) e h = (turned_first k lack who rest keeps s e).1
 
     goes_on : (k : Kept V) → IsClosing p k → k.world.ended ≡ None → has_answer k.ready ≡ true
-    goes_on k s e = goes k s.stable.well s.stable.plain s.stable.order s.settled s.stable.rest s.closing e
+    goes_on k s e = goes k s.stable.well s.stable.plain s.stable.order.order s.settled s.stable.rest s.closing e
 
     stays_ended : (k : Kept V) (lacks : List (Option LackPlace)) → is_some k.world.ended ≡ true → is_some (fold (turn_until p) k lacks).world.ended ≡ true
     stays_ended k [] e = e

@@ -101,7 +101,7 @@ module _ {V : Type 0} where
 
 module _ {V : Type 0} (p : Program V) (law : IsLawful p) (plainly : MakesPlain p) where
   -- a world between steps is one of its own step
-  pub tree_self : (k : Kept V) (b : ℕ) → (s : IsStable p k) → is_closing k.world.scopes b ≡ true → InTree p k.world.scopes b s.order.fits.forest.forest k.world
+  pub tree_self : (k : Kept V) (b : ℕ) → (s : IsStable p k) → is_closing k.world.scopes b ≡ true → InTree p k.world.scopes b s.order.order.fits.forest.forest k.world
   tree_self k b s c =
       let w = k.world in
       let x = closing_found w.scopes b c in
@@ -110,8 +110,8 @@ module _ {V : Type 0} (p : Program V) (law : IsLawful p) (plainly : MakesPlain p
         plain = s.plain;
         order = s.order;
         sits = (good_stable p k s).sits;
-        holds = record { given = subst (λ n. n ≤ w.last_bundle) name (ranked_bound w.scopes.bundles 0 w.last_bundle b x.0 s.flags.ranked x.1); bundles = closing_shut w b s.order c; things = s.things; flags = s.flags };
-        tracks = tracks_self w.scopes b s.order.fits.forest;
+        holds = record { given = subst (λ n. n ≤ w.last_bundle) name (ranked_bound w.scopes.bundles 0 w.last_bundle b x.0 s.flags.ranked x.1); bundles = closing_shut w b s.order.order c; things = s.things; flags = s.flags };
+        tracks = tracks_self w.scopes b s.order.order.fits.forest;
       }
 
   bool_false : (t : Bool) → (t ≡ true → ⊥) → t ≡ false
@@ -122,7 +122,7 @@ module _ {V : Type 0} (p : Program V) (law : IsLawful p) (plainly : MakesPlain p
   pub new_outside : (k : Kept V) (b : ℕ) → (s : IsStable p k) → is_closing k.world.scopes b ≡ true → is_inside k.world.scopes b (k.world.last_coroutine + 1) ≡ false
   new_outside k b s c =
       bool_false (is_inside k.world.scopes b (k.world.last_coroutine + 1))
-      (λ e. new_outside_of k.world b (facts_of k.world b s.order s.flags c) ((search_is_inside k.world.scopes b (k.world.last_coroutine + 1) s.order.fits.forest.forest).0 e))
+      (λ e. new_outside_of k.world b (facts_of k.world b s.order.order s.flags c) ((search_is_inside k.world.scopes b (k.world.last_coroutine + 1) s.order.order.fits.forest.forest).0 e))
 
   -- a step from a world to another, before those that it answered are queued
   pub record Falls (w : World V) (b : ℕ) (early less : ℕ → Bool) (v : World V) : Type 0 where
@@ -138,7 +138,7 @@ module _ {V : Type 0} (p : Program V) (law : IsLawful p) (plainly : MakesPlain p
       let leads = tree_leads p w.scopes b forest moved i in
       let kept = owed_tree p (is_inside w.scopes b) less moved.coroutines v.coroutines moved.last_coroutine v.last_coroutine leads in
       record {
-        places = λ n there. tree_same p w.scopes b forest v n after.order after.tracks there;
+        places = λ n there. tree_same p w.scopes b forest v n after.order.order after.tracks there;
         lowers = lowers_tree p (is_inside w.scopes b) less moved.coroutines v.coroutines moved.last_coroutine v.last_coroutine leads l;
         owes = omega (arith, kept, o);
       }
@@ -197,14 +197,14 @@ module _ {V : Type 0} (p : Program V) (law : IsLawful p) (plainly : MakesPlain p
     pub turn_falls : (k : Kept V) (lack : Option LackPlace) (who : ℕ) (rest : List ℕ) (b : ℕ) (early less : ℕ → Bool) → (s : IsStable p k) → k.ready ≡ who ∷ rest → is_closing k.world.scopes b ≡ true → less who ≡ false → ((n : ℕ) → (n == who) ≡ false → less n ≡ early n) → AllByRecursion (LowersAt p (is_inside k.world.scopes b) early) k.world.coroutines → TurnFalls k.world b early less who (turn p lack k.world who)
     turn_falls k lack who rest b early less s e closing gone same lowers =
         let w = k.world in
-        let forest = s.order.fits.forest.forest in
+        let forest = s.order.order.fits.forest.forest in
         let tree = is_inside w.scopes b in
         let may = keeps.first k who rest s.well e in
         let c = may.one in
         let now = begin w in
         let moved = go_on p lack now who c.body in
         let self = tree_self k b s closing in
-        let facts = facts_of w b s.order s.flags closing in
+        let facts = facts_of w b s.order.order s.flags closing in
         let number = found_number who w.coroutines c may.found in
         let says = all_found (Says p) (is_coroutine who) c w.coroutines may.found s.says in
         let lowering = all_found (LowersAt p tree early) (is_coroutine who) c w.coroutines may.found lowers in

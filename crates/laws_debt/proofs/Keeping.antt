@@ -27,14 +27,14 @@ use Rattle.laws_sound.proofs.Plainly.{begin_plain}
 use Rattle.laws_sound.proofs.PlainLaws.{steps_keep_plain}
 use Rattle.laws_queue.specs.Well.{Numbered, IsWell}
 use Rattle.laws_sound.specs.Laws.{KeepsOrder, is_resting, is_timed}
-use Rattle.laws_sound.specs.Order.{IsInOrder}
+use Rattle.laws_sound.specs.Orderly.{IsOrderly}
 use Rattle.laws_debt.specs.Closing.{IsStable}
 use Rattle.laws_debt.specs.Flags.{IsFlagged, HasFlags}
 use Rattle.laws_debt.specs.Laws.{KeepsStable}
 use Rattle.laws_debt.specs.Says.{SaysIn, Says, AllSay, IsProper}
 use Rattle.laws_debt.proofs.Entering.{start_only}
 use Rattle.laws_debt.proofs.Flagging.{all_picked, ranked_change}
-use Rattle.laws_queue.proofs.Lining.{lined_pending}
+use Rattle.laws_queue.proofs.Lining.{lined_pending, numbered_lined}
 use Rattle.laws_debt.proofs.Lists.{all_change, all_map, all_to, numbered_change, number_of}
 use Rattle.laws_debt.proofs.Settling.{Sits, AllSit, leads_sits, leads_numbered, settle_one_leads, settle_within_leads, settle_leads, pass_nothing, expire_leads}
 use Rattle.laws_debt.proofs.Shutting.{AllHold, Lasts, settle_one_shut, expire_one_shut, go_on_shut}
@@ -144,7 +144,7 @@ module _ {V : Type 0} (p : Program V) where
   all_rest (c ∷ cs) a = and_from (is_resting (lined_mode c.mode)) (list_all (λ d. is_resting d.mode) (map lined cs)) (rests_lined c c.mode refl a.0) (all_rest cs a.1)
 
   -- who was answered in a step is queued
-  pub stable_queued : (v : World V) (ready : List ℕ) (early : ℕ) → IsWell p (queued v ready early) → IsPlain (queued v ready early).world → IsInOrder (queued v ready early).world → IsGood v → IsStable p (queued v ready early)
+  pub stable_queued : (v : World V) (ready : List ℕ) (early : ℕ) → IsWell p (queued v ready early) → IsPlain (queued v ready early).world → IsOrderly (queued v ready early).world → IsGood v → IsStable p (queued v ready early)
   stable_queued v ready early well plain order g = record {
     well = well;
     plain = plain;
@@ -156,10 +156,6 @@ module _ {V : Type 0} (p : Program V) where
   }
 
 module _ {V : Type 0} (p : Program V) where
-  numbered_lined : (cs : List (Coroutine V)) (low high : ℕ) → Numbered low cs high → Numbered low (map lined cs) high
-  numbered_lined [] low high h = h
-  numbered_lined (c ∷ cs) low high h = (h.0, numbered_lined cs c.number high h.1)
-
   lined_sits : (c : Coroutine V) (mode : Mode) → c.mode ≡ mode → Sits p c → Sits p (lined c)
   lined_sits c mode e s = (ap (λ o. if_some o true may_wait) (lined_pending c.mode) ∙ s.0, says_lined p (p.said c.body) c.mode s.1)
 
@@ -250,13 +246,13 @@ module _ {V : Type 0} (p : Program V) (law : IsLawful p) (plainly : MakesPlain p
       at (who ∷ rest) e =
           let may = keeps.first k who rest s.well e in
           let is : kept_turn p lack k ≡ turn_first p lack k (who ∷ rest) = ap (turn_first p lack k) e in
-          stable_queued p (turn p lack k.world who) rest (k.early - 1) (subst (IsWell p) is (keeps.turned k lack s.well)) (subst (λ (l : Kept V). IsPlain l.world) is (stays.turned k lack s.well s.plain)) (subst (λ (l : Kept V). IsInOrder l.world) is (ordered.turned k lack s.well s.plain s.order)) (good_turn p law plainly lack k.world who may (good_stable p k s))
+          stable_queued p (turn p lack k.world who) rest (k.early - 1) (subst (IsWell p) is (keeps.turned k lack s.well)) (subst (λ (l : Kept V). IsPlain l.world) is (stays.turned k lack s.well s.plain)) (subst (λ (l : Kept V). IsOrderly l.world) is (ordered.turned k lack s.well s.order)) (good_turn p law plainly lack k.world who may (good_stable p k s))
 
   started : (k : Kept V) → IsStable p k → IsStable p (record k { world = begin k.world })
   started k s = record { well = keeps.started k s.well; plain = begin_plain k.world s.plain; order = ordered.started k s.order; says = s.says; things = s.things; rest = s.rest; flags = record { ranked = s.flags.ranked; flagged = s.flags.flagged } }
 
   expires : (k : Kept V) (who : ℕ) → IsStable p k → is_timed k.world who ≡ true → IsStable p (kept_expire_next k who)
-  expires k who s e = stable_queued p (expire_one k.world who) k.ready k.early (keeps.expires k who s.well) (stays.expires k who s.plain) (ordered.expires k who s.well s.plain s.order e) (good_expire p k.world who (good_stable p k s))
+  expires k who s e = stable_queued p (expire_one k.world who) k.ready k.early (keeps.expires k who s.well) (stays.expires k who s.plain) (ordered.expires k who s.order e) (good_expire p k.world who (good_stable p k s))
 
   good_late : (xs : List ℕ) (k : Kept V) → IsGood p k.world → IsGood p (fold kept_expire_next k xs).world
   good_late [] k g = g
@@ -267,16 +263,16 @@ module _ {V : Type 0} (p : Program V) (law : IsLawful p) (plainly : MakesPlain p
       let g = good_stable p k s in
       let begun : IsGood p (begin k.world) = record { numbered = g.numbered; sits = g.sits; stand = g.stand; holds = record { given = omega arith; bundles = g.holds.bundles; things = g.holds.things; flags = record { ranked = g.holds.flags.ranked; flagged = g.holds.flags.flagged } } } in
       let late = good_late (passed k.world) (record k { world = begin k.world }) begun in
-      stable_queued p (settle (kept_late k).world) (kept_late k).ready (kept_late k).early (keeps.expired k s.well) (stays.expired k s.plain) (ordered.expired k s.well s.plain s.order) (good_settle p (kept_late k).world late)
+      stable_queued p (settle (kept_late k).world) (kept_late k).ready (kept_late k).early (keeps.expired k s.well) (stays.expired k s.plain) (ordered.expired k s.order) (good_settle p (kept_late k).world late)
 
   settled : (k : Kept V) → IsStable p k → IsStable p (queued (settle k.world) k.ready k.early)
-  settled k s = stable_queued p (settle k.world) k.ready k.early (keeps.settled k s.well) (stays.settled k s.plain) (ordered.settled k s.well s.plain s.order) (good_settle p k.world (good_stable p k s))
+  settled k s = stable_queued p (settle k.world) k.ready k.early (keeps.settled k s.well) (stays.settled k s.plain) (ordered.settled k s.order) (good_settle p k.world (good_stable p k s))
 
   pub good_closed : (w : World V) → IsGood p w → IsGood p (root_closed w)
   good_closed w g = record { numbered = g.numbered; sits = g.sits; stand = g.stand; holds = record { given = omega arith; bundles = all_any (root_closed w).scopes.bundles; things = g.holds.things; flags = root_flags w g.holds.flags } }
 
   shut : (k : Kept V) → IsStable p k → IsStable p (kept_shut k)
-  shut k s = stable_queued p (settle (root_closed k.world)) k.ready (length k.ready) (keeps.shut k s.well) (stays.shut k s.plain) (ordered.shut k s.well s.plain s.order) (good_settle p (root_closed k.world) (good_closed k.world (good_stable p k s)))
+  shut k s = stable_queued p (settle (root_closed k.world)) k.ready (length k.ready) (keeps.shut k s.well) (stays.shut k s.plain) (ordered.shut k s.order) (good_settle p (root_closed k.world) (good_closed k.world (good_stable p k s)))
 
   woke : (k : Kept V) (told : ℕ) (ready : List Ready) → IsStable p k → IsStable p (kept_woke k told ready)
   woke k told ready s =

@@ -1,17 +1,8 @@
 -- What a place in the queue leaves of a mode.
-use Rattle.std.proofs.Common.{◌≡◌, refl}
 use Rattle.dill_rules.specs.declared.coroutine.Mode.{Mode}
 use Rattle.dill_rules.specs.declared.coroutine.Mode.TheVariants as modes
 use Rattle.dill_rules.specs.State.{lined_mode}
-use Rattle.dill_rules.specs.World.{is_ending}
 use Rattle.laws_debt.specs.Says.{LowersIn}
-
-pub lined_ending : (mode : Mode) → is_ending (lined_mode mode) ≡ is_ending mode
-lined_ending (modes.Pending call) = refl
-lined_ending modes.Running = refl
-lined_ending (modes.Fresh word answer) = refl
-lined_ending (modes.Answered word answer) = refl
-lined_ending (modes.Ending outcome) = refl
 
 pub lowers_lined : (mode : Mode) → LowersIn mode → LowersIn (lined_mode mode)
 lowers_lined (modes.Pending call) l = tt

@@ -16,7 +16,8 @@ use Rattle.laws_queue.specs.Well.{Numbered, bit, occurs}
 use Rattle.laws_debt.specs.Owed.{share_by}
 use Rattle.laws_debt.specs.Says.{SaysIn, LowersIn, IsLowering, AllLower}
 use Rattle.laws_debt.proofs.Evolving.{Evolves, Suits, evolves_all, evolves_total}
-use Rattle.laws_debt.proofs.Lining.{lined_ending, lowers_lined}
+use Rattle.laws_sound.proofs.Leaving.{lined_ends}
+use Rattle.laws_debt.proofs.Lining.{lowers_lined}
 use Rattle.laws_debt.proofs.Lists.{total, total_map, total_change}
 use Rattle.laws_debt.proofs.Turning.{total_resumed}
 
@@ -65,7 +66,7 @@ module _ {V : Type 0} (p : Program V) (early : ℕ → Bool) where
 
   -- a place in the queue changes nothing of it
   pub owed_lined : (cs : List (Coroutine V)) → total (share_by p early) (map lined cs) ≡ total (share_by p early) cs
-  owed_lined cs = total_map (share_by p early) lined cs (λ c. ap (λ b. if b then 0 else (if early c.number then 1 + p.most c.body else p.left c.body)) (lined_ending c.mode))
+  owed_lined cs = total_map (share_by p early) lined cs (λ c. ap (λ b. if b then 0 else (if early c.number then 1 + p.most c.body else p.left c.body)) (lined_ends c.mode))
 
 module _ {V : Type 0} (early : ℕ → Bool) where
   pub all_lower_lined : (cs : List (Coroutine V)) → AllLower early cs → AllLower early (map lined cs)

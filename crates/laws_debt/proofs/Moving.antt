@@ -24,7 +24,7 @@ use Rattle.laws_queue.specs.Well.{Numbered}
 use Rattle.laws_sound.proofs.Plainly.{begin_plain}
 use Rattle.laws_sound.proofs.Turns.{go_on_plain}
 use Rattle.laws_sound.specs.Laws.{is_closing, is_resting}
-use Rattle.laws_sound.specs.Order.{IsInOrder}
+use Rattle.laws_sound.specs.Orderly.{IsOrderly}
 use Rattle.laws_debt.specs.Closing.{IsStable}
 use Rattle.laws_debt.specs.Says.{IsLowering}
 use Rattle.laws_debt.specs.Steady.{HasStamps, LowersInside}
@@ -102,12 +102,12 @@ module _ {V : Type 0} (p : Program V) where
   suits_answers tree c (modes.Ending outcome) s t = tt
 
   -- In a world whose closings have just begun and in which nobody was answered yet, settling gives who is inside one what lowers.
-  pub begun_settles : (moved : World V) (b : ℕ) → IsPlain moved → IsInOrder moved → AllSit p moved.coroutines → AllHold AnyBundle 0 moved → AllByRecursion NoAnswer moved.coroutines → is_closing (settle moved).scopes b ≡ true → AllByRecursion (λ c. is_inside (settle moved).scopes b c.number ≡ true → LowersFresh c.mode) (settle moved).coroutines
+  pub begun_settles : (moved : World V) (b : ℕ) → IsPlain moved → IsOrderly moved → AllSit p moved.coroutines → AllHold AnyBundle 0 moved → AllByRecursion NoAnswer moved.coroutines → is_closing (settle moved).scopes b ≡ true → AllByRecursion (λ c. is_inside (settle moved).scopes b c.number ≡ true → LowersFresh c.mode) (settle moved).coroutines
   begun_settles moved b plain order sits holds unanswered closing =
       let v = settle moved in
-      let forest = order.fits.forest.forest in
+      let forest = order.order.fits.forest.forest in
       let tree = is_inside moved.scopes b in
-      let flags = settle_scopes (λ t. AllByRecursion (OldFlag moved.scopes) t.bundles) (λ t name h. flags_dropped moved.scopes t name h) (λ t who h. h) p moved sits order.fits.numbered (old_flags moved.scopes order.fits.forest) in
+      let flags = settle_scopes (λ t. AllByRecursion (OldFlag moved.scopes) t.bundles) (λ t name h. flags_dropped moved.scopes t name h) (λ t who h. h) p moved sits order.order.fits.numbered (old_flags moved.scopes order.order.fits.forest) in
       let was = flag_was moved.scopes v.scopes b flags closing in
       let x = closing_found moved.scopes b was in
       let name : x.0.name ≡ b = number_of x.0.name b (found_passes (is_bundle b) moved.scopes.bundles x.0 x.1) in
@@ -115,14 +115,14 @@ module _ {V : Type 0} (p : Program V) where
         plain = plain;
         order = order;
         sits = sits;
-        holds = record { given = subst (λ n. n ≤ moved.last_bundle) name (ranked_bound moved.scopes.bundles 0 moved.last_bundle b x.0 holds.flags.ranked x.1); bundles = closing_shut moved b order was; things = holds.things; flags = holds.flags };
-        tracks = tracks_self moved.scopes b order.fits.forest;
+        holds = record { given = subst (λ n. n ≤ moved.last_bundle) name (ranked_bound moved.scopes.bundles 0 moved.last_bundle b x.0 holds.flags.ranked x.1); bundles = closing_shut moved b order.order was; things = holds.things; flags = holds.flags };
+        tracks = tracks_self moved.scopes b order.order.fits.forest;
       } in
       let leads = tree_leads p moved.scopes b forest moved self in
       let after = settled_tree p moved.scopes b forest moved self in
       let start = all_to NoAnswer (AnswersIn tree) moved.coroutines (λ c e t. no_fresh c.mode e) unanswered in
       let done = evolves_all p tree (AnswersIn tree) (λ c mode s t. suits_answers tree c mode s t) (λ number view g q t. unlike (tree number) q t) moved.coroutines v.coroutines moved.last_coroutine v.last_coroutine leads start in
-      both_all (λ (c : Coroutine V). IsThere v.scopes c.number) (AnswersIn tree) (λ c. is_inside v.scopes b c.number ≡ true → LowersFresh c.mode) v.coroutines (λ c there h i. h (sym (tree_same p moved.scopes b forest v c.number after.order after.tracks there) ∙ i)) (all_there v after.order) done
+      both_all (λ (c : Coroutine V). IsThere v.scopes c.number) (AnswersIn tree) (λ c. is_inside v.scopes b c.number ≡ true → LowersFresh c.mode) v.coroutines (λ c there h i. h (sym (tree_same p moved.scopes b forest v c.number after.order.order after.tracks there) ∙ i)) (all_there v after.order.order) done
 
 -- ---- the turn
 
@@ -146,7 +146,7 @@ module _ {V : Type 0} (p : Program V) (law : IsLawful p) (plainly : MakesPlain p
       let good = good_moved p law plainly lack w who may may.one may.found may.some may.real (good_stable p k s) in
       let moved = go_on p lack (begin w) who may.one.body in
       let first = go_on_shut P w.last_bundle lasts p lack (begin w) who may.one.body (plainly may.one.body (answer_given (begin w) who).1 may.real may.some)
-      (record { given = omega arith; bundles = stamps_self w closings s.order each; things = s.things; flags = record { ranked = s.flags.ranked; flagged = s.flags.flagged } }) in
+      (record { given = omega arith; bundles = stamps_self w closings s.order.order each; things = s.things; flags = record { ranked = s.flags.ranked; flagged = s.flags.flagged } }) in
       subst (AllHold P w.last_bundle) (sym (turn_is p law plainly lack w who may.one may.found)) (settle_holds p P w.last_bundle lasts moved good.sits good.numbered first)
 
   turned_answered : (k : Kept V) (lack : Option LackPlace) (who : ℕ) → (s : IsStable p k) → MayTurn p k.world who → AllByRecursion (HadAnswer who k.ready) (turn p lack k.world who).coroutines
@@ -173,12 +173,12 @@ module _ {V : Type 0} (p : Program V) (law : IsLawful p) (plainly : MakesPlain p
       let is = turn_is p law plainly lack w who c may.found in
       let good = good_moved p law plainly lack w who may c may.found may.some may.real (good_stable p k s) in
       let plain_move = plainly c.body (answer_given (begin w) who).1 may.real may.some in
-      let begun = go_on_begun w.scopes p lack (begin w) who c may.found (unfresh_all w.coroutines s.rest) (old_flags w.scopes s.order.fits.forest) plain_move in
+      let begun = go_on_begun w.scopes p lack (begin w) who c may.found (unfresh_all w.coroutines s.rest) (old_flags w.scopes s.order.order.fits.forest) plain_move in
       let closing : is_closing (settle moved).scopes b ≡ true = subst (λ (v : World V). is_closing v.scopes b ≡ true) is new in
       subst (λ (v : World V). AllByRecursion (λ d. is_inside v.scopes b d.number ≡ true → LowersFresh d.mode) v.coroutines) (sym is)
       (at moved good (go_on_plain p lack (begin w) who c.body plain_move (begin_plain w s.plain)) (within.moved k lack who rest c s.well s.order e may.found) closing begun)
     where
-      at : (moved : World V) → IsGood p moved → IsPlain moved → IsInOrder moved → is_closing (settle moved).scopes b ≡ true → Begun k.world.scopes moved → AllByRecursion (λ d. is_inside (settle moved).scopes b d.number ≡ true → LowersFresh d.mode) (settle moved).coroutines
+      at : (moved : World V) → IsGood p moved → IsPlain moved → IsOrderly moved → is_closing (settle moved).scopes b ≡ true → Begun k.world.scopes moved → AllByRecursion (λ d. is_inside (settle moved).scopes b d.number ≡ true → LowersFresh d.mode) (settle moved).coroutines
       at moved good plain order closing (same flags) =
           let kept = settle_scopes (λ t. AllByRecursion (OldFlag k.world.scopes) t.bundles) (λ t name h. flags_dropped k.world.scopes t name h) (λ t n h. h) p moved good.sits good.numbered flags in
           unlike (is_closing k.world.scopes b) old (flag_was k.world.scopes (settle moved).scopes b kept closing)

@@ -11,9 +11,9 @@ use Rattle.laws_debt.proofs.Keeping.{keeps_stable}
 use Rattle.laws_debt.proofs.Within.{keeps_within}
 
 pub steps_keep_stable : {V : Type 0} (p : Program V) → StepsKeepStable p
-steps_keep_stable p law plainly = keeps_stable p law plainly (steps_keep_well p law) (steps_keep_order p law plainly)
+steps_keep_stable p law plainly = keeps_stable p law plainly (steps_keep_well p law) (steps_keep_order p law)
 
 pub root_debt_falls : {V : Type 0} (p : Program V) → RootDebtFalls p
 root_debt_falls {V} p law plainly =
     let keeps = steps_keep_well p law in
-    ends_closing p law plainly (all_cancelled V) (keeps_within p plainly keeps) (settles_plainly V) (steps_keep_stable p law plainly) (root_goes_on p) keeps
+    ends_closing p law plainly (all_cancelled V) (keeps_within p keeps) (settles_plainly V) (steps_keep_stable p law plainly) (root_goes_on p) keeps

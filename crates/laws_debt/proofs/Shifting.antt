@@ -46,7 +46,7 @@ use Rattle.laws_debt.proofs.Shutting.{AllHold, Lasts, expire_one_shut}
 use Rattle.laws_debt.proofs.Stepwise.{StampOk, stamp_lasts, stamps_self, Stepped, less_early}
 use Rattle.laws_debt.proofs.Tree.{InTree, tree_off}
 use Rattle.laws_debt.proofs.Walking.{Leads, unlike}
-use Rattle.laws_debt.proofs.Within.{order_root}
+use Rattle.laws_sound.proofs.Stepping.{order_root_closed}
 
 -- nobody's answer is taken
 abbrev pub none_gone : ℕ → Bool
@@ -81,7 +81,7 @@ module _ {V : Type 0} (p : Program V) (law : IsLawful p) (plainly : MakesPlain p
   here_lowers k s b stands lowers c = subst (λ (w : World V). AllByRecursion (λ d. is_inside w.scopes b d.number ≡ true → IsLowering (is_early s b) d) w.coroutines) (sym stands.world) (lowers b (subst (λ (w : World V). is_closing w.scopes b ≡ true) stands.world c))
 
   start_holds : (k : Kept V) (s : State V) → IsStable p k → StandsFor k s → HasStamps s → AllHold (StampOk k.world.scopes s.closings) k.world.last_bundle k.world
-  start_holds k s stable stands stamps = record { given = omega arith; bundles = stamps_self k.world s.closings stable.order (here_each k s stands stamps); things = stable.things; flags = stable.flags }
+  start_holds k s stable stands stamps = record { given = omega arith; bundles = stamps_self k.world s.closings stable.order.order (here_each k s stands stamps); things = stable.things; flags = stable.flags }
 
   lasts_of : (k : Kept V) (s : State V) → IsStable p k → StandsFor k s → HasStamps s → Lasts (StampOk k.world.scopes s.closings) k.world.last_bundle
   lasts_of k s stable stands stamps = stamp_lasts k.world s.closings s.next stable.flags (here_low k s stands stamps)
@@ -94,9 +94,9 @@ module _ {V : Type 0} (p : Program V) (law : IsLawful p) (plainly : MakesPlain p
       let good = good_stable p k stable in
       record {
         holds = settle_holds p (StampOk w.scopes s.closings) w.last_bundle (lasts_of k s stable stands stamps) w good.sits good.numbered (start_holds k s stable stands stamps);
-        falls = λ b c. settle_falls p law plainly w w b stable.order.fits.forest.forest (is_early s b) (less_early p law plainly s b none_gone) (tree_self p law plainly k b stable c) (here_lowers k s b stands lowers c) (omega arith);
+        falls = λ b c. settle_falls p law plainly w w b stable.order.order.fits.forest.forest (is_early s b) (less_early p law plainly s b none_gone) (tree_self p law plainly k b stable c) (here_lowers k s b stands lowers c) (omega arith);
         begun = λ b c d.
-            let flags = settle_scopes (λ t. AllByRecursion (OldFlag w.scopes) t.bundles) (λ t name h. flags_dropped w.scopes t name h) (λ t who h. h) p w good.sits good.numbered (old_flags w.scopes stable.order.fits.forest) in
+            let flags = settle_scopes (λ t. AllByRecursion (OldFlag w.scopes) t.bundles) (λ t name h. flags_dropped w.scopes t name h) (λ t who h. h) p w good.sits good.numbered (old_flags w.scopes stable.order.order.fits.forest) in
             unlike (is_closing w.scopes b) c (flag_was w.scopes (settle w).scopes b flags d);
         answered = had_before k (settle w) stable (settles p w good.sits good.numbered);
         left = λ n g. refl;
@@ -105,13 +105,13 @@ module _ {V : Type 0} (p : Program V) (law : IsLawful p) (plainly : MakesPlain p
 
   -- ---- the closing of the root
 
-  shut_tree : (k : Kept V) (b : ℕ) → (stable : IsStable p k) → is_closing k.world.scopes b ≡ true → InTree p k.world.scopes b stable.order.fits.forest.forest (root_closed k.world)
+  shut_tree : (k : Kept V) (b : ℕ) → (stable : IsStable p k) → is_closing k.world.scopes b ≡ true → InTree p k.world.scopes b stable.order.order.fits.forest.forest (root_closed k.world)
   shut_tree k b stable c =
       let w = k.world in
       let self = tree_self p law plainly k b stable c in
       record {
         plain = closed_plain w stable.plain;
-        order = order_root w stable.order;
+        order = order_root_closed w stable.order;
         sits = self.sits;
         holds = record {
           given = self.holds.given;
@@ -138,8 +138,8 @@ module _ {V : Type 0} (p : Program V) (law : IsLawful p) (plainly : MakesPlain p
       let any : AllHold AnyBundle 0 r = record { given = omega arith; bundles = all_to (StampOk w.scopes s.closings) AnyBundle r.scopes.bundles (λ x f. tt) closed.bundles; things = closed.things; flags = closed.flags } in
       record {
         holds = settle_holds p (StampOk w.scopes s.closings) w.last_bundle lasts r good.sits good.numbered closed;
-        falls = λ b c. settle_falls p law plainly w r b stable.order.fits.forest.forest (is_early s b) (less_early p law plainly s b none_gone) (shut_tree k b stable c) (here_lowers k s b stands lowers c) (omega arith);
-        begun = λ b c d. begun_settles p r b (closed_plain w stable.plain) (order_root w stable.order) good.sits any (all_unfresh_of w.coroutines stable.rest) d;
+        falls = λ b c. settle_falls p law plainly w r b stable.order.order.fits.forest.forest (is_early s b) (less_early p law plainly s b none_gone) (shut_tree k b stable c) (here_lowers k s b stands lowers c) (omega arith);
+        begun = λ b c d. begun_settles p r b (closed_plain w stable.plain) (order_root_closed w stable.order) good.sits any (all_unfresh_of w.coroutines stable.rest) d;
         answered = had_before k (settle r) stable (settles p r good.sits good.numbered);
         left = λ n g. refl;
         lost = λ n g. cc;
@@ -256,7 +256,7 @@ module _ {V : Type 0} (p : Program V) (law : IsLawful p) (plainly : MakesPlain p
         falls = λ b c.
             let tree = is_inside w.scopes b in
             let less = less_early p law plainly s b none_gone in
-            let leads = expire_leads p tree w x good.sits (λ call e t. absurd (untimed k x call hushed timed e (tree_off p w.scopes b stable.order.fits.forest.forest w x (call_pends p w x call e).one (tree_self p law plainly k b stable c) (call_pends p w x call e).found t))) in
+            let leads = expire_leads p tree w x good.sits (λ call e t. absurd (untimed k x call hushed timed e (tree_off p w.scopes b stable.order.order.fits.forest.forest w x (call_pends p w x call e).one (tree_self p law plainly k b stable c) (call_pends p w x call e).found t))) in
             record {
               places = λ n there. ap (λ (t : Scopes). is_inside t b n) leaves.scopes_same;
               lowers = lowers_tree p tree less w.coroutines v.coroutines w.last_coroutine v.last_coroutine leads (here_lowers k s b stands lowers c);

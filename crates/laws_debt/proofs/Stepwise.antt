@@ -28,7 +28,8 @@ use Rattle.laws_debt.specs.Steady.{HasStamps, LowersInside, IsEven}
 use Rattle.laws_debt.proofs.Bounded.{each_found}
 use Rattle.laws_debt.proofs.Falling.{share_in, LowersAt, Falls, ranked_bound}
 use Rattle.laws_debt.proofs.Flagging.{both_all}
-use Rattle.laws_debt.proofs.Lining.{lined_ending, lowers_lined}
+use Rattle.laws_sound.proofs.Leaving.{lined_ends}
+use Rattle.laws_debt.proofs.Lining.{lowers_lined}
 use Rattle.laws_debt.proofs.Lists.{total, is_total, total_map, all_found, all_append, all_to, find_append, found_passes, number_of, some_same}
 use Rattle.laws_debt.proofs.Shutting.{AllHold, Lasts}
 use Rattle.laws_debt.proofs.Stamping.{stamped_from, find_behind, is_less, came, came_before, queued_stamp, unqueued, new_closings, closing_stamped, open_unstamped, stamps_low}
@@ -207,7 +208,7 @@ module _ {V : Type 0} (p : Program V) (law : IsLawful p) (plainly : MakesPlain p
         ∙ sym (less_is n x.0.at b x.0 x.1 refl (gone n) refl)
 
     bundle_found : AllByRecursion (λ y. find (is_bundle y.name) v.scopes.bundles ≡ Some y) v.scopes.bundles
-    bundle_found = all_by_key (λ (y : Bundle). y.name) v.scopes.bundles after.order.fits.forest.ordered.bundles
+    bundle_found = all_by_key (λ (y : Bundle). y.name) v.scopes.bundles after.order.order.fits.forest.ordered.bundles
 
     -- the stamp of a bundle that begins to close
     new_stamp : (y : Bundle) → find (is_bundle y.name) v.scopes.bundles ≡ Some y → y.closing ≡ true → find (is_stamp_of y.name) s.closings ≡ None → find (is_stamp_of y.name) (s.closings ++ new_closings v.scopes.bundles s.closings s.next) ≡ Some (record { of = y.name; at = s.next })
@@ -287,7 +288,7 @@ module _ {V : Type 0} (p : Program V) (law : IsLawful p) (plainly : MakesPlain p
         at false e = early_none b c d n g e ∙ sym e
 
     there_after : AllByRecursion (λ c. IsThere v.scopes c.number) v.coroutines
-    there_after = all_unmap (λ (c : Coroutine V). IsThere v.scopes c.number) lined v.coroutines (all_there (queued v ready early).world after.order)
+    there_after = all_unmap (λ (c : Coroutine V). IsThere v.scopes c.number) lined v.coroutines (all_there (queued v ready early).world after.order.order)
 
     -- what is given to who is inside one that was closing lowers
     lowers_old : (b : ℕ) → is_closing k.world.scopes b ≡ true → AllByRecursion (λ c. is_inside v.scopes b c.number ≡ true → IsLowering (is_early next_state b) (lined c)) v.coroutines
@@ -316,7 +317,7 @@ module _ {V : Type 0} (p : Program V) (law : IsLawful p) (plainly : MakesPlain p
     even_after = record { kept = queued v ready early; stable = after; stands = stands_after; stamps = stamps_after; lowers = lowers_after }
 
     share_lined : (tree f : ℕ → Bool) (c : Coroutine V) → share_in p tree f (lined c) ≡ share_in p tree f c
-    share_lined tree f c = ap (λ e. if tree c.number then (if e then 0 else (if f c.number then 1 + p.most c.body else p.left c.body)) else 0) (lined_ending c.mode)
+    share_lined tree f c = ap (λ e. if tree c.number then (if e then 0 else (if f c.number then 1 + p.most c.body else p.left c.body)) else 0) (lined_ends c.mode)
 
     -- the debt behind the step
     pub debt_after : (b : ℕ) → is_closing k.world.scopes b ≡ true → debt p next_state b ≡ total (share_in p (is_inside k.world.scopes b) (less_early s b gone)) v.coroutines
@@ -332,4 +333,4 @@ module _ {V : Type 0} (p : Program V) (law : IsLawful p) (plainly : MakesPlain p
     pub places_after : (b : ℕ) → is_closing k.world.scopes b ≡ true → (n : ℕ) → is_there next_state.world n ≡ true → is_inside next_state.world.scopes b n ≡ is_inside s.world.scopes b n
     places_after b c n there =
         let here : is_there (queued v ready early).world n ≡ true = subst (λ (w : World V). is_there w n ≡ true) (sym stands_after.world) there in
-        ap (λ (t : Scopes). is_inside t b n) (sym same_scopes) ∙ (step.falls b c).places n (there_is (queued v ready early).world n after.order.fits here) ∙ ap (λ (w : World V). is_inside w.scopes b n) stands.world
+        ap (λ (t : Scopes). is_inside t b n) (sym same_scopes) ∙ (step.falls b c).places n (there_is (queued v ready early).world n after.order.order.fits here) ∙ ap (λ (w : World V). is_inside w.scopes b n) stands.world

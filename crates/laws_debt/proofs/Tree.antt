@@ -41,9 +41,10 @@ use Rattle.laws_sound.proofs.Lists.{all_found}
 use Rattle.laws_sound.proofs.Steps.{settle_one_plain}
 use Rattle.laws_sound.specs.Laws.{is_closing}
 use Rattle.laws_sound.specs.Order.{is_there, is_held, has_bundle, IsInOrder}
+use Rattle.laws_sound.specs.Orderly.{IsOrderly}
 use Rattle.laws_sound.proofs.Counting.{holds, weigh_filter, weighs_found}
 use Rattle.laws_sound.proofs.Fitting.{next_is_new, there_is}
-use Rattle.laws_sound.proofs.Keeping.{order_settle_one}
+use Rattle.laws_sound.proofs.Answering.{settle_one_good}
 use Rattle.laws_sound.proofs.Owners.{owned_no_root}
 use Rattle.laws_sound.proofs.Sound.{owner_is, inside_cancelled}
 use Rattle.laws_debt.specs.Flags.{IsFlagged, HasFlags}
@@ -250,7 +251,7 @@ module _ {V : Type 0} (p : Program V) (s : Scopes) (b : ℕ) (forest : IsForest 
 
   pub record InTree (w : World V) : Type 0 where
     pub plain : IsPlain w
-    pub order : IsInOrder w
+    pub order : IsOrderly w
     pub sits : AllSit p w.coroutines
     pub holds : AllHold (IsShutAs b) b w
     pub tracks : Tracks s b w.scopes
@@ -262,25 +263,25 @@ module _ {V : Type 0} (p : Program V) (s : Scopes) (b : ℕ) (forest : IsForest 
   -- and cancelled
   pub tree_off : (w : World V) (who : ℕ) (c : Coroutine V) → InTree w → coroutine_of w who ≡ Some c → in_tree who ≡ true → is_cancelled w who ≡ true
   tree_off w who c i e t =
-      let there = there_is w who i.order.fits (ap (λ (q : Option (Coroutine V)). is_some q) e) in
-      let inside = (search_is_inside w.scopes b who i.order.fits.forest.forest).0 (tree_same w who i.order i.tracks there ∙ t) in
-      let closing = some_closing (find (is_bundle b) w.scopes.bundles) (holds_home w b who i.order inside) (λ x f. lists.all_found (IsShutAs b) (is_bundle b) x w.scopes.bundles f i.holds.bundles (lists.found_passes (is_bundle b) w.scopes.bundles x f)) in
-      inside_cancelled w.scopes b who i.order.fits.forest.forest closing inside
+      let there = there_is w who i.order.order.fits (ap (λ (q : Option (Coroutine V)). is_some q) e) in
+      let inside = (search_is_inside w.scopes b who i.order.order.fits.forest.forest).0 (tree_same w who i.order.order i.tracks there ∙ t) in
+      let closing = some_closing (find (is_bundle b) w.scopes.bundles) (holds_home w b who i.order.order inside) (λ x f. lists.all_found (IsShutAs b) (is_bundle b) x w.scopes.bundles f i.holds.bundles (lists.found_passes (is_bundle b) w.scopes.bundles x f)) in
+      inside_cancelled w.scopes b who i.order.order.fits.forest.forest closing inside
 
   one_leads : (w : World V) → InTree w → Leads p in_tree w (settle_one w)
-  one_leads w i = settle_one_leads p in_tree InTree tree_off w i i.sits i.order.fits.numbered
+  one_leads w i = settle_one_leads p in_tree InTree tree_off w i i.sits i.order.order.fits.numbered
 
   tree_settles : (w : World V) → InTree w → InTree (settle_one w)
   tree_settles w i = record {
     plain = settle_one_plain w i.plain;
-    order = order_settle_one w i.plain i.order;
+    order = (settle_one_good w i.order).good;
     sits = leads_sits p in_tree w (settle_one w) (one_leads w i) i.sits;
-    holds = settle_one_shut (IsShutAs b) b (shut_lasts b) p w i.sits i.order.fits.numbered i.holds;
-    tracks = settle_one_tracks (Tracks s b) (λ t name h. tracks_drop s b t name h) (λ t who h. tracks_ended s b t who h) p w i.sits i.order.fits.numbered i.tracks;
+    holds = settle_one_shut (IsShutAs b) b (shut_lasts b) p w i.sits i.order.order.fits.numbered i.holds;
+    tracks = settle_one_tracks (Tracks s b) (λ t name h. tracks_drop s b t name h) (λ t who h. tracks_ended s b t who h) p w i.sits i.order.order.fits.numbered i.tracks;
   }
 
   pub tree_leads : (w : World V) → InTree w → Leads p in_tree w (settle w)
-  tree_leads w i = settle_leads p in_tree InTree tree_off tree_settles w i i.sits i.order.fits.numbered
+  tree_leads w i = settle_leads p in_tree InTree tree_off tree_settles w i i.sits i.order.order.fits.numbered
 
   within_tree : (k : ℕ) (w : World V) → InTree w → InTree (settle_within k w)
   within_tree zero w i = i

@@ -7,7 +7,7 @@ use Rattle.laws_queue.specs.Kept.{Kept}
 use Rattle.laws_queue.specs.Well.{IsWell}
 use Rattle.laws_sound.specs.Laws.{is_closing, IsAtRest}
 use Rattle.laws_sound.specs.Plain.{IsPlain}
-use Rattle.laws_sound.specs.Order.{IsInOrder}
+use Rattle.laws_sound.specs.Orderly.{IsOrderly}
 use Rattle.laws_debt.specs.Flags.{HasFlags}
 use Rattle.laws_debt.specs.Owed.{is_early}
 use Rattle.laws_debt.specs.Says.{AllSay, AllLower, IsProper}
@@ -16,7 +16,7 @@ use Rattle.laws_debt.specs.Says.{AllSay, AllLower, IsProper}
 pub record IsStable {V : Type 0} (p : Program V) (k : Kept V) : Type 0 where
   pub well : IsWell p k
   pub plain : IsPlain k.world
-  pub order : IsInOrder k.world
+  pub order : IsOrderly k.world
   pub says : AllSay p k.world.coroutines
   pub things : AllByRecursion IsProper k.world.handles.entries
   pub rest : IsAtRest k.world

@@ -116,7 +116,7 @@ module _ {V : Type 0} where
   pub queue_room : (ready : List ℕ) (cs : List (Coroutine V)) → IsQueue ready cs → length ready + length (fresh_of cs) ≤ length cs
   queue_room ready cs q = let w = within_all cs in let f = fresh_length cs in let o = q.all in omega (arith, w, f, o)
 
-  numbered_lined : (cs : List (Coroutine V)) (low high : ℕ) → Numbered low cs high → Numbered low (map lined cs) high
+  pub numbered_lined : (cs : List (Coroutine V)) (low high : ℕ) → Numbered low cs high → Numbered low (map lined cs) high
   numbered_lined [] low high h = h
   numbered_lined (c ∷ cs) low high h = (h.0, numbered_lined cs c.number high h.1)
 

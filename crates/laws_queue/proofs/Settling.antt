@@ -93,10 +93,10 @@ module _ {V : Type 0} (test : Mode → Bool) where
 
 module _ {V : Type 0} where
   -- who was pending has its answer, and else the coroutines are as they were
-  record Gives (w : World V) (who : ℕ) (word : Word) (v : World V) : Type 0 where
-    answer : Answer
-    coroutines : v.coroutines ≡ change (is_coroutine who) (with_mode (modes.Fresh word answer)) w.coroutines
-    last : v.last_coroutine ≡ w.last_coroutine
+  pub record Gives (w : World V) (who : ℕ) (word : Word) (v : World V) : Type 0 where
+    pub answer : Answer
+    pub coroutines : v.coroutines ≡ change (is_coroutine who) (with_mode (modes.Fresh word answer)) w.coroutines
+    pub last : v.last_coroutine ≡ w.last_coroutine
 
   gives : (w v : World V) (who : ℕ) (word : Word) (answer : Answer) → SameCrew w v → Gives w who word (reply v who word answer)
   gives w v who word answer s = record { answer = answer; coroutines = ap (change (is_coroutine who) (with_mode (modes.Fresh word answer))) s.coroutines; last = s.last }
@@ -136,7 +136,7 @@ module _ {V : Type 0} where
       (if_gives (links word) w who word (give_forgone w who call answer) (reply w who word answer) (gives w (forgo w who) who word answer (forgo_crew w who)) (gives w w who word answer (no_change w))))))
 
   -- every giving answers
-  give_gives : (w : World V) (who : ℕ) (call : Call) (answer : Answer) → Gives w who (word_of call) (give w who call answer)
+  pub give_gives : (w : World V) (who : ℕ) (call : Call) (answer : Answer) → Gives w who (word_of call) (give w who call answer)
   give_gives w who (calls.Hclose number) answer = gives w (if_some (find (is_dead_as number) w.closings) w (free_bundle w)) who words.Hclose answer (free_dead_crew w number)
   give_gives w who call answer = class_gives w who call answer
 

@@ -41,5 +41,5 @@ pub bundles_go_empty : {V : Type 0} (p : Program V) → DebtFalls p → BundlesG
 bundles_go_empty {V} p debts s x b steady closing gone n there =
     let t = step p s x in
     let after = (debts.steady s x steady).even in
-    let forest : IsOrderedForest t.world.scopes = subst (λ (w : World V). IsOrderedForest w.scopes) after.stands.world after.stable.order.fits.forest in
+    let forest : IsOrderedForest t.world.scopes = subst (λ (w : World V). IsOrderedForest w.scopes) after.stands.world after.stable.order.order.fits.forest in
     sym (debts.places s x b steady closing n there) ∙ gone_empty t.world.scopes forest b n gone

@@ -223,7 +223,7 @@ module _ {V : Type 0} (tie : Closing) (p : Program V) (law : IsLawful p) (plainl
 
   marked_closing : (s : State V) → IsSteadyMarked tie p s → (number name : ℕ) → bundle_dead_as s.world number ≡ Some name → is_closing s.world.scopes name ≡ true
   marked_closing s h number name e =
-      let order : IsInOrder (wordless s.world) = subst IsInOrder h.steady.even.stands.world h.steady.even.stable.order in
+      let order : IsInOrder (wordless s.world) = subst IsInOrder h.steady.even.stands.world h.steady.even.stable.order.order in
       dead_closing tie (wordless s.world) order (same_marked tie s.world (wordless s.world) refl refl refl refl refl h.marked) number name e
 
 -- ---- how long an `hclose` waits
@@ -334,7 +334,7 @@ module _ {V : Type 0} (p : Program V) (law : IsLawful p) (plainly : MakesPlain p
 
   closes_well : (tie : Closing) (s : State V) → IsSteadyMarked tie p s → ClosesWell p s
   closes_well tie s h =
-      let order : IsInOrder (wordless s.world) = subst IsInOrder h.steady.even.stands.world h.steady.even.stable.order in
+      let order : IsInOrder (wordless s.world) = subst IsInOrder h.steady.even.stands.world h.steady.even.stable.order.order in
       let bare = same_marked tie s.world (wordless s.world) refl refl refl refl refl h.marked in
       let closing = marked_closing tie p law plainly keeps ordered stays follows debts s h in
       record {

@@ -151,7 +151,7 @@ module _ {V : Type 0} (p : Program V) (follows : FollowsPlainly p) (ends : EndsC
   pub owed_is_debt : (k : Kept V) (s : State V) → IsStable p k → StandsFor k s → IsUnshut s → owed p (kept_shut k) ≡ debts.debt p (shut s) 0
   owed_is_debt k s stable stands h =
       let now = kept_shut k in
-      let order = (ends.shut k stable).stable.order in
+      let order = (ends.shut k stable).stable.order.order in
       let same : debt_by (is_early now) (shut s).world ≡ debts.debt p (shut s) 0 = sym (shares_same (debts.is_early (shut s) 0) (is_early now) (early_same k s stable stands h) (filter (λ c. is_inside (shut s).world.scopes 0 c.number) (shut s).world.coroutines)) in
       ap (owed_by p (is_early now)) (sym (everybody now.world order.fits))
       ∙ ap (debt_by (is_early now)) (follows.shut k s stable.plain stands).world

@@ -19,17 +19,15 @@ use Rattle.dill_base.specs.Maps.{if_some}
 use Rattle.dill_rules.specs.declared.coroutine.Closing.{Closing}
 use Rattle.dill_rules.specs.Entering.{late_answer}
 use Rattle.dill_rules.specs.declared.coroutine.Coroutine.{Coroutine}
-use Rattle.dill_rules.specs.declared.coroutine.Mode.{Mode}
-use Rattle.dill_rules.specs.declared.coroutine.Mode.TheVariants as modes
 use Rattle.dill_rules.specs.Expiring.{expire_one, passed}
 use Rattle.dill_rules.specs.Giving.{give}
 use Rattle.dill_rules.specs.Hearing.{heat_ready}
 use Rattle.dill_rules.specs.Owning.{free_bundle, is_dead_as}
 use Rattle.dill_rules.specs.Settling.{settle, settle_one, settle_within}
 use Rattle.dill_rules.specs.Seen.{lend, turn_seen}
-use Rattle.dill_rules.specs.State.{State, Stamp, is_stamp_of, closed_now, expire_next, expired, line_up, lined, lined_mode, next_turn, opening_state, turn_of, woke}
+use Rattle.dill_rules.specs.State.{State, Stamp, is_stamp_of, closed_now, expire_next, expired, line_up, lined, next_turn, opening_state, turn_of, woke}
 use Rattle.dill_rules.specs.Turning.{answer_given, go_on, turn}
-use Rattle.dill_rules.specs.World.{World, begin, call_of, pending_call}
+use Rattle.dill_rules.specs.World.{World, begin, call_of}
 use Rattle.laws_sound.specs.PlainLaws.{FollowsPlainly}
 use Rattle.laws_queue.specs.Kept.{Kept, kept_expire_next, kept_expired, kept_late, kept_turn, turn_first}
 use Rattle.laws_queue.specs.Laws.{KeepsWell}
@@ -185,7 +183,7 @@ module _ {V : Type 0} (p : Program V) (law : IsLawful p) (plainly : MakesPlain p
   Holds w = AllHold IsOpenUnowned 0 w
 
   holds_of : (k : Kept V) → IsStable p k → RootIsOpen k.world.scopes → Holds (begin k.world)
-  holds_of k s a = record { given = omega arith; bundles = unowned_open k.world.scopes s.order.fits.forest a; things = s.things; flags = record { ranked = s.flags.ranked; flagged = s.flags.flagged } }
+  holds_of k s a = record { given = omega arith; bundles = unowned_open k.world.scopes s.order.order.fits.forest a; things = s.things; flags = record { ranked = s.flags.ranked; flagged = s.flags.flagged } }
 
   within_holds : (n : ℕ) (w : World V) → AllSit p w.coroutines → Numbered 0 w.coroutines w.last_coroutine → Holds w → Holds (settle_within n w)
   within_holds zero w a n h = h
@@ -204,7 +202,7 @@ module _ {V : Type 0} (p : Program V) (law : IsLawful p) (plainly : MakesPlain p
   turned_holds k lack s a = at k.ready refl
     where
       at : (ready : List ℕ) → k.ready ≡ ready → AllByRecursion IsOpenUnowned (turn_first p lack k ready).world.scopes.bundles
-      at [] e = unowned_open k.world.scopes s.order.fits.forest a
+      at [] e = unowned_open k.world.scopes s.order.order.fits.forest a
       at (who ∷ rest) e =
           let w = k.world in
           let may = keeps.first k who rest s.well e in
@@ -234,7 +232,7 @@ module _ {V : Type 0} (p : Program V) (law : IsLawful p) (plainly : MakesPlain p
   pub turned_unshut : (k : Kept V) (s : State V) (lack : Option LackPlace) (random : Stream) → IsStable p k → StandsFor k s → IsUnshut s → IsUnshut (turn_seen p s lack random).0
   turned_unshut k s lack random stable stands h =
       let now = stays.turned k lack stable in
-      let held = root_open (kept_turn p lack k).world.scopes now.order.fits.forest (turned_holds k lack stable (to_kept k s stands h.root)) in
+      let held = root_open (kept_turn p lack k).world.scopes now.order.order.fits.forest (turned_holds k lack stable (to_kept k s stands h.root)) in
       let root = to_state (kept_turn p lack k) (turn_seen p s lack random).0 (follows.turned k s lack random stable.well stable.plain stands) held in
       record { root = root; none = turned_stamps lack (lend s random) (next_turn (lend s random)) root h.none }
 
@@ -242,7 +240,7 @@ module _ {V : Type 0} (p : Program V) (law : IsLawful p) (plainly : MakesPlain p
   pub expired_unshut : (k : Kept V) (s : State V) → IsStable p k → StandsFor k s → IsUnshut s → IsUnshut (expired s)
   expired_unshut k s stable stands h =
       let now = stays.expired k stable in
-      let held = root_open (kept_expired k).world.scopes now.order.fits.forest (expired_holds k stable (to_kept k s stands h.root)) in
+      let held = root_open (kept_expired k).world.scopes now.order.order.fits.forest (expired_holds k stable (to_kept k s stands h.root)) in
       let root = to_state (kept_expired k) (expired s) (follows.expired k s stable.plain stands) held in
       let began : State V = record s { world = begin s.world } in
       let plain : IsPlain (wordless s.world) = subst IsPlain stands.world stable.plain in

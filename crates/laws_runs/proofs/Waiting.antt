@@ -146,4 +146,4 @@ module _ {V : Type 0} where
 pub waiting_is_for_somebody : {V : Type 0} (p : Program V) → WaitingIsForSomebody p
 waiting_is_for_somebody {V} p s steady =
     let k = steady.even.kept in
-    worded s.world (subst (λ (w : World V). WaitsForSomebody w) steady.even.stands.world (waits_for_somebody k.world steady.even.stable.order steady.settled))
+    worded s.world (subst (λ (w : World V). WaitsForSomebody w) steady.even.stands.world (waits_for_somebody k.world steady.even.stable.order.order steady.settled))

@@ -35,12 +35,12 @@ use Rattle.laws_sound.proofs.PlainLaws.{settles_plainly, steps_keep_plain}
 use Rattle.laws_sound.proofs.Steps.{settle_plain}
 use Rattle.laws_sound.proofs.Turns.{closed_plain, go_on_plain}
 use Rattle.laws_sound.specs.Laws.{IsAtRest, IsBetweenSteps, StepsKeepRest}
-use Rattle.laws_sound.specs.Order.{IsInOrder}
+use Rattle.laws_sound.specs.Orderly.{IsOrderly}
 use Rattle.laws_sound.proofs.Going.{or_none}
-use Rattle.laws_sound.proofs.Keeping.{order_go_on, turn_is}
+use Rattle.laws_sound.proofs.Calling.{go_on_goes, turn_is}
 use Rattle.laws_sound.proofs.Leaving.{lined_ends}
 use Rattle.laws_sound.proofs.Resting.{Still, still_settle, still_expire, still_go_on, still_rests, rests_lined}
-use Rattle.laws_sound.proofs.Stepping.{lined_pending}
+use Rattle.laws_queue.proofs.Lining.{lined_pending}
 
 module _ {V : Type 0} where
   -- other parts of a world, and other modes, that plain answers don't look at
@@ -125,7 +125,7 @@ module _ {V : Type 0} (p : Program V) (law : IsLawful p) (plainly : MakesPlain p
   stays : KeepsPlain p
   stays = steps_keep_plain p law plainly
 
-  turned : (k : Kept V) (lack : Option LackPlace) → IsWell p k → IsPlain k.world → IsInOrder k.world → IsBetweenSteps k.world → IsBetweenSteps (kept_turn p lack k).world
+  turned : (k : Kept V) (lack : Option LackPlace) → IsWell p k → IsPlain k.world → IsOrderly k.world → IsBetweenSteps k.world → IsBetweenSteps (kept_turn p lack k).world
   turned k lack w plain o r = at k.ready refl
     where
       at : (ready : List ℕ) → k.ready ≡ ready → IsBetweenSteps (turn_first p lack k ready).world
@@ -135,8 +135,8 @@ module _ {V : Type 0} (p : Program V) (law : IsLawful p) (plainly : MakesPlain p
           let c = m.one in
           let moves : MovesPlain (move_of p k.world who c.body) = plainly c.body (answer_given k.world who).1 m.real m.some in
           let moved = go_on p lack (begin k.world) who c.body in
-          let order = order_go_on p lack k.world who c o m.found m.answered moves in
-          let still = still_go_on p lack k.world who c.body plain.things o.fits.kinds moves (still_rests k.world r.rest) in
+          let order = (go_on_goes p lack k.world who c o m.found m.answered).good.order in
+          let still = still_go_on p lack k.world who c.body plain.things o.order.fits.kinds moves (still_rests k.world r.rest) in
           subst (λ v. IsBetweenSteps (queued v rest (k.early - 1)).world) (turn_is p lack k.world who c m.found)
           (queued_rests moved rest (k.early - 1) (go_on_plain p lack (begin k.world) who c.body moves (begin_plain k.world plain)) order.fits.numbered still)
 

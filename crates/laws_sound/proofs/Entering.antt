@@ -1,4 +1,4 @@
--- Each plain call that is entered keeps a world in order.
+-- What a call that isn't refused may do, and what its children leave in order.
 use Rattle.std.proofs.Common.{◌≡◌, ◌∙◌, ℕ, ◌+◌, ◌<◌, ◌≤◌, ◌==◌, List, [], ◌∷◌, ◌++◌, length, find, Bool, true, false, not, ◌&&◌, ◌||◌, cond, inl, inr, Option, Some, None, if◌then◌else◌, refl, sym, ap, subst, arith}
 use Rattle.std.proofs.lemmas.Bool.{or_parts}
 use Rattle.std.specs.Prelude.{is_some, is_none, nat_le, nat_lt}
@@ -8,17 +8,16 @@ use Rattle.std.proofs.lemmas.List.Folds.{list_any-append}
 use Rattle.dill_base.specs.declared.errno.Errno.{Errno}
 use Rattle.dill_base.specs.declared.errno.Errno.TheVariants as errnos
 use Rattle.dill_calls.specs.declared.answer.Answer.{Answer}
-use Rattle.dill_calls.specs.declared.answer.Answer.TheVariants.{Number, Fault}
+use Rattle.dill_calls.specs.declared.answer.Answer.TheVariants.{Number}
 use Rattle.dill_calls.specs.declared.call.Call.{Call}
 use Rattle.dill_calls.specs.declared.call.Call.TheVariants as calls
 use Rattle.dill_calls.specs.declared.lists.Arg.{Arg}
 use Rattle.dill_calls.specs.declared.word.Word.{Word}
 use Rattle.dill_calls.specs.declared.word.Word.TheVariants as words
-use Rattle.dill_calls.specs.CallTable.{word_of, takes_memory, gives_up}
+use Rattle.dill_calls.specs.CallTable.{word_of, gives_up}
 use Rattle.dill_calls.specs.Program.{Program}
 use Rattle.dill_handles.specs.Handles as handles
 use Rattle.dill_handles.specs.declared.entry.Entry.{Entry}
-use Rattle.dill_plain.specs.Plain.{is_plain}
 use Rattle.dill_scope.specs.declared.forest.Home.{Home}
 use Rattle.dill_scope.specs.Scopes as scopes
 use Rattle.dill_scope.specs.Scopes.{Scopes, owner_of, is_inside}
@@ -33,16 +32,16 @@ use Rattle.dill_rules.specs.declared.coroutine.Mode.{Mode}
 use Rattle.dill_rules.specs.declared.coroutine.Mode.TheVariants as modes
 use Rattle.dill_rules.specs.declared.thing.Thing.{Thing}
 use Rattle.dill_rules.specs.declared.thing.Thing.TheVariants as things
-use Rattle.dill_rules.specs.Effects.{told, make, add_bundle, close_thing, bear, give_all, start, next_number, passed_answer}
-use Rattle.dill_rules.specs.Entering.{keep_for, perform, is_too_late, late_answer, meet_deadline, done, enter}
-use Rattle.dill_rules.specs.Kinds.{value_of, is_dead, names_dead, names_other}
+use Rattle.dill_rules.specs.Effects.{told, add_bundle, bear, give_all, start, next_number}
+use Rattle.dill_rules.specs.Entering.{keep_for, perform, is_too_late}
+use Rattle.dill_rules.specs.Kinds.{is_dead, names_dead, names_other}
 use Rattle.dill_rules.specs.Naming.{gifts_of, draws_of, taken_by, bears, links}
-use Rattle.dill_rules.specs.Owning.{entry_of, move, release}
+use Rattle.dill_rules.specs.Owning.{entry_of}
 use Rattle.dill_rules.specs.Refusals.{holds, holds_of_itself, refuse, order, giving_order, is_refused_by_stack, is_in_use, is_closed_bundle, has_no_coroutine, has_no_link, is_invalid}
 use Rattle.dill_rules.specs.Taking.{bundle_of, bundle_named, cannot_take, is_within, is_held_back, is_awaited, is_cancelled_taker, is_occupied, bears_inside, lives_inside}
-use Rattle.dill_rules.specs.World.{World, is_coroutine, coroutine_of, call_of, reply, pend, pending_call, is_ending}
+use Rattle.dill_rules.specs.World.{World, is_coroutine, coroutine_of, call_of, reply, pending_call, is_ending}
 use Rattle.laws_queue.specs.Well.{is_at}
-use Rattle.laws_queue.proofs.Crew.{move_crew, release_crew, give_all_crew}
+use Rattle.laws_queue.proofs.Crew.{give_all_crew}
 use Rattle.laws_sound.specs.Order.{closes, is_there, FitsTogether, IsInOrder}
 use Rattle.laws_sound.proofs.Coming.{newborn}
 use Rattle.laws_sound.proofs.Counting.{found_push, pushed_found}
@@ -52,9 +51,9 @@ use Rattle.laws_sound.proofs.Going.{found_there}
 use Rattle.laws_sound.proofs.Handing.{equal, unequal, same_number, live}
 use Rattle.laws_sound.proofs.Leaving.{order_born}
 use Rattle.laws_sound.proofs.Nearly.{is_free}
-use Rattle.laws_sound.proofs.Ordering.{order_set, order_reply, order_keep, order_make, order_add_bundle, order_move, order_release, free_closes}
+use Rattle.laws_sound.proofs.Ordering.{order_reply, order_keep, order_add_bundle, free_closes}
 use Rattle.laws_sound.proofs.Owners.{new_is_free, bundle_new, owned_known}
-use Rattle.laws_sound.proofs.Shutting.{order_hclose, bundle_is}
+use Rattle.laws_sound.proofs.Shutting.{bundle_is}
 use Rattle.laws_sound.proofs.Sound.{same_there}
 
 -- ---- what a call isn't refused for
@@ -136,11 +135,11 @@ module _ {V : Type 0} where
   outside w name who o e i = let t = (search_is_inside w.scopes name who o.fits.forest.forest).1 i in cc
 
   -- who makes its call
-  record Caller (w : World V) (who : ℕ) : Type 0 where
-    order : IsInOrder w
-    one : Coroutine V
-    found : coroutine_of w who ≡ Some one
-    free : is_free one.mode ≡ true
+  pub record Caller (w : World V) (who : ℕ) : Type 0 where
+    pub order : IsInOrder w
+    pub one : Coroutine V
+    pub found : coroutine_of w who ≡ Some one
+    pub free : is_free one.mode ≡ true
 
   answered : (w : World V) (who : ℕ) (h : Caller w who) (v : World V) → IsInOrder v → v.coroutines ≡ w.coroutines → Caller v who
   answered w who h v o e = record { order = o; one = h.one; found = ap (find (is_coroutine who)) e ∙ h.found; free = h.free }
@@ -153,9 +152,6 @@ module _ {V : Type 0} where
 
   going : (w : World V) (who : ℕ) → Caller w who → is_at is_ending w.coroutines who ≡ false
   going w who h = ap (λ o. if_some o false (λ c. is_ending c.mode)) h.found ∙ (free_closes h.one.mode h.free).1
-
-  pends : (w : World V) (who : ℕ) (call : Call) → Caller w who → is_free (modes.Pending call) ≡ true → IsInOrder (pend w who call)
-  pends w who call h e = order_set w who h.one (modes.Pending call) h.order h.found h.free e
 
   -- ---- a new coroutine with its gifts
 
@@ -211,20 +207,10 @@ module _ {V : Type 0} (p : Program V) where
   kept_order : (w : World V) (who : ℕ) (view : V) (call : Call) → May p w who view call → Caller w who → Caller (keep_for w call) who
   kept_order w who view call m h = answered w who h (keep_for w call) (order_keep w (draws_of call) (fits_keep w (draws_of call) m.room h.order.fits) h.order) refl
 
-  release_order : (w : World V) (who number : ℕ) (x : Entry Thing) (t : Thing) → x.thing ≡ t → bundle_of t ≡ None → Caller w who → entry_of w number ≡ Some x → IsInOrder (reply (release w number) who words.Hclose (Number 0))
-  release_order w who number x t s none h e = replied (release w number) who words.Hclose (Number 0) (answered w who h (release w number) (order_release w number h.order (λ y f. let it : x ≡ y = cc in ap (λ z. bundle_of z.thing) (sym it) ∙ ap bundle_of s ∙ none)) (release_crew w number).coroutines)
-
-  close_order : (w : World V) (who number : ℕ) (x : Entry Thing) (t : Thing) → x.thing ≡ t → Caller w who → entry_of w number ≡ Some x → ((name : ℕ) → x.thing ≡ things.Bundle name → Inside w.scopes name who → ⊥) → IsInOrder (close_thing w who number t)
-  close_order w who number x (things.Bundle name) s h e out = order_hclose w who number name h.one x h.order h.found h.free e s (out name s)
-  close_order w who number x (things.End end) s h e out = release_order w who number x (things.End end) s refl h e
-  close_order w who number x (things.Listener link) s h e out = release_order w who number x (things.Listener link) s refl h e
-  close_order w who number x (things.Socket link) s h e out = release_order w who number x (things.Socket link) s refl h e
-  close_order w who number x (things.Value kind value) s h e out = release_order w who number x (things.Value kind value) s refl h e
-
-  not_inside : (w : World V) (who : ℕ) (call : Call) (number : ℕ) → IsInOrder w → cannot_take w who call number ≡ false → (x : Entry Thing) (name : ℕ) → entry_of w number ≡ Some x → x.thing ≡ things.Bundle name → Inside w.scopes name who → ⊥
+  pub not_inside : (w : World V) (who : ℕ) (call : Call) (number : ℕ) → IsInOrder w → cannot_take w who call number ≡ false → (x : Entry Thing) (name : ℕ) → entry_of w number ≡ Some x → x.thing ≡ things.Bundle name → Inside w.scopes name who → ⊥
   not_inside w who call number o e x name f t = outside w name who o (not_within w who call number name x e f t).0
 
-  one_taken : (b : Bool) → (b || false) ≡ false → b ≡ false
+  pub one_taken : (b : Bool) → (b || false) ≡ false → b ≡ false
   one_taken true e = cc
   one_taken false e = refl
 
@@ -247,7 +233,7 @@ module _ {V : Type 0} (p : Program V) where
             out ((bundle_moves_nobody w.scopes new who h.order.fits.forest h.order.fits.bundles name who tt).0 (subst (λ k. Inside (scopes.bundle w.scopes new who) name k) (sym mine) r.2)))
       ]
 
-  go_order : (w : World V) (who : ℕ) (view : V) (program : ℕ) (args : List Arg) → Caller w who → May p w who view (calls.Go program args) → IsInOrder (perform p (keep_for w (calls.Go program args)) who view (calls.Go program args))
+  pub go_order : (w : World V) (who : ℕ) (view : V) (program : ℕ) (args : List Arg) → Caller w who → May p w who view (calls.Go program args) → IsInOrder (perform p (keep_for w (calls.Go program args)) who view (calls.Go program args))
   go_order w who view program args h m =
       let call = calls.Go program args in
       let k = keep_for w call in
@@ -274,7 +260,7 @@ module _ {V : Type 0} (p : Program V) where
         | inr r ↦ outside w name r.0 h.order (ap (λ o. if_some o false (is_inside w.scopes name)) (sym r.1) ∙ both.1) r.2
       ]
 
-  bundle_go_order : (w : World V) (who : ℕ) (view : V) (number program : ℕ) (args : List Arg) → Caller w who → May p w who view (calls.BundleGo number program args) → IsInOrder (perform p (keep_for w (calls.BundleGo number program args)) who view (calls.BundleGo number program args))
+  pub bundle_go_order : (w : World V) (who : ℕ) (view : V) (number program : ℕ) (args : List Arg) → Caller w who → May p w who view (calls.BundleGo number program args) → IsInOrder (perform p (keep_for w (calls.BundleGo number program args)) who view (calls.BundleGo number program args))
   bundle_go_order w who view number program args h m = at (bundle_named w number) refl
     where
       at : (o : Option ℕ) → bundle_named w number ≡ o → IsInOrder (if_some o (keep_for w (calls.BundleGo number program args)) (λ home. reply (start p (keep_for w (calls.BundleGo number program args)) view home program args) who words.BundleGo (Number 0)))
@@ -290,46 +276,8 @@ module _ {V : Type 0} (p : Program V) where
           let started_order = order_start k child home ns kept.order known (no_room w m.crew) (bundle_outside w who view number home program args h m e) in
           replied (start p k view home program args) who words.BundleGo (Number 0) (started k who child home (k.last_coroutine + 1) ns kept started_order)
 
-  proper_kind : (kind : ℕ) → (nat_lt kind 256 || nat_lt 4294967295 kind) ≡ false → nat_le 256 kind ≡ true
+  pub proper_kind : (kind : ℕ) → (nat_lt kind 256 || nat_lt 4294967295 kind) ≡ false → nat_le 256 kind ≡ true
   proper_kind kind e = let b = (or_parts (nat_lt kind 256) (nat_lt 4294967295 kind) e).0 in grind (arith, nat_tests)
-
-  -- the effect of a call that isn't refused
-  perform_order : (w : World V) (who : ℕ) (view : V) (call : Call) → is_plain call ≡ true → Caller w who → May p w who view call → IsInOrder (perform p (keep_for w call) who view call)
-  perform_order w who view (calls.Print text) e h m = replied _ who words.Print (Number 0) (kept_order w who view (calls.Print text) m h)
-  perform_order w who view calls.Now e h m = replied _ who words.Now (Number w.moment) (kept_order w who view calls.Now m h)
-  perform_order w who view calls.Yield e h m = replied _ who words.Yield (Number 0) (kept_order w who view calls.Yield m h)
-  perform_order w who view (calls.Msleep deadline) e h m = pends _ who (calls.Msleep deadline) (kept_order w who view (calls.Msleep deadline) m h) refl
-  perform_order w who view (calls.Hmake kind value) e h m =
-      let k = keep_for w (calls.Hmake kind value) in
-      let kept = kept_order w who view (calls.Hmake kind value) m h in
-      let made = make k (things.Value kind value) who in
-      replied made who words.Hmake (Number (next_number k)) (answered k who kept made (order_make k (things.Value kind value) who refl (proper_kind kind m.valid) (there k who kept) (omega arith) kept.order) refl)
-  perform_order w who view (calls.Hquery number kind) e h m = at (entry_of w number)
-    where
-      at : (o : Option (Entry Thing)) → IsInOrder (if_some o (keep_for w (calls.Hquery number kind)) (λ x. reply (keep_for w (calls.Hquery number kind)) who words.Hquery (Number (value_of x.thing))))
-      at None = (kept_order w who view (calls.Hquery number kind) m h).order
-      at (Some x) = replied _ who words.Hquery (Number (value_of x.thing)) (kept_order w who view (calls.Hquery number kind) m h)
-  perform_order w who view (calls.Hown number) e h m =
-      let call = calls.Hown number in
-      let k = keep_for w call in
-      let kept = kept_order w who view call m h in
-      let out = not_inside w who call number h.order (one_taken (cannot_take w who call number) m.takes) in
-      let moved = order_move k number who kept.order (there k who kept) (going k who kept) out in
-      replied (move k number who) who words.Hown (Number (next_number k)) (answered k who kept (move k number who) moved (move_crew k number who).coroutines)
-  perform_order w who view (calls.Hclose number) e h m = at (entry_of w number) refl
-    where
-      at : (o : Option (Entry Thing)) → entry_of w number ≡ o → IsInOrder (if_some o (keep_for w (calls.Hclose number)) (λ x. close_thing (keep_for w (calls.Hclose number)) who number x.thing))
-      at None f = (kept_order w who view (calls.Hclose number) m h).order
-      at (Some x) f = close_order _ who number x x.thing refl (kept_order w who view (calls.Hclose number) m h) f (λ name s. not_inside w who (calls.Hclose number) number h.order (one_taken (cannot_take w who (calls.Hclose number) number) m.takes) x name f s)
-  perform_order w who view calls.Bundle e h m =
-      let k = keep_for w calls.Bundle in
-      let kept = kept_order w who view calls.Bundle m h in
-      replied (add_bundle k who) who words.Bundle (Number (next_number k)) (answered k who kept (add_bundle k who) (order_add_bundle k who (there k who kept) (going k who kept) (omega arith) kept.order) refl)
-  perform_order w who view (calls.Go program args) e h m = go_order w who view program args h m
-  perform_order w who view (calls.BundleGo number program args) e h m = bundle_go_order w who view number program args h m
-  perform_order w who view (calls.BundleWait number deadline) e h m = pends _ who (calls.BundleWait number deadline) (kept_order w who view (calls.BundleWait number deadline) m h) refl
-  perform_order w who view (calls.Pass word fault) e h m = replied _ who word (passed_answer fault) (kept_order w who view (calls.Pass word fault) m h)
-  perform_order w who view _ e h m = cc
 
 call_mode : (mode : Mode) (call : Call) → pending_call mode ≡ Some call → mode ≡ modes.Pending call
 call_mode (modes.Pending other) call e = let it : other ≡ call = cc in ap (λ c. modes.Pending c) it
@@ -340,7 +288,7 @@ call_mode (modes.Ending outcome) call e = cc
 
 module _ {V : Type 0} where
   -- a call with a deadline closes nothing
-  late_free : (w : World V) (who : ℕ) (call : Call) → is_too_late w who call ≡ true → closes (modes.Pending call) ≡ None
+  pub late_free : (w : World V) (who : ℕ) (call : Call) → is_too_late w who call ≡ true → closes (modes.Pending call) ≡ None
   late_free w who (calls.Hclose number) e = cc
   late_free w who _ e = refl
 
@@ -350,32 +298,3 @@ module _ {V : Type 0} where
       at : (o : Option (Coroutine V)) → coroutine_of w who ≡ o → if_some o None (λ c. pending_call c.mode) ≡ Some call → (c : Coroutine V) × (coroutine_of w who ≡ Some c) × (c.mode ≡ modes.Pending call)
       at None f g = cc
       at (Some c) f g = (c, f, call_mode c.mode call g)
-
-  meet_order : (w : World V) (who : ℕ) → IsInOrder w → IsInOrder (meet_deadline w who)
-  meet_order w who o = at (call_of w who) refl
-    where
-      by : (call : Call) (b : Bool) → call_of w who ≡ Some call → is_too_late w who call ≡ b → IsInOrder (if b then reply w who (word_of call) (late_answer call) else w)
-      by call true e f =
-          let c = found_call w who call e in
-          let none = late_free w who call f in
-          order_reply w who c.0 (word_of call) (late_answer call) o c.1 (ap (λ m. is_free m) c.2 ∙ ap (λ q. is_none q && not (is_ending (modes.Pending call))) none)
-      by call false e f = o
-
-      at : (p : Option Call) → call_of w who ≡ p → IsInOrder (if_some p w (λ call. if is_too_late w who call then reply w who (word_of call) (late_answer call) else w))
-      at None e = o
-      at (Some call) e = by call (is_too_late w who call) e refl
-
-  -- a call is entered
-  pub order_enter : (p : Program V) (lacks : Bool) (w : World V) (who : ℕ) (view : V) (call : Call) (c : Coroutine V) → is_plain call ≡ true → IsInOrder w → coroutine_of w who ≡ Some c → is_free c.mode ≡ true → IsInOrder (enter p lacks w who view call)
-  order_enter p lacks w who view call c e o found free = at (refuse p w who view call) refl
-    where
-      caller : Caller w who
-      caller = record { order = o; one = c; found = found; free = free }
-
-      lack : (b : Bool) → refuse p w who view call ≡ None → IsInOrder (if b then reply w who (word_of call) (Fault errnos.Enomem) else done p w who view call)
-      lack true f = replied w who (word_of call) (Fault errnos.Enomem) caller
-      lack false f = meet_order (perform p (keep_for w call) who view call) who (perform_order p w who view call e caller (may p w who view call f))
-
-      at : (q : Option Errno) → refuse p w who view call ≡ q → IsInOrder (if_some q (if lacks && takes_memory (word_of call) then reply w who (word_of call) (Fault errnos.Enomem) else done p w who view call) (λ g. reply w who (word_of call) (Fault g)))
-      at None f = lack (lacks && takes_memory (word_of call)) f
-      at (Some g) f = replied w who (word_of call) (Fault g) caller

@@ -1,6 +1,6 @@
 -- Coroutines that come and go, and answers that get their places: what keeps a world in order.
 use Rattle.std.proofs.Common.{◌≡◌, ◌∙◌, ℕ, ◌<◌, ◌==◌, List, [], ◌∷◌, ◌++◌, length, map, find, fold, Bool, true, false, not, ◌||◌, cond, Option, Some, None, if◌then◌else◌, refl, sym, ap, subst}
-use Rattle.std.proofs.lemmas.Bool.{and_parts, and_from, or_right}
+use Rattle.std.proofs.lemmas.Bool.{and_parts, or_right}
 use Rattle.std.specs.Prelude.{filter, reverse}
 use Rattle.std.specs.List.{list_all, list_any}
 use Rattle.dill_calls.specs.declared.ran.Note.TheVariants.{Freed}
@@ -24,7 +24,7 @@ use Rattle.dill_rules.specs.State.{lined, lined_mode}
 use Rattle.dill_rules.specs.Taking.{bundle_of}
 use Rattle.dill_rules.specs.World.{World, from_start, is_coroutine, coroutine_of, note, is_ending}
 use Rattle.laws_queue.specs.Well.{bit, is_at}
-use Rattle.laws_sound.proofs.Lists.{all_found, all_without, all_follow, all_from}
+use Rattle.laws_sound.proofs.Lists.{all_map, all_found, all_without, all_follow, all_from}
 use Rattle.laws_sound.specs.Order.{closes, waits_for, has_bundle, is_kept_open, has_waiter, has_closing, FitsTogether, IsInOrder}
 use Rattle.laws_sound.proofs.Coming.{newborn, fits_born, fits_left}
 use Rattle.laws_sound.proofs.Counting.{weigh, weightless, weightless_none, none_left, none_without, all_push, all_unique}
@@ -191,7 +191,7 @@ module _ {V : Type 0} where
 
   -- ---- a new coroutine
 
-  at_push : (test : Mode → Bool) (cs : List (Coroutine V)) (c : Coroutine V) (n : ℕ) → test c.mode ≡ false → is_at test (cs ++ c ∷ []) n ≡ is_at test cs n
+  pub at_push : (test : Mode → Bool) (cs : List (Coroutine V)) (c : Coroutine V) (n : ℕ) → test c.mode ≡ false → is_at test (cs ++ c ∷ []) n ≡ is_at test cs n
   at_push test [] c n e = by (is_coroutine n c)
     where
       by : (b : Bool) → if_some (cond b (Some c) None) false (λ d. test d.mode) ≡ false
@@ -240,10 +240,6 @@ lined_ends (modes.Answered word answer) = refl
 lined_ends (modes.Ending outcome) = refl
 
 module _ {V : Type 0} where
-  all_lined : (test : Coroutine V → Bool) (cs : List (Coroutine V)) → ((c : Coroutine V) → test c ≡ true → test (lined c) ≡ true) → list_all test cs ≡ true → list_all test (map lined cs) ≡ true
-  all_lined test [] h e = refl
-  all_lined test (c ∷ cs) h e = let b = and_parts (test c) (list_all test cs) e in and_from (test (lined c)) (list_all test (map lined cs)) (h c b.0) (all_lined test cs h b.1)
-
   -- the answers of a step get their places
   pub order_lined : (w : World V) → IsInOrder w → IsInOrder (record w { coroutines = map lined w.coroutines })
   order_lined w o =
@@ -252,7 +248,7 @@ module _ {V : Type 0} where
       record {
         fits = fits_crew w ds (map_numbers lined (λ c. refl) w.coroutines) (map_numbered lined (λ c. refl) w.coroutines 0 w.last_coroutine o.fits.numbered) (map_length lined (λ c. refl) w.coroutines) o.fits;
         closings = all_follow (has_waiter w) (has_waiter v) w.closings (λ x f. waits x (owner_of w.scopes x.bundle) f) o.closings;
-        waiters = all_lined (has_closing w) w.coroutines (λ c f. ap (λ p. if_some p true (λ number. if_some (find (is_dead_as number) w.closings) false (λ x. has_bundle w c.number x.bundle))) (lined_closes c.mode) ∙ f) o.waiters;
+        waiters = all_map (has_closing w) lined w.coroutines (λ c f. ap (λ p. if_some p true (λ number. if_some (find (is_dead_as number) w.closings) false (λ x. has_bundle w c.number x.bundle))) (lined_closes c.mode) ∙ f) o.waiters;
         endings = all_follow (is_kept_open w) (is_kept_open v) w.handles.entries (λ x f. ap (λ t. if_some (bundle_of x.thing) true (λ name. not t)) (map_at lined (λ c. refl) is_ending (λ c. lined_ends c.mode) w.coroutines x.owner) ∙ f) o.endings;
       }
     where

@@ -23,7 +23,12 @@ pub mod Finishing
 pub mod Leaving
 pub mod Gifts
 pub mod Entering
-pub mod Keeping
+pub mod Noting
+pub mod Answering
+pub mod Making
+pub mod Performing
+pub mod Calling
+pub mod Hearing
 pub mod Stepping
 pub mod Resting
 pub mod Calming

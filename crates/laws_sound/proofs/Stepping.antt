@@ -5,13 +5,10 @@ use Rattle.std.specs.Prelude.{is_some, max, nat_le, option_and_then}
 use Rattle.std.specs.List.{list_all}
 use Rattle.std.proofs.lemmas.List.Elements.{All-cons, All-nil}
 use Rattle.std.proofs.lemmas.List.Folds.{list_all-map}
-use Rattle.dill_calls.specs.declared.answer.Answer.{Answer}
 use Rattle.dill_calls.specs.declared.call.Call.{Call}
-use Rattle.dill_calls.specs.declared.call.Call.TheVariants as calls
 use Rattle.dill_calls.specs.declared.ran.LackPlace.{LackPlace}
 use Rattle.dill_calls.specs.Program.{Program, IsLawful}
 use Rattle.dill_kernel.specs.declared.ready.Ready.{Ready}
-use Rattle.dill_plain.specs.Plain.{MovesPlain, MakesPlain}
 use Rattle.dill_scope.specs.declared.forest.Bundle.{Bundle}
 use Rattle.dill_scope.specs.Scopes as scopes
 use Rattle.dill_scope.specs.Scopes.{opening_scopes, owner_of}
@@ -23,42 +20,35 @@ use Rattle.dill_rules.specs.declared.coroutine.Mode.TheVariants as modes
 use Rattle.dill_rules.specs.Expiring.{Timer, due_of, is_earlier, placed, in_order, timer_of, passed, expire_one}
 use Rattle.dill_rules.specs.Entering.{late_answer}
 use Rattle.dill_rules.specs.Giving.{give}
-use Rattle.dill_rules.specs.Hearing.{heat_ready}
 use Rattle.dill_rules.specs.Settling.{settle}
-use Rattle.dill_rules.specs.State.{lined, lined_mode}
-use Rattle.dill_rules.specs.Turning.{turn, move_of, answer_given}
+use Rattle.dill_rules.specs.State.{lined}
 use Rattle.dill_rules.specs.World.{World, at_start, is_coroutine, coroutine_of, call_of, with_mode, begin, pending_call}
-use Rattle.laws_queue.specs.Kept.{Kept, opening_kept, queued, turn_first, kept_turn, kept_expire_next, kept_late, kept_expired, kept_shut, kept_woke, root_closed}
-use Rattle.laws_queue.specs.Laws.{KeepsWell}
-use Rattle.laws_sound.specs.Plain.{may_wait, IsPlain}
 use Rattle.laws_queue.specs.Well.{bit, IsWell}
 use Rattle.laws_queue.proofs.Keeping.{steps_keep_well}
-use Rattle.laws_sound.proofs.Steps.{call_waits}
-use Rattle.laws_sound.proofs.Turns.{closed_plain}
-use Rattle.laws_sound.proofs.Plainly.{begin_plain}
-use Rattle.laws_sound.proofs.PlainLaws.{steps_keep_plain}
-use Rattle.laws_sound.specs.PlainLaws.{KeepsPlain}
-use Rattle.laws_sound.specs.Laws.{is_timed, StepsKeepOrder}
 use Rattle.laws_sound.specs.Order.{IsInOrder}
-use Rattle.laws_sound.proofs.Crews.{change_here, change_other}
 use Rattle.laws_sound.proofs.Entering.{found_call}
 use Rattle.laws_sound.proofs.Handing.{equal, unequal}
-use Rattle.laws_sound.proofs.Keeping.{order_give, order_settle, order_begin, order_turn}
 use Rattle.laws_sound.proofs.Leaving.{order_lined}
-use Rattle.laws_sound.proofs.Lists.{all_follow}
 use Rattle.laws_sound.proofs.Nearly.{all_by_number}
 use Rattle.laws_sound.proofs.Ordering.{order_anyway, order_closed}
-
--- a call that has a deadline is no `hclose`
-timed_open : (call : Call) (number : ℕ) → is_some (due_of call) ≡ true → call ≡ calls.Hclose number → ⊥
-timed_open call number e f = let bad : is_some (due_of (calls.Hclose number)) ≡ true = ap (λ c. is_some (due_of c)) (sym f) ∙ e in cc
-
-pub lined_pending : (mode : Mode) → pending_call (lined_mode mode) ≡ pending_call mode
-lined_pending (modes.Fresh word answer) = refl
-lined_pending (modes.Pending call) = refl
-lined_pending modes.Running = refl
-lined_pending (modes.Answered word answer) = refl
-lined_pending (modes.Ending outcome) = refl
+use Rattle.dill_calls.specs.CallTable.{word_of, named_by}
+use Rattle.dill_kernel.specs.declared.replies.KernelReply.{KernelReply}
+use Rattle.dill_rules.specs.Hearing.{heat_ready, heard}
+use Rattle.dill_rules.specs.LinkAnswers.{is_on_stack}
+use Rattle.dill_rules.specs.Trying.{Try, next_try}
+use Rattle.dill_rules.specs.Turning.{turn}
+use Rattle.laws_queue.specs.Kept.{Kept, opening_kept, queued, turn_first, kept_turn, kept_hear, kept_expire_next, kept_late, kept_expired, kept_shut, kept_woke, root_closed}
+use Rattle.laws_queue.proofs.Besides.{heat_all_besides}
+use Rattle.laws_queue.proofs.Lining.{lined_pending}
+use Rattle.laws_queue.proofs.Settling.{give_gives}
+use Rattle.laws_sound.specs.Laws.{is_timed, StepsKeepOrder, NotesNumbers}
+use Rattle.laws_sound.specs.Orderly.{is_channel, is_meeting, waits_well, is_no_bundle, is_socketed, IsOrderly, heard_of, HasKept}
+use Rattle.laws_sound.proofs.Answering.{besides, settle_goes, expire_good, notes_each}
+use Rattle.laws_sound.proofs.Making.{does_good, begins}
+use Rattle.laws_sound.proofs.Calling.{turn_goes}
+use Rattle.laws_sound.proofs.Crews.{change_here, change_other, map_at}
+use Rattle.laws_sound.proofs.Hearing.{hear_goes}
+use Rattle.laws_sound.proofs.Lists.{all_follow, all_map}
 
 module _ (test : Timer → Bool) where
   placed_all : (x : Timer) (xs : List Timer) → test x ≡ true → list_all test xs ≡ true → list_all test (placed x xs) ≡ true
@@ -109,25 +99,15 @@ module _ {V : Type 0} where
       at false f = ap (λ o. timed (if_some o None (λ d. pending_call d.mode))) (change_other (with_mode mode) (λ d. refl) who n cs (unequal n who f)) ∙ t
 
   -- an expiry leaves the deadlines of others
-  give_timed : (w : World V) (who n : ℕ) (call : Call) (answer : Answer) (c : Coroutine V) → may_wait call ≡ true → is_some (due_of call) ≡ true → coroutine_of w who ≡ Some c → is_timed w n ≡ true → is_timed (give w who call answer) n ≡ true
-  give_timed w who n (calls.Msleep deadline) answer c m d e t = set_timed w.coroutines who n _ c refl e t
-  give_timed w who n (calls.BundleWait number deadline) answer c m d e t = set_timed w.coroutines who n _ c refl e t
-  give_timed w who n (calls.Hclose number) answer c m d e t = cc
-  give_timed w who n _ answer c m d e t = cc
-
-  pub expire_timed : (w : World V) (who n : ℕ) → IsPlain w → is_timed w who ≡ true → is_timed w n ≡ true → is_timed (expire_one w who) n ≡ true
-  expire_timed w who n plain d t = at (call_of w who) refl d
+  pub expire_timed : (w : World V) (who n : ℕ) → is_timed w n ≡ true → is_timed (expire_one w who) n ≡ true
+  expire_timed w who n t = at (call_of w who) refl
     where
-      at : (o : Option Call) → call_of w who ≡ o → timed o ≡ true → is_timed (if_some o w (λ call. give w who call (late_answer call))) n ≡ true
-      at None e f = t
-      at (Some call) e f = let c = found_call w who call e in give_timed w who n call (late_answer call) c.0 (call_waits w who call plain e) f c.1 t
-
-  pub order_expire_one : (w : World V) (who : ℕ) → IsPlain w → IsInOrder w → is_timed w who ≡ true → IsInOrder (expire_one w who)
-  order_expire_one w who plain o d = at (call_of w who) refl d
-    where
-      at : (p : Option Call) → call_of w who ≡ p → timed p ≡ true → IsInOrder (if_some p w (λ call. give w who call (late_answer call)))
-      at None e f = o
-      at (Some call) e f = let c = found_call w who call e in order_give w who call (late_answer call) c.0 o (call_waits w who call plain e) c.1 c.2 (λ number s. absurd (timed_open call number f s))
+      at : (o : Option Call) → call_of w who ≡ o → is_timed (if_some o w (λ call. give w who call (late_answer call))) n ≡ true
+      at None e = t
+      at (Some call) e =
+          let c = found_call w who call e in
+          let g = give_gives w who call (late_answer call) in
+          subst (λ cs. timed (if_some (find (is_coroutine n) cs) None (λ d. pending_call d.mode)) ≡ true) (sym g.coroutines) (set_timed w.coroutines who n (modes.Fresh (word_of call) g.answer) c.0 refl c.1 t)
 
   -- who has a passed deadline has one
   pub passed_timed : (w : World V) → IsInOrder w → list_all (is_timed w) (passed w) ≡ true
@@ -156,22 +136,27 @@ module _ {V : Type 0} where
 
   -- ---- the steps
 
-  order_queued : (w : World V) (ready : List ℕ) (early : ℕ) → IsInOrder w → IsInOrder (queued w ready early).world
-  order_queued w ready early o = order_lined w o
+  order_queued : (w : World V) (ready : List ℕ) (early : ℕ) → IsOrderly w → IsOrderly (queued w ready early).world
+  order_queued w ready early g = record {
+    order = order_lined w g.order;
+    sockets = all_map (is_socketed w.handles) lined w.coroutines (λ c f. ap (λ o. if_some o true (λ call. if is_on_stack (word_of call) then if_some (named_by call) true (is_no_bundle w.handles) else true)) (lined_pending c.mode) ∙ f) g.sockets;
+    waits = all_follow (waits_well w.coroutines) (waits_well (map lined w.coroutines)) w.channels.waits
+        (λ x f. map_at lined (λ c. refl) is_meeting (λ c. ap (λ o. if_some o false (λ call. is_channel (word_of call))) (lined_pending c.mode)) w.coroutines x.who ∙ f) g.waits;
+  }
 
-  pub order_root_closed : (w : World V) → IsInOrder w → IsInOrder (root_closed w)
-  order_root_closed w o =
-      let closed = order_closed w 0 o in
-      order_anyway (record w { scopes = scopes.close w.scopes 0 }) w.channels w.links at_start [] w.random w.moment [] closed
+  pub order_root_closed : (w : World V) → IsOrderly w → IsOrderly (root_closed w)
+  order_root_closed w g = record {
+    order = order_anyway (record w { scopes = scopes.close w.scopes 0 }) w.channels w.links at_start [] w.random w.moment [] (order_closed w 0 g.order);
+    sockets = g.sockets;
+    waits = g.waits;
+  }
 
-  order_heated : (ready : List Ready) (w : World V) → IsInOrder w → IsInOrder (fold heat_ready w ready)
-  order_heated [] w o = o
-  order_heated (x ∷ xs) w o = order_heated xs (heat_ready w x) (order_anyway w w.channels (heat_ready w x).links w.place w.wrote w.random w.moment w.notes o)
-
-  order_woke : (k : Kept V) (told : ℕ) (ready : List Ready) → IsInOrder k.world → IsInOrder (kept_woke k told ready).world
-  order_woke k told ready o =
+  order_woke : (k : Kept V) (told : ℕ) (ready : List Ready) → IsOrderly k.world → IsOrderly (kept_woke k told ready).world
+  order_woke k told ready g =
+      let begun = begins k.world g in
       let heated = fold heat_ready (begin k.world) ready in
-      order_anyway heated heated.channels heated.links at_start [] heated.random (max k.world.moment told) heated.notes (order_heated ready (begin k.world) (order_begin k.world o))
+      let h = does_good (begin k.world) heated begun (besides (begin k.world) heated (heat_all_besides ready (begin k.world)) begun.order) in
+      record { order = order_anyway heated heated.channels heated.links at_start [] heated.random (max k.world.moment told) heated.notes h.order; sockets = h.sockets; waits = h.waits }
 
   order_opening : (view : V) → IsInOrder (opening_kept view).world
   order_opening view = record {
@@ -194,60 +179,61 @@ module _ {V : Type 0} where
     endings = refl;
   }
 
-module _ {V : Type 0} (p : Program V) (law : IsLawful p) (plainly : MakesPlain p) where
-  well : KeepsWell p
-  well = steps_keep_well p law
-
-  stays : KeepsPlain p
-  stays = steps_keep_plain p law plainly
-
-  turned : (k : Kept V) (lack : Option LackPlace) → IsWell p k → IsPlain k.world → IsInOrder k.world → IsInOrder (kept_turn p lack k).world
-  turned k lack w plain o = at k.ready refl
+module _ {V : Type 0} (p : Program V) (law : IsLawful p) where
+  turned : (k : Kept V) (lack : Option LackPlace) → IsWell p k → IsOrderly k.world → IsOrderly (kept_turn p lack k).world
+  turned k lack w g = at k.ready refl
     where
-      at : (ready : List ℕ) → k.ready ≡ ready → IsInOrder (turn_first p lack k ready).world
-      at [] e = o
+      at : (ready : List ℕ) → k.ready ≡ ready → IsOrderly (turn_first p lack k ready).world
+      at [] e = g
       at (who ∷ rest) e =
-          let m = well.first k who rest w e in
-          let moves : MovesPlain (move_of p k.world who m.one.body) = plainly m.one.body (answer_given k.world who).1 m.real m.some in
-          order_queued (turn p lack k.world who) rest (k.early - 1) (order_turn p lack k.world who m.one plain o m.found m.answered moves)
+          let m = (steps_keep_well p law).first k who rest w e in
+          order_queued (turn p lack k.world who) rest (k.early - 1) (turn_goes p lack k.world who m.one g m.found m.answered).good
 
-  expires : (k : Kept V) (who : ℕ) → IsWell p k → IsPlain k.world → IsInOrder k.world → is_timed k.world who ≡ true → IsInOrder (kept_expire_next k who).world
-  expires k who w plain o d = order_queued (expire_one k.world who) k.ready k.early (order_expire_one k.world who plain o d)
+module _ {V : Type 0} where
+  hears : (k : Kept V) (said : Option KernelReply) → IsOrderly k.world → ((x : Try) (who : ℕ) → next_try k.world ≡ Some x → heard_of k.world x.number x.ask ≡ Some who → HasKept k.world who) → IsOrderly (kept_hear k said).world
+  hears k said g m = at (next_try k.world) refl
+    where
+      at : (o : Option Try) → next_try k.world ≡ o → IsOrderly (if_some o k (λ x. queued (settle (heard (begin k.world) x said)) k.ready k.early)).world
+      at None e = g
+      at (Some x) e = order_queued (settle (heard (begin k.world) x said)) k.ready k.early (hear_goes (begin k.world) x said (begins k.world g) (λ who f. m x who e f)).good
 
-  settled : (k : Kept V) → IsWell p k → IsPlain k.world → IsInOrder k.world → IsInOrder (queued (settle k.world) k.ready k.early).world
-  settled k w plain o = order_queued (settle k.world) k.ready k.early (order_settle k.world plain o)
+  expires : (k : Kept V) (who : ℕ) → IsOrderly k.world → is_timed k.world who ≡ true → IsOrderly (kept_expire_next k who).world
+  expires k who g d = order_queued (expire_one k.world who) k.ready k.early (expire_good k.world who g d).good
 
-  -- what an expiry keeps
-  record Keeps (k : Kept V) : Type 0 where
-    well : IsWell p k
-    plain : IsPlain k.world
-    order : IsInOrder k.world
+  settled : (k : Kept V) → IsOrderly k.world → IsOrderly (queued (settle k.world) k.ready k.early).world
+  settled k g = order_queued (settle k.world) k.ready k.early (settle_goes k.world g).good
 
-  expire_all : (xs : List ℕ) (k : Kept V) → Keeps k → list_all (is_timed k.world) xs ≡ true → Keeps (fold kept_expire_next k xs)
-  expire_all [] k h t = h
-  expire_all (x ∷ xs) k h t =
+  expire_all : (xs : List ℕ) (k : Kept V) → IsOrderly k.world → list_all (is_timed k.world) xs ≡ true → IsOrderly (fold kept_expire_next k xs).world
+  expire_all [] k g t = g
+  expire_all (x ∷ xs) k g t =
       let b = and_parts (is_timed k.world x) (list_all (is_timed k.world) xs) t in
       let next = kept_expire_next k x in
-      expire_all xs next (record { well = well.expires k x h.well; plain = stays.expires k x h.plain; order = expires k x h.well h.plain h.order b.0 })
-      (all_follow (is_timed k.world) (is_timed next.world) xs (λ n e. ap timed (calls_lined (expire_one k.world x).coroutines n) ∙ expire_timed k.world x n h.plain b.0 e) b.1)
+      expire_all xs next (expires k x g b.0)
+      (all_follow (is_timed k.world) (is_timed next.world) xs (λ n e. ap timed (calls_lined (expire_one k.world x).coroutines n) ∙ expire_timed k.world x n e) b.1)
 
-  expired : (k : Kept V) → IsWell p k → IsPlain k.world → IsInOrder k.world → IsInOrder (kept_expired k).world
-  expired k w plain o =
-      let from = record k { world = begin k.world } in
-      let late = expire_all (passed k.world) from (record { well = well.started k w; plain = begin_plain k.world plain; order = order_begin k.world o }) (passed_timed k.world o) in
-      settled (kept_late k) late.well late.plain late.order
+  expired : (k : Kept V) → IsOrderly k.world → IsOrderly (kept_expired k).world
+  expired k g = settled (kept_late k) (expire_all (passed k.world) (record k { world = begin k.world }) (begins k.world g) (passed_timed k.world g.order))
 
-  shut : (k : Kept V) → IsWell p k → IsPlain k.world → IsInOrder k.world → IsInOrder (kept_shut k).world
-  shut k w plain o = order_queued (settle (root_closed k.world)) k.ready (length k.ready) (order_settle (root_closed k.world) (closed_plain k.world plain) (order_root_closed k.world o))
+  shut : (k : Kept V) → IsOrderly k.world → IsOrderly (kept_shut k).world
+  shut k g = order_queued (settle (root_closed k.world)) k.ready (length k.ready) (settle_goes (root_closed k.world) (order_root_closed k.world g)).good
 
 pub steps_keep_order : {V : Type 0} (p : Program V) → StepsKeepOrder p
-steps_keep_order p law plainly = record {
-  opening = order_opening;
-  turned = turned p law plainly;
-  started = λ k o. order_begin k.world o;
-  expires = expires p law plainly;
-  settled = settled p law plainly;
-  expired = expired p law plainly;
-  shut = shut p law plainly;
+steps_keep_order p law = record {
+  opening = λ view. record { order = order_opening view; sockets = refl; waits = refl };
+  turned = turned p law;
+  hears = hears;
+  started = λ k g. begins k.world g;
+  expires = expires;
+  settled = settled;
+  expired = expired;
+  shut = shut;
   woke = order_woke;
+}
+
+pub steps_note_numbers : {V : Type 0} (p : Program V) → NotesNumbers p
+steps_note_numbers p = record {
+  turned = λ lack w who c g e a. notes_each (begin w) (turn p lack w who) (turn_goes p lack w who c g e a);
+  heard = λ w x said g m. notes_each w (settle (heard w x said)) (hear_goes w x said g m);
+  expired = λ w who g d. notes_each w (expire_one w who) (expire_good w who g d);
+  settled = λ w g. notes_each w (settle w) (settle_goes w g);
 }

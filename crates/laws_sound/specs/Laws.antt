@@ -1,24 +1,30 @@
 -- Laws of worlds in order: each step keeps them so, and where a bundle is closing somebody inside it has an answer.
-use Rattle.std.specs.Prelude.{◌≡◌, ℕ, List, Bool, true, false, Option, None, find, is_some}
+use Rattle.std.specs.Prelude.{◌≡◌, ℕ, List, Bool, true, false, Option, Some, None, find, is_some}
 use Rattle.std.specs.List.{list_all}
 use Rattle.dill_calls.specs.declared.ran.LackPlace.{LackPlace}
 use Rattle.dill_calls.specs.Program.{Program, IsLawful}
 use Rattle.dill_plain.specs.Plain.{MakesPlain}
 use Rattle.dill_kernel.specs.declared.ready.Ready.{Ready}
+use Rattle.dill_kernel.specs.declared.replies.KernelReply.{KernelReply}
 use Rattle.dill_scope.specs.Scopes.{Scopes, is_bundle, is_empty}
 use Rattle.dill_scope.specs.Forest.{Inside}
 use Rattle.dill_base.specs.Maps.{if_some}
+use Rattle.dill_rules.specs.declared.coroutine.Coroutine.{Coroutine}
 use Rattle.dill_rules.specs.declared.coroutine.Mode.{Mode}
 use Rattle.dill_rules.specs.declared.coroutine.Mode.TheVariants as modes
 use Rattle.dill_rules.specs.Laws.{IsSound}
 use Rattle.dill_rules.specs.Settling.{settle, IsSettled}
 use Rattle.dill_rules.specs.Taking.{is_cancelled}
-use Rattle.dill_rules.specs.Expiring.{due_of}
-use Rattle.dill_rules.specs.World.{World, begin, call_of, is_answered}
-use Rattle.laws_queue.specs.Kept.{Kept, has_answer, opening_kept, queued, kept_turn, kept_expire_next, kept_expired, kept_shut, kept_woke}
+use Rattle.dill_rules.specs.Expiring.{due_of, expire_one}
+use Rattle.dill_rules.specs.Hearing.{heard}
+use Rattle.dill_rules.specs.Trying.{Try, next_try}
+use Rattle.dill_rules.specs.Turning.{turn}
+use Rattle.dill_rules.specs.World.{World, begin, call_of, coroutine_of, is_answered}
+use Rattle.laws_queue.specs.Kept.{Kept, has_answer, opening_kept, queued, kept_turn, kept_hear, kept_expire_next, kept_expired, kept_shut, kept_woke}
 use Rattle.laws_sound.specs.Plain.{IsPlain}
 use Rattle.laws_queue.specs.Well.{occurs, is_at, IsWell}
 use Rattle.laws_sound.specs.Order.{is_there, IsInOrder}
+use Rattle.laws_sound.specs.Orderly.{IsOrderly, heard_of, HasKept, NotesOnce}
 
 -- the closing of a bundle has begun
 abbrev pub is_closing : Scopes → ℕ → Bool
@@ -43,24 +49,32 @@ pub record IsBetweenSteps {V : Type 0} (w : World V) : Type 0 where
 abbrev pub is_timed : {V : Type 0} → World V → ℕ → Bool
 is_timed w who = if_some (call_of w who) true (λ call. is_some (due_of call))
 
--- so it is of programs that make plain calls
+-- so it is of programs that keep their law, whatever they call; a reply of the kernel gives a handle only where a number is kept for it
 pub record KeepsOrder {V : Type 0} (p : Program V) : Type 0 where
-  pub opening : (view : V) → IsInOrder (opening_kept view).world
-  pub turned : (k : Kept V) (lack : Option LackPlace) → IsWell p k → IsPlain k.world → IsInOrder k.world → IsInOrder (kept_turn p lack k).world
-  pub started : (k : Kept V) → IsInOrder k.world → IsInOrder (begin k.world)
-  pub expires : (k : Kept V) (who : ℕ) → IsWell p k → IsPlain k.world → IsInOrder k.world → is_timed k.world who ≡ true → IsInOrder (kept_expire_next k who).world
-  pub settled : (k : Kept V) → IsWell p k → IsPlain k.world → IsInOrder k.world → IsInOrder (queued (settle k.world) k.ready k.early).world
-  pub expired : (k : Kept V) → IsWell p k → IsPlain k.world → IsInOrder k.world → IsInOrder (kept_expired k).world
-  pub shut : (k : Kept V) → IsWell p k → IsPlain k.world → IsInOrder k.world → IsInOrder (kept_shut k).world
-  pub woke : (k : Kept V) (told : ℕ) (ready : List Ready) → IsInOrder k.world → IsInOrder (kept_woke k told ready).world
+  pub opening : (view : V) → IsOrderly (opening_kept view).world
+  pub turned : (k : Kept V) (lack : Option LackPlace) → IsWell p k → IsOrderly k.world → IsOrderly (kept_turn p lack k).world
+  pub hears : (k : Kept V) (said : Option KernelReply) → IsOrderly k.world → ((x : Try) (who : ℕ) → next_try k.world ≡ Some x → heard_of k.world x.number x.ask ≡ Some who → HasKept k.world who) → IsOrderly (kept_hear k said).world
+  pub started : (k : Kept V) → IsOrderly k.world → IsOrderly (begin k.world)
+  pub expires : (k : Kept V) (who : ℕ) → IsOrderly k.world → is_timed k.world who ≡ true → IsOrderly (kept_expire_next k who).world
+  pub settled : (k : Kept V) → IsOrderly k.world → IsOrderly (queued (settle k.world) k.ready k.early).world
+  pub expired : (k : Kept V) → IsOrderly k.world → IsOrderly (kept_expired k).world
+  pub shut : (k : Kept V) → IsOrderly k.world → IsOrderly (kept_shut k).world
+  pub woke : (k : Kept V) (told : ℕ) (ready : List Ready) → IsOrderly k.world → IsOrderly (kept_woke k told ready).world
 
 abbrev pub StepsKeepOrder : {V : Type 0} → Program V → Type 0
-StepsKeepOrder p = IsLawful p → MakesPlain p → KeepsOrder p
+StepsKeepOrder p = IsLawful p → KeepsOrder p
+
+-- so each step leaves each number that was given live, of a closing, or noted as dead, once
+pub record NotesNumbers {V : Type 0} (p : Program V) : Type 0 where
+  pub turned : (lack : Option LackPlace) (w : World V) (who : ℕ) (c : Coroutine V) → IsOrderly w → coroutine_of w who ≡ Some c → is_answered c.mode ≡ true → NotesOnce (begin w) (turn p lack w who)
+  pub heard : (w : World V) (x : Try) (said : Option KernelReply) → IsOrderly w → ((who : ℕ) → heard_of w x.number x.ask ≡ Some who → HasKept w who) → NotesOnce w (settle (heard w x said))
+  pub expired : (w : World V) (who : ℕ) → IsOrderly w → is_timed w who ≡ true → NotesOnce w (expire_one w who)
+  pub settled : (w : World V) → IsOrderly w → NotesOnce w (settle w)
 
 -- so each step leads from rest to rest; after an expiry something may be due until the world settles
 pub record KeepsRest {V : Type 0} (p : Program V) : Type 0 where
   pub opening : (view : V) → IsBetweenSteps (opening_kept view).world
-  pub turned : (k : Kept V) (lack : Option LackPlace) → IsWell p k → IsPlain k.world → IsInOrder k.world → IsBetweenSteps k.world → IsBetweenSteps (kept_turn p lack k).world
+  pub turned : (k : Kept V) (lack : Option LackPlace) → IsWell p k → IsPlain k.world → IsOrderly k.world → IsBetweenSteps k.world → IsBetweenSteps (kept_turn p lack k).world
   pub started : (k : Kept V) → IsWell p k → IsPlain k.world → IsBetweenSteps k.world → IsBetweenSteps (begin k.world)
   pub expires : (k : Kept V) (who : ℕ) → IsWell p k → IsPlain k.world → IsAtRest k.world → IsAtRest (kept_expire_next k who).world
   pub settled : (k : Kept V) → IsWell p k → IsPlain k.world → IsAtRest k.world → IsBetweenSteps (queued (settle k.world) k.ready k.early).world

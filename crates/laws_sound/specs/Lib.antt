@@ -1,4 +1,5 @@
 pub mod Plain
 pub mod PlainLaws
 pub mod Order
+pub mod Orderly
 pub mod Laws

@@ -1,5 +1,5 @@
 ghost use Rattle.laws_sound.specs.PlainLaws.{KeepsPlain, FollowsPlainly, SettlesPlainly};
-ghost use Rattle.laws_sound.specs.Laws.{KeepsOrder, KeepsRest, OrderIsSound, CancelsAll, GoesOn, RootGoesOn, BundleGoesOn};
+ghost use Rattle.laws_sound.specs.Laws.{KeepsOrder, NotesNumbers, KeepsRest, OrderIsSound, CancelsAll, GoesOn, RootGoesOn, BundleGoesOn};
 
 use dill_calls::Body;
 use dill_plain::PlainBody;
@@ -45,9 +45,15 @@ pub fn bundle_goes_on<B: PlainBody>()
     ensures { BundleGoesOn B.means }
 {}
 
-/// Each step of programs that make plain calls keeps what a core keeps in order.
-pub fn steps_keep_order<B: PlainBody>()
+/// Each step keeps what a core keeps in order, whatever is called; a reply of the kernel does so where a number is kept for
+/// whom it gives a handle.
+pub fn steps_keep_order<B: Body>()
     ensures { KeepsOrder B.means }
+{}
+
+/// In each step each number that was given is live, of a closing, or noted as dead, exactly one of these and once.
+pub fn steps_note_numbers<B: Body>()
+    ensures { NotesNumbers B.means }
 {}
 
 /// Each step of programs that make plain calls leads from rest to rest: nobody is making a call, whoever was answered is

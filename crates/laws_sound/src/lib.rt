@@ -1,9 +1,10 @@
-//! That the worlds of plain programs stay in order, and that what is closing goes on. Definitions and laws; it holds no code.
+//! That worlds stay in order, whatever is called; and of those without channels and links, that they stay so and that what
+//! is closing goes on. Definitions and laws; it holds no code.
 #![tactic(auto)]
 
 mod laws;
 
 pub use laws::{
     all_cancelled, bundle_goes_on, closing_goes_on, follows_plainly, order_is_sound, root_goes_on,
-    settles_plainly, steps_keep_order, steps_keep_plain, steps_keep_rest,
+    settles_plainly, steps_keep_order, steps_keep_plain, steps_keep_rest, steps_note_numbers,
 };

@@ -10,6 +10,6 @@ use Rattle.dill_core.proofs.crew.Core.first_passed.Goals as goal
 pub returns-clause-timed : goal.returns-clause-timed
 returns-clause-timed g c =
     let w = world_of c.self.inside.world in
-    let first = first_all (is_timed w) (passed w) (passed_timed w c.self.invariant.stable.order) in
+    let first = first_all (is_timed w) (passed w) (passed_timed w c.self.invariant.stable.order.order) in
     subst (λ (h : Holding g.row.B.Denot). IfSome c.first_passed.result (λ who. is_timed (world_of h.world) who ≡ true)) c.self.view_is
     (subst (λ (o : Option ℕ). IfSome o (λ who. is_timed w who ≡ true)) (sym c.first_passed.ensures) first)
