@@ -17,6 +17,8 @@ mod http;
 #[cfg(test)]
 mod kernel;
 #[cfg(test)]
+mod pollset;
+#[cfg(test)]
 mod runs;
 #[cfg(test)]
 mod scope;
