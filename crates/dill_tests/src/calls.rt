@@ -56,19 +56,30 @@ const TABLE: [(Word, &[u8], &[u8]); 49] = [
     (Word::Start, b"start", b"N"),
 ];
 
+/// Whether it blocks, makes, takes and gives up, by their letters, and whether it draws a number.
+fn classes_of(word: Word, letters: &[u8]) -> [bool; 5] {
+    let makes = letters.contains(&b'M');
+    [
+        letters.contains(&b'B'),
+        makes,
+        letters.contains(&b'T'),
+        letters.contains(&b'G'),
+        makes || word == Word::Hown,
+    ]
+}
+
 #[test]
 fn each_word_has_its_name_and_its_classes(rt: HostRuntime) {
     for (word, name, letters) in TABLE {
-        assert_eq!(rt; word.name(), name, "{word:?}");
-        assert_eq!(rt; word.blocks(), letters.contains(&b'B'), "{word:?}");
-        assert_eq!(rt; word.makes(), letters.contains(&b'M'), "{word:?}");
-        assert_eq!(rt; word.takes(), letters.contains(&b'T'), "{word:?}");
-        assert_eq!(rt; word.gives_up(), letters.contains(&b'G'), "{word:?}");
-        assert_eq!(rt;
+        assert_eq!(rt; word.name(), name);
+        let told = [
+            word.blocks(),
+            word.makes(),
+            word.takes(),
+            word.gives_up(),
             word.draws(),
-            letters.contains(&b'M') || word == Word::Hown,
-            "{word:?}"
-        );
+        ];
+        assert_eq!(rt; told, classes_of(word, letters), "{word:?}");
     }
     assert!(rt; !Word::Start.is_quiet() && Word::Hclose.is_quiet() && Word::TcpClose.is_quiet());
     assert!(rt;

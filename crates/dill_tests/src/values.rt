@@ -4,7 +4,10 @@ use std::test::Fail;
 
 /// What was made, where memory was there for it.
 pub fn memory<T>(made: Result<T, NoMemory>) -> Result<T, Fail> {
-    made.map_err(|_| Fail::from("memory"))
+    match made {
+        Ok(made) => Ok(made),
+        Err(_) => Err(Fail::from("memory")),
+    }
 }
 
 pub fn octets(alloc: Global, bytes: &[u8]) -> Result<Octets, Fail> {

@@ -12,7 +12,10 @@ fn a_stream_carries_bytes_both_ways_and_ends(rt: HostRuntime) -> Result<(), Fail
         (Ask::Connect(2), "Ok(())"),
         (Ask::Connect(3), "Err(Refused)"),
         (Ask::Finish(2), "Done"),
-        (Ask::Wait(Limit::Until(9)), "Ok(0) 1 Ready { link: 1, read: true, write: false }"),
+        (
+            Ask::Wait(Limit::Until(9)),
+            "Ok(0) 1 Ready { link: 1, read: true, write: false }"
+        ),
         (Ask::Wait(Limit::Until(9)), "Ok(9)"),
         (Ask::Accept(1, 3), "Made"),
         (Ask::Accept(1, 4), "NotYet"),
@@ -25,7 +28,10 @@ fn a_stream_carries_bytes_both_ways_and_ends(rt: HostRuntime) -> Result<(), Fail
         (Ask::Read(3, 1), "End [0]"),
         (Ask::Write(3, b"back"), "Moved(4)"),
         (Ask::Close(3), "closed"),
-        (Ask::Wait(Limit::NoWait), "Ok(9) 1 Ready { link: 2, read: true, write: true }"),
+        (
+            Ask::Wait(Limit::NoWait),
+            "Ok(9) 1 Ready { link: 2, read: true, write: true }"
+        ),
         (Ask::Read(2, 4), "Moved(3) [98, 97, 99, 0]"),
         (Ask::Close(1), "closed"),
         (Ask::Close(2), "closed"),
@@ -38,7 +44,9 @@ fn a_stream_carries_bytes_both_ways_and_ends(rt: HostRuntime) -> Result<(), Fail
 
 /// How many bytes an answer says that moved, none of another answer.
 fn moved(told: &str) -> u64 {
-    let count = told.strip_prefix("Moved(").and_then(|rest| rest.strip_suffix(")"));
+    let count = told
+        .strip_prefix("Moved(")
+        .and_then(|rest| rest.strip_suffix(")"));
     match count {
         Some(count) => count.parse::<u64>().unwrap_or(0),
         None => 0,
@@ -75,15 +83,26 @@ fn a_direction_holds_as_much_as_it_may_however_it_is_cut(rt: HostRuntime) -> Res
 fn closing_a_listener_resets_those_that_wait(rt: HostRuntime) -> Result<(), Fail> {
     let alloc = rt.alloc();
     let mut kernel = LoopKernel::new(alloc, 4096)?;
-    plays(&rt, alloc, &mut kernel, vec![in alloc; (Ask::Listen(1, 4096), "Ok(())")]?)?;
+    plays(
+        &rt,
+        alloc,
+        &mut kernel,
+        vec![in alloc; (Ask::Listen(1, 4096), "Ok(())")]?,
+    )?;
     for link in 2..302u64 {
         let told = shown(alloc, &mut kernel, Ask::Connect(link))?;
         assert_eq!(rt; told.as_str(), "Ok(())");
     }
     let table = vec![in alloc;
         (Ask::Close(1), "closed"),
-        (Ask::Wait(Limit::NoWait), "Ok(0) 256 Ready { link: 2, read: true, write: true }"),
-        (Ask::Wait(Limit::NoWait), "Ok(0) 44 Ready { link: 258, read: true, write: true }"),
+        (
+            Ask::Wait(Limit::NoWait),
+            "Ok(0) 256 Ready { link: 2, read: true, write: true }"
+        ),
+        (
+            Ask::Wait(Limit::NoWait),
+            "Ok(0) 44 Ready { link: 258, read: true, write: true }"
+        ),
         (Ask::Write(2, b"x"), "Failed(Reset)"),
         (Ask::Connect(1), "Err(Refused)"),
     ]?;

@@ -27,12 +27,18 @@ fn a_replay_answers_each_call_from_its_list_and_keeps_what_it_was_asked(
     ]?;
     let mut kernel = ReplayKernel::new(alloc, replies);
     let table = vec![in alloc;
-        (Ask::Wait(Limit::NoWait), "Ok(5) 1 Ready { link: 7, read: true, write: false }"),
+        (
+            Ask::Wait(Limit::NoWait),
+            "Ok(5) 1 Ready { link: 7, read: true, write: false }"
+        ),
         (Ask::Listen(1, 16), "Ok(())"),
         (Ask::Connect(7), "Ok(())"),
         (Ask::Finish(7), "NotYet"),
         (Ask::Accept(1, 8), "Made"),
-        (Ask::Read(7, 8), "Moved(5) [104, 101, 108, 108, 111, 0, 0, 0]"),
+        (
+            Ask::Read(7, 8),
+            "Moved(5) [104, 101, 108, 108, 111, 0, 0, 0]"
+        ),
         (Ask::Write(7, b"hi"), "Moved(2)"),
         (Ask::Close(8), "closed"),
         (Ask::Shut(7), "Ok(())"),
