@@ -10,7 +10,7 @@ mod terminal;
 mod worked;
 
 pub use laws::{prefix_laws, suffix_laws, term_laws};
-pub use prefix::{PrefixForm, prefix_fits, prefix_read, prefix_write};
+pub use prefix::{PrefixForm, length_digits, prefix_fits, prefix_read, prefix_write};
 pub use suffix::{suffix_fits, suffix_read, suffix_write};
 pub use terminal::is_terminal;
 pub use worked::rows;

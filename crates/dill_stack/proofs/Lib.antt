@@ -14,3 +14,9 @@ pub mod PassedBehind
 pub mod PassedParts
 pub mod Passings
 pub mod Spellings
+pub mod Attaches
+pub mod Queues
+pub mod Endings
+pub mod Sends
+pub mod TowerReads
+pub mod Towers

@@ -1,33 +1,18 @@
 -- What contracts see of a stack: a link with what came on it, what is to be sent, and the layers.
 use Rattle.std.specs.Prelude.{ℕ, List, [], ◌++◌, Bool, true, false, ◌||◌, length, drop}
 use Rattle.dill_stack.specs.declared.layer.Top.{Top}
-use Rattle.dill_stack.specs.Layers.{Place, Placed, top_of}
-
--- A direction of the link, which is whole where it is neither done nor broken. What the link sends is done from the call that ends it, unless that is taken back; what it receives is done where the peer has ended.
-pub record Direction : Type 0 where
-  pub done : Bool
-  pub broken : Bool
-
--- What is taken back where an item is given up before a byte of it has gone: nothing, that the top layer's end was sent, or that the head's place moved from here. A pong is no call's, and is not given up.
-pub data Origin : Type 0 where
-  Plain : Origin
-  Ending : Origin
-  Line : Place → Origin
-  Pong : Origin
+use Rattle.dill_stack.specs.Layers.{Placed, top_of}
+pub use Rattle.dill_stack.specs.declared.direction.Direction.{Direction}
+pub use Rattle.dill_stack.specs.declared.origin.Origin.{Origin}
+pub use Rattle.dill_stack.specs.declared.origin.Origin.TheVariants.{Plain, Ending, Line, Pong}
+pub use Rattle.dill_stack.specs.declared.task.Task.{Task}
+pub use Rattle.dill_stack.specs.declared.task.Task.TheVariants.{Idle, Greets, Expects, Answers, Leaves}
 
 -- what is to be sent whole, and how many of its bytes have gone
 pub record Item : Type 0 where
   pub bytes : List ℕ
   pub gone : ℕ
   pub origin : Origin
-
--- A call that goes on over several steps: a client's handshake, which expects this accept value, a server's before and after the client's head has come, or a detach.
-pub data Task : Type 0 where
-  Idle : Task
-  Greets : (accept : List ℕ) → Task
-  Expects : Task
-  Answers : Task
-  Leaves : Task
 
 -- the whole stack, but for the memory that it has reserved
 pub record Held : Type 0 where

@@ -26,3 +26,8 @@ pub mod WsRows
 pub mod HandshakeRows
 pub mod CutRows
 pub mod PartingRows
+pub mod Refusing
+pub mod Rooms
+pub mod Standing
+pub mod Doing
+pub mod Taking

@@ -95,9 +95,13 @@ with_end layers random s = with_ending layers random s
 unfoldable pub done : Stream → Held → Result (Held × Stream) Errno
 done random s = unless (done_fault false s) (with_end s.layers random s)
 
+-- the first item of a call
+abbrev pub first_sent : List Item → Option Item
+first_sent queue = find (λ item. not (is_pong item)) queue
+
 -- the pending send's item
 abbrev pub pending_item : Held → Option Item
-pending_item s = find (λ item. not (is_pong item)) s.queue
+pending_item s = first_sent s.queue
 
 -- the top layer's end was not sent
 abbrev pub undone : List Placed → List Placed

@@ -20,7 +20,7 @@ mod side;
 mod worked;
 
 pub use accept::accept_of;
-pub use close::close_code;
+pub use close::{close_code, is_text, may_be_sent};
 pub use control::{Control, control_write};
 pub use frame::frame_write;
 pub use front::frame_front;

@@ -1,0 +1,54 @@
+-- What calls that may want memory, or are refused, do to a stack.
+use Rattle.std.specs.Prelude.{◌≡◌, ◌≤◌, ◌++◌, ℕ, List, [], ◌∷◌, Result, Ok, Err, IsOk}
+use Rattle.rand_core.specs.Stream.{Stream}
+use Rattle.dill_base.specs.declared.errno.Errno.{Errno}
+use Rattle.dill_frames.specs.Prefix.{prefix_spelling}
+use Rattle.dill_stack.specs.declared.fault.StackFault.{StackFault}
+use Rattle.dill_stack.specs.declared.fault.StackFault.TheVariants.{Refused, NoMemory}
+use Rattle.dill_stack.specs.Layers.{Placed, Prefix, Suffix, Term, Http, Ws}
+use Rattle.dill_stack.specs.Held.{Held}
+use Rattle.dill_stack.specs.Rooms.{Stocked}
+
+-- what is due is done, and no room is lost
+pub record IsDone (wanted : Result (Held × Stream) Errno) (before now : Stocked) (left : Stream) : Type 0 where
+  pub due : wanted ≡ Ok (now.held, left)
+  pub rest : now ≡ record before { held = now.held; sending = now.sending }
+  pub room : before.sending ≤ now.sending
+
+-- a refusal changes nothing
+pub record IsRefused (wanted : Result (Held × Stream) Errno) (e : Errno) (before now : Stocked) (random left : Stream) : Type 0 where
+  pub due : wanted ≡ Err e
+  pub same : now ≡ before
+  pub kept : left ≡ random
+
+-- Want of memory changes nothing, and comes only where nothing is refused.
+pub record IsLacking (wanted : Result (Held × Stream) Errno) (before now : Stocked) (random left : Stream) : Type 0 where
+  pub due : IsOk wanted
+  pub same : now ≡ before
+  pub kept : left ≡ random
+
+-- a call that sends
+abbrev pub Sends : Result (Held × Stream) Errno → Result (Unit {0}) StackFault → (before now : Stocked) → (random left : Stream) → Type 0
+Sends due (Ok done) before now random left = IsDone due before now left
+Sends due (Err (Refused e)) before now random left = IsRefused due e before now random left
+Sends due (Err NoMemory) before now random left = IsLacking due before now random left
+
+-- a call that draws no random numbers, as of a line or a new layer
+abbrev pub Changes : Result Held Errno → Result (Unit {0}) StackFault → (before now : Stocked) → Type 0
+Changes due (Ok done) before now = (due ≡ Ok now.held) × (now ≡ record before { held = now.held; sending = now.sending }) × (before.sending ≤ now.sending)
+Changes due (Err (Refused e)) before now = (due ≡ Err e) × (now ≡ before)
+Changes due (Err NoMemory) before now = IsOk due × (now ≡ before)
+
+-- a call that sends, where it takes no memory
+abbrev pub Ends : Result (Held × Stream) Errno → Result (Unit {0}) Errno → (before now : Stocked) → (random left : Stream) → Type 0
+Ends due (Ok done) before now random left = IsDone due before now left
+Ends due (Err e) before now random left = IsRefused due e before now random left
+
+-- a message in the framing of the layer on the link, where no layer refuses it
+abbrev pub on_link : List Placed → List ℕ → List ℕ
+on_link [] m = m
+on_link (Prefix form ∷ below) m = prefix_spelling form m
+on_link (Suffix end ∷ below) m = m ++ end
+on_link (Term term ∷ below) m = on_link below m
+on_link (Http http ∷ below) m = m
+on_link (Ws ws ∷ below) m = m

@@ -1,0 +1,225 @@
+ghost use Rattle.std.specs.Prelude.{◌≡◌, ◌≤◌, ◌<◌, length, true, None, OnOk, OnErr, IfSome};
+ghost use Rattle.dill_stack.specs.Needs.{need};
+ghost use Rattle.dill_stack.specs.declared.want.Want.TheVariants as want;
+ghost use Rattle.dill_stack.specs.Layers.{HasMessages};
+ghost use Rattle.dill_stack.specs.Read.{no_more};
+ghost use Rattle.dill_stack.specs.Receiving.{read, read_of, ws_of, broken_by};
+ghost use Rattle.dill_stack.specs.Standing.{FitsBase};
+ghost use Rattle.dill_stack.specs.Taking.{size_of, framing_of, Reserved, FitsTop, room_after, after, base_front, IsWithin, any_met, lowest, meet, taken};
+
+use crate::placed::{Base, TermLayer};
+use crate::stack::Stack;
+use crate::want::{ReadOut, Want};
+use dill_base::{Errno, Front, NoMemory};
+use dill_calls::Answer;
+use dill_frames::{is_terminal, prefix_read, suffix_read};
+use rand_core::Rng;
+
+/// The most bytes that one read of the link brings.
+const PIECE: usize = 4_096;
+
+/// The most bytes of a line, without its CRLF.
+const LINE_LIMIT: usize = 8_192;
+
+// What stands at the front for the layer on the link.
+fn front_on_link(base: &Base, bytes: &[u8], limit: usize) -> Front
+    requires { FitsBase base.now }
+    ensures front { result ≡ base_front base.now bytes.now limit }
+    ensures within { IsWithin limit bytes.now result }
+{
+    match base {
+        Base::Bytes => Front::Need,
+        Base::Prefix(form) => prefix_read(*form, bytes, limit),
+        Base::Suffix(end) => suffix_read(end.as_slice(), bytes, limit),
+        Base::Http(_) => Front::Need,
+    }
+}
+
+// The end of some layer was met.
+pub(crate) fn any_met(terms: &[TermLayer]) -> bool
+    ensures { result ≡ any_met terms.now }
+{
+    terms.iter().any(|term| term.met)
+}
+
+// The lowest layer of which this is the terminal message.
+fn lowest_of(terms: &[TermLayer], message: &[u8]) -> Option<usize>
+    ensures { result ≡ lowest terms.now message.now }
+{
+    let count = terms.len();
+    for back in 0..count {
+        let at = count - 1 - back;
+        if is_terminal(terms[at].terminal.as_slice(), message) {
+            return Some(at);
+        }
+    }
+    None
+}
+
+fn meet_at(terms: &mut Vec<TermLayer>, at: usize)
+    requires { at < length terms.old.items }
+    ensures { terms.new.items ≡ meet at terms.old.items }
+{
+    terms[at].met = true;
+}
+
+// What the framing of a message on the link takes besides it.
+fn framing(base: &Base) -> usize
+    ensures { result ≡ framing_of base.now }
+{
+    match base {
+        Base::Prefix(form) => form.size as usize,
+        Base::Suffix(end) => end.as_slice().len(),
+        _ => 0,
+    }
+}
+
+// The most bytes of an answer.
+fn answer_size(want: Want) -> usize
+    ensures { result ≡ size_of want }
+{
+    match want {
+        Want::Exact(size) => size,
+        Want::Message(limit) => limit,
+        _ => LINE_LIMIT,
+    }
+}
+
+impl Stack {
+    /// Makes room for what this receive may need, and for its answer. Refused, it may leave room, and nothing else.
+    pub fn reserve(&mut self, want: Want) -> Result<(), NoMemory>
+        ensures ok { OnOk result (Reserved want self.old self.new) }
+        ensures err { OnErr result ((self.new ≡ record self.old { unread = self.new.unread }) × (self.old.unread ≤ self.new.unread)) }
+    {
+        let Some(needed) = self.needed(want) else {
+            return Err(NoMemory);
+        };
+        let Some(room) = needed.checked_add(PIECE) else {
+            return Err(NoMemory);
+        };
+        self.unread.make_room(room)?;
+        self.answer.make_room(answer_size(want))
+    }
+
+    // How many unread bytes it may need.
+    fn needed(&self, want: Want) -> Option<usize>
+        ensures { IfSome result (λ n. n ≡ need want self.now.held) }
+    {
+        match want {
+            Want::Exact(size) => Some(size),
+            Want::Message(limit) => limit.checked_add(framing(&self.base)),
+            _ => Some(LINE_LIMIT + 2),
+        }
+    }
+
+    /// The answer to this receive, from all that is unread. It takes no memory.
+    pub fn read<R: Rng>(&mut self, want: Want, _keys: &mut R) -> ReadOut
+        requires reserved { size_of want ≤ self.old.answer }
+        requires fits { FitsTop want self.old.held.layers }
+        ensures said { result ≡ (read want (R.stream _keys.old) self.old.held).said }
+        ensures stack { self.new ≡ record self.old { held = (read want (R.stream _keys.old) self.old.held).stack; answer = room_after result self.old.answer } }
+        ensures random { R.stream _keys.new ≡ (read want (R.stream _keys.old) self.old.held).random }
+    {
+        self.look(want)
+    }
+
+    // The answer to this receive, which draws no random number.
+    fn look(&mut self, want: Want) -> ReadOut
+        requires reserved { size_of want ≤ self.old.answer }
+        requires fits { FitsTop want self.old.held.layers }
+        ensures said { result ≡ (read_of want self.old.held).said }
+        ensures after { self.new ≡ after (read_of want self.old.held) self.old }
+        ensures plain { ws_of self.old.held.layers ≡ None }
+    {
+        match want {
+            Want::Exact(count) => self.read_exactly(count),
+            Want::Message(limit) => self.read_message(limit),
+            _ => ReadOut::Need,
+        }
+    }
+
+    #[tactic(auto, using(crate::proofs::TowerReads::no_ws), unfolding(crate::specs::Read::read_list))]
+    fn read_exactly(&mut self, count: usize) -> ReadOut
+        requires { count ≤ self.old.answer }
+        ensures said { result ≡ (read_of (want.Exact count) self.old.held).said }
+        ensures after { self.new ≡ after (read_of (want.Exact count) self.old.held) self.old }
+        ensures plain { ws_of self.old.held.layers ≡ None }
+    {
+        if self.unread.as_slice().len() < count {
+            return if self.receiving.done {
+                ReadOut::Fault(Errno::Epipe)
+            } else {
+                ReadOut::Need
+            };
+        }
+        let given = self.answer.hand_out(&self.unread.as_slice()[..count]);
+        self.unread.use_up(count);
+        ReadOut::Given(Answer::Bytes(given))
+    }
+
+    #[tactic(auto, using(crate::proofs::TowerReads::no_ws))]
+    fn read_message(&mut self, limit: usize) -> ReadOut
+        requires reserved { limit ≤ self.old.answer }
+        requires fits { HasMessages self.old.held.layers }
+        ensures said { result ≡ (read_of (want.Message limit) self.old.held).said }
+        ensures after { self.new ≡ after (read_of (want.Message limit) self.old.held) self.old }
+        ensures plain { ws_of self.old.held.layers ≡ None }
+    {
+        if any_met(self.terms.as_slice()) {
+            return ReadOut::Fault(Errno::Epipe);
+        }
+        match front_on_link(&self.base, self.unread.as_slice(), limit) {
+            Front::Whole { from, to, used } => self.take_message(from, to, used),
+            Front::Need => self.nothing_whole(),
+            Front::Fault(e) => self.refuse(e),
+        }
+    }
+
+    // The whole message at the front is an end of a layer, or the answer.
+    fn take_message(&mut self, from: usize, to: usize, used: usize) -> ReadOut
+        requires { IsWithin self.old.answer self.old.held.unread (Front.Whole from to used) }
+        ensures said { result ≡ (taken from to used self.old.held).said }
+        ensures after { self.new ≡ after (taken from to used self.old.held) self.old }
+    {
+        let message = &self.unread.as_slice()[from..to];
+        match lowest_of(self.terms.as_slice(), message) {
+            Some(at) => {
+                meet_at(&mut self.terms, at);
+                self.unread.use_up(used);
+                ReadOut::Fault(Errno::Epipe)
+            }
+            None => {
+                let given = self.answer.hand_out(message);
+                self.unread.use_up(used);
+                ReadOut::Given(Answer::Bytes(given))
+            }
+        }
+    }
+
+    // Nothing whole is at the front.
+    fn nothing_whole(&mut self) -> ReadOut
+        ensures said { result ≡ no_more self.old.held.receiving.done true self.old.held.unread }
+        ensures after { self.new ≡ record self.old { held = broken_by result self.old.held } }
+    {
+        if !self.receiving.done {
+            return ReadOut::Need;
+        }
+        if self.unread.as_slice().is_empty() {
+            return ReadOut::Fault(Errno::Epipe);
+        }
+        self.refuse(Errno::Eproto)
+    }
+
+    // A refusal, which may break the receiving direction.
+    fn refuse(&mut self, e: Errno) -> ReadOut
+        ensures said { result ≡ ReadOut.Fault e }
+        ensures after { self.new ≡ record self.old { held = broken_by (ReadOut.Fault e) self.old.held } }
+    {
+        match e {
+            Errno::Eproto => self.receiving.broken = true,
+            Errno::Emsgsize => self.receiving.broken = true,
+            _ => {}
+        }
+        ReadOut::Fault(e)
+    }
+}

@@ -1,0 +1,190 @@
+ghost use Rattle.std.specs.Prelude.{◌≡◌, ◌+◌, ◌≤◌, ◌++◌, [], not, length, max, true, false, None, Ok, OnOk, OnErr, IfErr};
+ghost use Rattle.dill_stack.specs.declared.fault.StackFault.TheVariants.{NoMemory};
+ghost use Rattle.std.specs.List.{list_any};
+ghost use Rattle.rand_core.specs.Stream.{Stream};
+ghost use Rattle.dill_stack.specs.Held.{Plain};
+ghost use Rattle.dill_stack.specs.Layers.{AmongFields};
+ghost use Rattle.dill_stack.specs.Refusals.{send_fault};
+ghost use Rattle.dill_stack.specs.Doing.{Sends, Ends, Changes, on_link};
+ghost use Rattle.dill_stack.specs.Standing.{FitsBase, HasEnds, base_layers, ends_of, ending_of, done_top, undone_top};
+ghost use Rattle.dill_stack.specs.Sending.{is_sent, is_pong, done, with_end, frame, line as lined, queued, with_line, withdraw, reopened, taken_back};
+
+use crate::fault::StackFault;
+use crate::framing::{FRAMING, push_framed};
+use crate::layer::Top;
+use crate::origin::Origin;
+use crate::placed::{Base, Place, TermLayer};
+use crate::queue::Queue;
+use crate::stack::Stack;
+use dill_base::{Errno, Octets};
+use rand_core::Rng;
+
+impl Stack {
+    /// Queues a message in the framing of all layers, or bytes where no layer stands.
+    pub fn frame<R: Rng>(&mut self, message: &[u8], _keys: &mut R) -> Result<(), StackFault>
+        requires sent { is_sent self.old.held ≡ true }
+        ensures { Sends (frame message.now (R.stream _keys.old) self.old.held) result self.old self.new (R.stream _keys.old) (R.stream _keys.new) }
+    {
+        match self.send_fault(message, false) {
+            Some(e) => Err(StackFault::Refused(e)),
+            None => self.queue_message(message),
+        }
+    }
+
+    // Queues a message that isn't refused.
+    fn queue_message(&mut self, message: &[u8]) -> Result<(), StackFault>
+        requires sent { is_sent self.old.held ≡ true }
+        requires free { send_fault message.now false self.old.held ≡ None }
+        ensures due { (random : Stream) → frame message.now random self.old.held ≡ Ok (queued Plain (on_link self.old.held.layers message.now) self.old.held, random) }
+        ensures ok { OnOk result (self.new ≡ record self.old { held = queued Plain (on_link self.old.held.layers message.now) self.old.held; sending = max self.old.sending (length message.now + FRAMING) }) }
+        ensures err { OnErr result (self.new ≡ self.old) }
+        ensures memory { IfErr result (λ e. e ≡ NoMemory) }
+    {
+        match self.queue.make_room(message.len() + FRAMING) {
+            Ok(()) => {
+                push_framed(&mut self.queue, &self.base, Origin::Plain, message);
+                Ok(())
+            }
+            Err(_) => Err(StackFault::NoMemory),
+        }
+    }
+
+    /// Queues a first line, or a field. The line has its CRLF.
+    pub fn line(&mut self, first: bool, line: Octets) -> Result<(), StackFault>
+        requires sent { is_sent self.old.held ≡ true }
+        ensures { Changes (lined first line self.old.held) result self.old self.new }
+    {
+        match self.line_fault(first, false) {
+            Some(e) => Err(StackFault::Refused(e)),
+            None => self.queue_line(line.as_slice()),
+        }
+    }
+
+    // Queues a line that isn't refused.
+    fn queue_line(&mut self, line: &[u8]) -> Result<(), StackFault>
+        requires sent { is_sent self.old.held ≡ true }
+        ensures ok { OnOk result (self.new ≡ record self.old { held = with_line AmongFields line.now self.old.held; sending = max self.old.sending (length line.now) }) }
+        ensures err { OnErr result (self.new ≡ self.old) }
+        ensures memory { IfErr result (λ e. e ≡ NoMemory) }
+    {
+        match self.queue.make_room(line.len()) {
+            Ok(()) => {
+                self.push_line(line, Place::AmongFields);
+                Ok(())
+            }
+            Err(_) => Err(StackFault::NoMemory),
+        }
+    }
+
+    // Queues a line of a head, which stands at this place behind it. It takes no memory.
+    fn push_line(&mut self, line: &[u8], place: Place)
+        requires sent { is_sent self.old.held ≡ true }
+        requires room { length line.now ≤ self.old.sending }
+        ensures { self.new ≡ record self.old { held = with_line place line.now self.old.held } }
+    {
+        let before = self.base.sending_place();
+        self.queue.push(Origin::Line(before), &[], line);
+        self.base.set_place(place);
+    }
+
+    /// The end of the top layer, or of the link's direction where no layer stands on it. It takes no memory.
+    pub fn done<R: Rng>(&mut self, _keys: &mut R) -> Result<(), Errno>
+        requires sent { is_sent self.old.held ≡ true }
+        ensures { Ends (done (R.stream _keys.old) self.old.held) result self.old self.new (R.stream _keys.old) (R.stream _keys.new) }
+    {
+        match self.done_fault(false) {
+            Some(e) => Err(e),
+            None => {
+                self.queue_end();
+                Ok(())
+            }
+        }
+    }
+
+    // Queues the end of the top layer, if it has one, or marks the link's direction.
+    pub(crate) fn queue_end(&mut self)
+        requires sent { is_sent self.old.held ≡ true }
+        ensures due { (random : Stream) → with_end self.old.held.layers random self.old.held ≡ Ok (self.new.held, random) }
+        ensures rest { self.new ≡ record self.old { held = self.new.held } }
+    {
+        match self.terms.as_slice() {
+            [] => self.end_on_link(),
+            [_, ..] => push_ending(&mut self.queue, &self.base, &mut self.terms),
+        }
+    }
+
+    // The same where no end by a terminal message stands.
+    fn end_on_link(&mut self)
+        requires sent { is_sent self.old.held ≡ true }
+        requires bare { ends_of self.old.held.layers ≡ [] }
+        ensures due { (random : Stream) → with_end self.old.held.layers random self.old.held ≡ Ok (self.new.held, random) }
+        ensures rest { self.new ≡ record self.old { held = self.new.held } }
+    {
+        match self.base {
+            Base::Bytes => self.sending.done = true,
+            Base::Http(_) => self.push_line(b"\r\n", Place::BehindEmpty),
+            _ => {}
+        }
+    }
+
+    /// The pending send, or the pending end of a direction, is given up: where a byte of it has gone, the sending
+    /// direction is broken.
+    #[tactic(auto, unfolding(crate::specs::Sending::withdraw))]
+    pub fn withdraw(&mut self)
+        ensures { self.new ≡ record self.old { held = withdraw self.old.held } }
+    {
+        match self.queue.pending() {
+            None => self.reopen(),
+            Some(pending) if pending.gone == 0 => {
+                self.queue.give_up();
+                self.take_back(pending.origin);
+            }
+            Some(_) => self.break_off(),
+        }
+    }
+
+    // The end of the link's direction is taken back, where no layer stands on it.
+    fn reopen(&mut self)
+        ensures { self.new ≡ record self.old { held = reopened self.old.held.layers self.old.held } }
+    {
+        if self.top() == Top::Bytes {
+            self.sending.done = false;
+        }
+    }
+
+    // A send of this origin is taken back from the layers.
+    fn take_back(&mut self, origin: Origin)
+        ensures { self.new ≡ record self.old { held = record self.old.held { layers = taken_back origin self.old.held.layers } } }
+    {
+        match origin {
+            Origin::Plain => {}
+            Origin::Ending => undo(&mut self.terms),
+            Origin::Line(place) => self.base.set_place(place),
+            Origin::Pong => {}
+        }
+    }
+}
+
+// The terminal message of the top is queued in the framing of the layer on the link.
+fn push_ending(queue: &mut Queue, base: &Base, terms: &mut Vec<TermLayer>)
+    requires fits { FitsBase base.now }
+    requires ends { HasEnds terms.old.items (base_layers base.now) }
+    requires sent { not (list_any (λ item. not (is_pong item)) queue.old.items) ≡ true }
+    requires room { 2048 ≤ queue.old.room }
+    ensures queued { queue.new ≡ record queue.old { items = queue.old.items ++ ending_of (base_layers base.now) terms.old.items } }
+    ensures done { terms.new.items ≡ done_top terms.old.items }
+{
+    if let Some(term) = terms.first_mut() {
+        push_framed(queue, base, Origin::Ending, term.terminal.as_slice());
+        term.done = true;
+    }
+}
+
+// The top layer's end was not sent.
+fn undo(terms: &mut Vec<TermLayer>)
+    ensures { terms.new.items ≡ undone_top terms.old.items }
+{
+    if let Some(term) = terms.first_mut() {
+        term.done = false;
+    }
+}
