@@ -5,18 +5,16 @@ use Rattle.dill_base.specs.declared.errno.Errno.{Errno}
 use Rattle.dill_stack.specs.declared.placed.Base.{Base}
 use Rattle.dill_stack.specs.declared.placed.Base.TheVariants as base
 use Rattle.dill_stack.specs.Layers.{HttpLayer, TermLayer, Placed}
-use Rattle.dill_stack.specs.Held.{Held, Leaves, Idle}
+use Rattle.dill_stack.specs.Held.{Held, Leaves}
 use Rattle.dill_stack.specs.Composed.{composed}
 use Rattle.dill_stack.specs.Refusals.{done_fault}
 use Rattle.dill_stack.specs.Rooms.{Stocked}
 use Rattle.dill_stack.specs.Sending.{with_end, done, is_sent}
 use Rattle.dill_stack.specs.declared.parting.Parting.{Parting}
 use Rattle.dill_stack.specs.Parting.{parting_fault, with_parting, detach_start, detach_finish}
-use Rattle.dill_stack.specs.Dropping.{dropped}
-use Rattle.dill_calls.specs.declared.answer.Answer.TheVariants.{Number}
-use Rattle.dill_stack.specs.declared.want.ReadOut.TheVariants.{Need, Given}
+use Rattle.dill_stack.specs.declared.want.ReadOut.TheVariants.{Need}
 use Rattle.dill_stack.specs.Doing.{on_link}
-use Rattle.dill_stack.specs.Standing.{IsFraming, has_end_of, tower, base_layers, ends_of, ending_of, done_top, HasBase, HasEnds, IsTower}
+use Rattle.dill_stack.specs.Standing.{has_end_of, tower, base_layers, ends_of, ending_of, done_top, HasBase, HasEnds, IsTower}
 use Rattle.dill_stack.proofs.Sends.{composed_tower}
 use Rattle.dill_stack.proofs.Towers.{on_tower}
 
@@ -100,16 +98,3 @@ starts p random s h = rw h refl
 pub finish_waits : (random : Stream) (s : Held) → is_sent s ≡ false → detach_finish random s ≡ record { stack = s; said = Need; random = random }
 unfolding detach_finish
 finish_waits random s h = rw h refl
-
-pub no_ends : (ts : List TermLayer) (b : Base) → IsFraming (tower ts (base_layers b)) → ts ≡ []
-no_ends [] b f = refl
-no_ends (t ∷ ts) b f = absurd f
-
--- A framing is left at once.
-pub finish_tower : (ts : List TermLayer) (b : Base) (random : Stream) (s : Held) → s.layers ≡ tower ts (base_layers b) → IsFraming (tower ts (base_layers b)) → is_sent s ≡ true → detach_finish random s ≡ record { stack = record s { layers = []; task = Idle }; said = Given (Number 0); random = random }
-unfolding detach_finish dropped
-finish_tower [] base.Bytes random s e f h = absurd f
-finish_tower [] (base.Prefix form) random s e f h = rw (h, e) refl
-finish_tower [] (base.Suffix end) random s e f h = rw (h, e) refl
-finish_tower [] (base.Http http) random s e f h = absurd f
-finish_tower (t ∷ ts) b random s e f h = absurd f

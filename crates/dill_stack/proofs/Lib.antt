@@ -20,3 +20,5 @@ pub mod Endings
 pub mod Sends
 pub mod TowerReads
 pub mod Towers
+pub mod Drops
+pub mod HeadReads

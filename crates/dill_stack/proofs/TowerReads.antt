@@ -1,5 +1,5 @@
 -- What a receive reads through ends by terminal messages over the layer on the link.
-use Rattle.std.proofs.Common.{◌≡◌, ◌<◌, ◌≤◌, ◌+◌, ◌-◌, ◌∷◌, ◌||◌, [], List, ℕ, suc, zero, length, take, drop, get_or, arith, sym, ap, ◌∙◌, refl, Bool, true, false, bytes_eq, Option, Some, None, Err, if◌then◌else◌}
+use Rattle.std.proofs.Common.{◌≡◌, ◌<◌, ◌≤◌, ◌+◌, ◌-◌, ◌∷◌, ◌||◌, ◌&&◌, ◌==◌, [], List, ℕ, suc, zero, length, take, drop, get_or, arith, sym, ap, ◌∙◌, refl, Bool, true, false, bytes_eq, Option, Some, None, Err, if◌then◌else◌}
 use Rattle.std.proofs.lemmas.List.{drop_more, drop_all}
 use Rattle.std.proofs.Math.ListN.{set}
 use Rattle.std.proofs.Math.Dec.{eqb-suc-zero}
@@ -23,7 +23,7 @@ use Rattle.dill_stack.specs.Refusing.{fault_of}
 use Rattle.dill_stack.specs.Read.{Outcome, outcome, read_message, over_term, by_front, no_more}
 use Rattle.dill_stack.specs.Receiving.{ws_of, broken_by, read, read_of}
 use Rattle.dill_stack.specs.Standing.{tower, base_layers, HasBase, HasEnds, IsTower}
-use Rattle.dill_stack.specs.Taking.{any_met, lowest, found, meet, base_front, framing_of, over_layers, after, room_after}
+use Rattle.dill_stack.specs.Taking.{any_met, lowest, found, meet, base_front, framing_of, over_layers, after, room_after, second_after}
 use Rattle.dill_stack.specs.Needs.{message_need}
 
 pub meet_set : (ts : List TermLayer) (n : ℕ) (t : TermLayer) → n < length ts → set ts n (record (get_or ts n t) { met = true }) ≡ meet n ts
@@ -194,13 +194,21 @@ stack_meet n ts b room i = record { fits = i.fits; based = based_meet n ts b i.b
 pub stays_met : (s : Stocked) (o : Outcome) → o ≡ outcome 0 s.held.layers (Fault Epipe) → s ≡ after o s
 stays_met s o h = sym (ap (λ x. after x s) h)
 
-kept_room : (e : Bool) (u : List ℕ) (r : ReadOut) (n : ℕ) → r ≡ no_more e true u → room_after r n ≡ n
-kept_room false u r n h = ap (λ x. room_after x n) h
-kept_room true [] r n h = ap (λ x. room_after x n) h
-kept_room true (x ∷ u) r n h = ap (λ x. room_after x n) h ∙ rw (eqb-suc-zero (length u)) refl
+kept_if : (c : Bool) (n k : ℕ) → (room_after (if c then Fault Epipe else Fault Eproto) n ≡ n) × (second_after (if c then Fault Epipe else Fault Eproto) k ≡ k)
+kept_if true n k = (refl, refl)
+kept_if false n k = (refl, refl)
 
-pub need_after : (s : Stocked) (o : Outcome) (r : ReadOut) → o ≡ outcome 0 s.held.layers (no_more s.held.receiving.done true s.held.unread) → r ≡ no_more s.held.receiving.done true s.held.unread → record s { held = broken_by r s.held } ≡ after o s
-need_after s o r h q = sym (ap (λ x. after x s) (h ∙ ap (outcome 0 s.held.layers) (sym q)) ∙ ap (λ n. record s { held = broken_by r s.held; answer = n }) (kept_room s.held.receiving.done s.held.unread r s.answer q))
+-- Where nothing whole is there, no answer is handed out.
+kept_rooms : (e b : Bool) (u : List ℕ) (r : ReadOut) (n k : ℕ) → r ≡ no_more e b u → (room_after r n ≡ n) × (second_after r k ≡ k)
+kept_rooms false b u r n k h = (ap (λ x. room_after x n) h, ap (λ x. second_after x k) h)
+kept_rooms true b u r n k h =
+    let p = kept_if (b && length u == 0) n k in
+    (ap (λ x. room_after x n) h ∙ p.0, ap (λ x. second_after x k) h ∙ p.1)
+
+pub need_after : (s : Stocked) (o : Outcome) (r : ReadOut) (b : Bool) → o ≡ outcome 0 s.held.layers (no_more s.held.receiving.done b s.held.unread) → r ≡ no_more s.held.receiving.done b s.held.unread → record s { held = broken_by r s.held } ≡ after o s
+need_after s o r b h q =
+    let k = kept_rooms s.held.receiving.done b s.held.unread r s.answer s.second q in
+    sym (ap (λ x. after x s) (h ∙ ap (outcome 0 s.held.layers) (sym q)) ∙ ap (λ n. record s { held = broken_by r s.held; answer = n; second = second_after r s.second }) k.0 ∙ ap (λ n. record s { held = broken_by r s.held; second = n }) k.1)
 
 none_ws : (b : Base) → ws_of (base_layers b) ≡ None
 none_ws base.Bytes = refl

@@ -31,3 +31,4 @@ pub mod Rooms
 pub mod Standing
 pub mod Doing
 pub mod Taking
+pub mod Leaving

@@ -1,11 +1,17 @@
-ghost use Rattle.std.specs.Prelude.{◌≡◌, true, Ok};
+ghost use Rattle.std.specs.Prelude.{◌≡◌, true, Ok, None, if◌then◌else◌};
 ghost use Rattle.rand_core.specs.Stream.{Stream};
 ghost use Rattle.dill_stack.specs.declared.parting.Parting.{Parting};
 ghost use Rattle.dill_stack.specs.Doing.{Ends};
 ghost use Rattle.dill_stack.specs.Parting.{parting_fault, is_cut_off, with_parting, detach_start, detach_finish};
 ghost use Rattle.dill_stack.specs.Sending.{is_sent};
-ghost use Rattle.dill_stack.specs.Standing.{tower, base_layers, has_end_of, IsFraming};
+ghost use Rattle.dill_stack.specs.Standing.{tower, base_layers, has_end_of};
+ghost use Rattle.dill_stack.specs.Leaving.{all_dropped};
+ghost use Rattle.dill_stack.specs.Taking.{behind};
+ghost use Rattle.dill_stack.specs.Held.{Idle};
+ghost use Rattle.dill_stack.specs.Dropping.{is_given};
+ghost use Rattle.dill_stack.specs.Receiving.{ws_of};
 
+use crate::dropping::DropStep;
 use crate::parting::Parting;
 use crate::placed::{Base, TermLayer};
 use crate::refusals::has_done;
@@ -57,18 +63,65 @@ impl Stack {
         }
     }
 
-    /// A detach of a framing goes on: it is answered once all that was queued has gone. It takes no memory.
-    pub fn detach_finish(&mut self) -> ReadOut
-        requires framing { IsFraming self.old.held.layers }
+    /// A detach goes on: once all that was queued has gone, it drops what is there, and is answered when it has met the
+    /// peer's end. It takes no memory.
+    pub fn detach_finish<R: Rng>(&mut self, _keys: &mut R) -> ReadOut
+        ensures said { result ≡ (detach_finish (R.stream _keys.old) self.old.held).said }
+        ensures stack { self.new ≡ record self.old { held = (detach_finish (R.stream _keys.old) self.old.held).stack } }
+        ensures random { R.stream _keys.new ≡ (detach_finish (R.stream _keys.old) self.old.held).random }
+    {
+        self.finish()
+    }
+
+    // The same; it draws no random number.
+    fn finish(&mut self) -> ReadOut
         ensures said { (random : Stream) → result ≡ (detach_finish random self.old.held).said }
         ensures stack { (random : Stream) → self.new ≡ record self.old { held = (detach_finish random self.old.held).stack } }
+        ensures random { (random : Stream) → random ≡ (detach_finish random self.old.held).random }
     {
         if !self.is_sent() {
             return ReadOut::Need;
         }
-        self.base = Base::Bytes;
-        self.task = Task::Idle;
-        ReadOut::Given(Answer::Number(0))
+        let said = self.drop_all();
+        self.rest_if(is_given(&said));
+        said
+    }
+
+    // Where the detach was answered, it is over.
+    fn rest_if(&mut self, answered: bool)
+        ensures { self.new ≡ record self.old { held = if answered then record self.old.held { task = Idle } else self.old.held } }
+    {
+        if answered {
+            self.task = Task::Idle;
+        }
+    }
+
+    // Drops what is there until the peer's end was met.
+    #[tactic(auto, using(crate::proofs::TowerReads::no_ws))]
+    fn drop_all(&mut self) -> ReadOut
+        ensures said { result ≡ (all_dropped self.old.held).said }
+        ensures after { self.new ≡ record self.old { held = behind (all_dropped self.old.held) self.old.held } }
+        ensures plain { ws_of self.old.held.layers ≡ None }
+    {
+        let most = self.unread.as_slice().len();
+        for _item in 0..most + 1 {
+            match self.drop_one() {
+                DropStep::Item => {}
+                DropStep::End => return ReadOut::Given(Answer::Number(0)),
+                DropStep::Stops(said) => return said,
+            }
+        }
+        ReadOut::Need
+    }
+}
+
+// It is an answer.
+fn is_given(said: &ReadOut) -> bool
+    ensures { result ≡ is_given said.now }
+{
+    match said {
+        ReadOut::Given(_) => true,
+        _ => false,
     }
 }
 

@@ -5,7 +5,7 @@ ghost use Rattle.dill_stack.specs.Layers.{HasMessages};
 ghost use Rattle.dill_stack.specs.Read.{no_more};
 ghost use Rattle.dill_stack.specs.Receiving.{read, read_of, ws_of, broken_by};
 ghost use Rattle.dill_stack.specs.Standing.{FitsBase};
-ghost use Rattle.dill_stack.specs.Taking.{size_of, framing_of, Reserved, FitsTop, room_after, after, base_front, IsWithin, any_met, lowest, meet, taken};
+ghost use Rattle.dill_stack.specs.Taking.{size_of, second_of, framing_of, Reserved, IsShort, FitsTop, room_after, second_after, after, base_front, IsWithin, any_met, lowest, meet, taken};
 
 use crate::placed::{Base, TermLayer};
 use crate::stack::Stack;
@@ -22,7 +22,7 @@ const PIECE: usize = 4_096;
 const LINE_LIMIT: usize = 8_192;
 
 // What stands at the front for the layer on the link.
-fn front_on_link(base: &Base, bytes: &[u8], limit: usize) -> Front
+pub(crate) fn front_on_link(base: &Base, bytes: &[u8], limit: usize) -> Front
     requires { FitsBase base.now }
     ensures front { result ≡ base_front base.now bytes.now limit }
     ensures within { IsWithin limit bytes.now result }
@@ -43,7 +43,7 @@ pub(crate) fn any_met(terms: &[TermLayer]) -> bool
 }
 
 // The lowest layer of which this is the terminal message.
-fn lowest_of(terms: &[TermLayer], message: &[u8]) -> Option<usize>
+pub(crate) fn lowest_of(terms: &[TermLayer], message: &[u8]) -> Option<usize>
     ensures { result ≡ lowest terms.now message.now }
 {
     let count = terms.len();
@@ -56,11 +56,22 @@ fn lowest_of(terms: &[TermLayer], message: &[u8]) -> Option<usize>
     None
 }
 
-fn meet_at(terms: &mut Vec<TermLayer>, at: usize)
+pub(crate) fn meet_at(terms: &mut Vec<TermLayer>, at: usize)
     requires { at < length terms.old.items }
     ensures { terms.new.items ≡ meet at terms.old.items }
 {
     terms[at].met = true;
+}
+
+// The most bytes of its second part.
+fn second_size(want: Want) -> usize
+    ensures { result ≡ second_of want }
+{
+    match want {
+        Want::Exact(_) => 0,
+        Want::Message(_) => 0,
+        _ => LINE_LIMIT,
+    }
 }
 
 // What the framing of a message on the link takes besides it.
@@ -89,7 +100,7 @@ impl Stack {
     /// Makes room for what this receive may need, and for its answer. Refused, it may leave room, and nothing else.
     pub fn reserve(&mut self, want: Want) -> Result<(), NoMemory>
         ensures ok { OnOk result (Reserved want self.old self.new) }
-        ensures err { OnErr result ((self.new ≡ record self.old { unread = self.new.unread }) × (self.old.unread ≤ self.new.unread)) }
+        ensures err { OnErr result (IsShort self.old self.new) }
     {
         let Some(needed) = self.needed(want) else {
             return Err(NoMemory);
@@ -98,7 +109,8 @@ impl Stack {
             return Err(NoMemory);
         };
         self.unread.make_room(room)?;
-        self.answer.make_room(answer_size(want))
+        self.answer.make_room(answer_size(want))?;
+        self.second.make_room(second_size(want))
     }
 
     // How many unread bytes it may need.
@@ -115,9 +127,10 @@ impl Stack {
     /// The answer to this receive, from all that is unread. It takes no memory.
     pub fn read<R: Rng>(&mut self, want: Want, _keys: &mut R) -> ReadOut
         requires reserved { size_of want ≤ self.old.answer }
+        requires second { second_of want ≤ self.old.second }
         requires fits { FitsTop want self.old.held.layers }
         ensures said { result ≡ (read want (R.stream _keys.old) self.old.held).said }
-        ensures stack { self.new ≡ record self.old { held = (read want (R.stream _keys.old) self.old.held).stack; answer = room_after result self.old.answer } }
+        ensures stack { self.new ≡ record self.old { held = (read want (R.stream _keys.old) self.old.held).stack; answer = room_after result self.old.answer; second = second_after result self.old.second } }
         ensures random { R.stream _keys.new ≡ (read want (R.stream _keys.old) self.old.held).random }
     {
         self.look(want)
@@ -126,6 +139,7 @@ impl Stack {
     // The answer to this receive, which draws no random number.
     fn look(&mut self, want: Want) -> ReadOut
         requires reserved { size_of want ≤ self.old.answer }
+        requires second { second_of want ≤ self.old.second }
         requires fits { FitsTop want self.old.held.layers }
         ensures said { result ≡ (read_of want self.old.held).said }
         ensures after { self.new ≡ after (read_of want self.old.held) self.old }
@@ -134,7 +148,7 @@ impl Stack {
         match want {
             Want::Exact(count) => self.read_exactly(count),
             Want::Message(limit) => self.read_message(limit),
-            _ => ReadOut::Need,
+            _ => self.read_line(want),
         }
     }
 
@@ -170,7 +184,7 @@ impl Stack {
         }
         match front_on_link(&self.base, self.unread.as_slice(), limit) {
             Front::Whole { from, to, used } => self.take_message(from, to, used),
-            Front::Need => self.nothing_whole(),
+            Front::Need => self.nothing_whole(true),
             Front::Fault(e) => self.refuse(e),
         }
     }
@@ -196,22 +210,22 @@ impl Stack {
         }
     }
 
-    // Nothing whole is at the front.
-    fn nothing_whole(&mut self) -> ReadOut
-        ensures said { result ≡ no_more self.old.held.receiving.done true self.old.held.unread }
+    // Nothing whole is at the front, which may be a boundary between two items.
+    pub(crate) fn nothing_whole(&mut self, boundary: bool) -> ReadOut
+        ensures said { result ≡ no_more self.old.held.receiving.done boundary self.old.held.unread }
         ensures after { self.new ≡ record self.old { held = broken_by result self.old.held } }
     {
         if !self.receiving.done {
             return ReadOut::Need;
         }
-        if self.unread.as_slice().is_empty() {
+        if boundary && self.unread.as_slice().is_empty() {
             return ReadOut::Fault(Errno::Epipe);
         }
         self.refuse(Errno::Eproto)
     }
 
     // A refusal, which may break the receiving direction.
-    fn refuse(&mut self, e: Errno) -> ReadOut
+    pub(crate) fn refuse(&mut self, e: Errno) -> ReadOut
         ensures said { result ≡ ReadOut.Fault e }
         ensures after { self.new ≡ record self.old { held = broken_by (ReadOut.Fault e) self.old.held } }
     {
