@@ -15,16 +15,18 @@ use Rattle.dill_stack.specs.declared.dropping.DropStep.TheVariants as step
 use Rattle.dill_stack.specs.Layers.{is_behind, is_first, AmongFields, TermLayer, HttpLayer, Placed, Prefix, Suffix, Term, Http, Ws, HasMessages}
 use Rattle.dill_stack.specs.Held.{Held, Idle}
 use Rattle.dill_stack.specs.Rooms.{Stocked}
-use Rattle.dill_stack.specs.Read.{Outcome, outcome, read_message, no_more, is_terminal, read_ws, received}
+use Rattle.dill_stack.specs.Read.{Outcome, outcome, read_message, no_more, is_terminal, read_ws, received, by_front, over_term}
 use Rattle.dill_stack.specs.Dropping.{Dropped, Item, End, Stops, drop_one, drop_message, drop_frames, drop_line, dropped_within, dropped, drop_limit, further, is_given, has_met, left_with}
 use Rattle.dill_stack.specs.Parting.{detach_finish}
 use Rattle.dill_stack.specs.Receiving.{ws_of, Looked}
 use Rattle.dill_stack.specs.Sending.{is_sent}
-use Rattle.dill_stack.specs.Standing.{tower, base_layers, HasBase, HasEnds, IsTower, ends_of}
-use Rattle.dill_stack.specs.Taking.{any_met, lowest, found, meet, base_front, behind}
+use Rattle.dill_stack.specs.Standing.{tower, base_layers, joined_room, HasBase, HasEnds, IsTower, ends_of}
+use Rattle.dill_stack.specs.Taking.{IsFraming, any_met, lowest, found, meet, base_front, behind}
 use Rattle.dill_stack.specs.Leaving.{step_of, outcome_of, next_dropped, all_dropped, is_top_met, below_top, sifted, step_at, terms_at, left_behind}
 use Rattle.dill_http.specs.Lines.{front_of_line}
-use Rattle.dill_stack.proofs.TowerReads.{stack_meet, sieved, read_met, reads_whole, reads_need, reads_fault, layers_tower, over_given}
+use Rattle.dill_frames.specs.Prefix.{prefix_front}
+use Rattle.dill_frames.specs.Suffix.{suffix_front}
+use Rattle.dill_stack.proofs.TowerReads.{ws_tower, framed_base, stack_meet, sieved, read_met, reads_whole, reads_need, reads_fault, layers_tower, over_given}
 
 -- what comes of a message that a detach drops
 abbrev pub sifted_as : List TermLayer → ℕ → List Placed → List ℕ → Option ℕ → Dropped
@@ -82,7 +84,7 @@ pub drops_cut : (ts : List TermLayer) (below : List Placed) (u : List ℕ) (e : 
 drops_cut [] below u e h k = cc
 drops_cut (t ∷ ts) below u e h k = drops_read t (tower ts below) u e (outcome 0 (tower ts below) (Fault Epipe)) h (read_met ts below u e 16384 (or_right_of t.met (any_met ts) h k))
 
-pub drops_whole : (ts : List TermLayer) (b : Base) (u : List ℕ) (e : Bool) (x y z : ℕ) → 1 ≤ length ts → HasMessages (base_layers b) → any_met ts ≡ false → front.Whole x y z ≡ base_front b u 16384 → drop_one (tower ts (base_layers b)) u e ≡ sifted (tower ts (base_layers b)) (outcome z [] (Given (Bytes (take (y - x) (drop x u)))))
+pub drops_whole : (ts : List TermLayer) (b : Base) (u : List ℕ) (e : Bool) (x y z : ℕ) → 1 ≤ length ts → IsFraming b → any_met ts ≡ false → front.Whole x y z ≡ base_front b u 16384 → drop_one (tower ts (base_layers b)) u e ≡ sifted (tower ts (base_layers b)) (outcome z [] (Given (Bytes (take (y - x) (drop x u)))))
 drops_whole [] b u e x y z l f m h = absurd (omega (arith, l))
 drops_whole (t ∷ ts) b u e x y z l f m h =
     let p = or_parts_of t.met (any_met ts) m in
@@ -96,31 +98,39 @@ stop_more : (t : TermLayer) (below : List Placed) (e : Bool) (u : List ℕ) → 
 stop_more t below false u = refl
 stop_more t below true u = stop_if t below (true && length u == 0)
 
-pub drops_need : (ts : List TermLayer) (b : Base) (u : List ℕ) (e : Bool) → 1 ≤ length ts → HasMessages (base_layers b) → any_met ts ≡ false → front.Need ≡ base_front b u 16384 → drop_one (tower ts (base_layers b)) u e ≡ Stops (outcome 0 (tower ts (base_layers b)) (no_more e true u))
+pub drops_need : (ts : List TermLayer) (b : Base) (u : List ℕ) (e : Bool) → 1 ≤ length ts → IsFraming b → any_met ts ≡ false → front.Need ≡ base_front b u 16384 → drop_one (tower ts (base_layers b)) u e ≡ Stops (outcome 0 (tower ts (base_layers b)) (no_more e true u))
 drops_need [] b u e l f m h = absurd (omega (arith, l))
 drops_need (t ∷ ts) b u e l f m h =
     let p = or_parts_of t.met (any_met ts) m in
     drops_read t (tower ts (base_layers b)) u e _ p.0 (reads_need ts b u e 16384 f p.1 h) ∙ stop_more t (tower ts (base_layers b)) e u
 
-pub drops_fault : (ts : List TermLayer) (b : Base) (u : List ℕ) (e : Bool) (x : Errno) → 1 ≤ length ts → HasMessages (base_layers b) → any_met ts ≡ false → front.Fault x ≡ base_front b u 16384 → drop_one (tower ts (base_layers b)) u e ≡ Stops (outcome 0 (tower ts (base_layers b)) (Fault x))
+pub drops_fault : (ts : List TermLayer) (b : Base) (u : List ℕ) (e : Bool) (x : Errno) → 1 ≤ length ts → IsFraming b → any_met ts ≡ false → front.Fault x ≡ base_front b u 16384 → drop_one (tower ts (base_layers b)) u e ≡ Stops (outcome 0 (tower ts (base_layers b)) (Fault x))
 drops_fault [] b u e x l f m h = absurd (omega (arith, l))
 drops_fault (t ∷ ts) b u e x l f m h =
     let p = or_parts_of t.met (any_met ts) m in
     drops_read t (tower ts (base_layers b)) u e _ p.0 (reads_fault ts b u e 16384 x f p.1 h)
 
--- an end by a terminal message stands on messages
-pub messages_under : (ts : List TermLayer) (b : Base) → 1 ≤ length ts → HasBase ts b → HasMessages (base_layers b)
-messages_under [] b l h = absurd (omega (arith, l))
-messages_under (t ∷ ts) base.Bytes l h = cc
-messages_under (t ∷ ts) (base.Prefix form) l h = tt
-messages_under (t ∷ ts) (base.Suffix end) l h = tt
-messages_under (t ∷ ts) (base.Http http) l h = cc
+-- an end by a terminal message stands on messages, which are those of a framing where no frames stand there
+pub framing_under : (ts : List TermLayer) (b : Base) → 1 ≤ length ts → HasBase ts b → ws_of (tower ts (base_layers b)) ≡ None → IsFraming b
+framing_under ts b l h p = under b (long ts b l h) (sym (ws_tower ts (base_layers b)) ∙ p)
+  where
+    long : (ts : List TermLayer) (b : Base) → 1 ≤ length ts → HasBase ts b → HasMessages (base_layers b)
+    long [] b l h = absurd (omega (arith, l))
+    long (t ∷ ts) base.Bytes l h = cc
+    long (t ∷ ts) (base.Prefix form) l h = tt
+    long (t ∷ ts) (base.Suffix end) l h = tt
+    long (t ∷ ts) (base.Http http) l h = cc
+    long (t ∷ ts) (base.Ws framed) l h = tt
+
+    under : (b : Base) → HasMessages (base_layers b) → ws_of (base_layers b) ≡ None → IsFraming b
+    under b h k = framed_base b h k
 
 pub top_there : (ts : List TermLayer) (b : Base) → length (ends_of (tower ts (base_layers b))) ≡ length ts
 top_there [] base.Bytes = refl
 top_there [] (base.Prefix form) = refl
 top_there [] (base.Suffix end) = refl
 top_there [] (base.Http http) = refl
+top_there [] (base.Ws framed) = refl
 top_there (t ∷ ts) b = ap suc (top_there ts b)
 
 pub tall_of : (ts : List TermLayer) (b : Base) → 1 ≤ length (ends_of (tower ts (base_layers b))) → 1 ≤ length ts
@@ -135,6 +145,7 @@ based_below ts base.Bytes h = ap below_top h
 based_below ts (base.Prefix form) h = tt
 based_below ts (base.Suffix end) h = tt
 based_below ts (base.Http http) h = ap below_top h
+based_below ts (base.Ws framed) h = tt
 
 ends_below : (ts : List TermLayer) (below : List Placed) → HasEnds ts below → HasEnds (below_top ts) below
 ends_below [] below h = tt
@@ -147,6 +158,17 @@ pub stack_at : (at : ℕ) (ts : List TermLayer) (b : Base) (room : ℕ) → IsTo
 stack_at zero ts b room i = stack_below ts b room i
 stack_at (suc n) ts b room i = stack_meet (suc n) ts b room i
 
+none_joined : (b : Base) → ws_of (base_layers b) ≡ None → joined_room b ≡ 0
+none_joined base.Bytes h = refl
+none_joined (base.Prefix form) h = refl
+none_joined (base.Suffix end) h = refl
+none_joined (base.Http http) h = refl
+none_joined (base.Ws framed) h = cc
+
+-- Where no frames stand there, there is no room for a message in fragments.
+pub plain_room : (ts : List TermLayer) (b : Base) → ws_of (tower ts (base_layers b)) ≡ None → joined_room b ≡ 0
+plain_room ts b h = none_joined b (sym (ws_tower ts (base_layers b)) ∙ h)
+
 -- the link alone is left
 pub stack_bare : (ts : List TermLayer) (b : Base) (room : ℕ) → ts ≡ [] → IsTower ts b room → IsTower ts base.Bytes room
 stack_bare ts b room e i = rw e record { fits = tt; based = refl; ends = tt; room = i.room }
@@ -156,14 +178,59 @@ head_alone [] b http h = refl
 head_alone (t ∷ ts) b http h = cc
 
 -- a framing alone is left at once
-pub drops_framing : (ts : List TermLayer) (b : Base) (u : List ℕ) (e : Bool) → ts ≡ [] → (b ≡ base.Bytes → ⊥) → ((x : HttpLayer) → b ≡ base.Http x → ⊥) → drop_one (tower ts (base_layers b)) u e ≡ End (outcome 0 [] (Given (Number 0)))
-drops_framing ts b u e h n m = rw h (alone b n m)
+pub drops_framing : (ts : List TermLayer) (b : Base) (u : List ℕ) (e : Bool) → ts ≡ [] → ws_of (tower ts (base_layers b)) ≡ None → (b ≡ base.Bytes → ⊥) → ((x : HttpLayer) → b ≡ base.Http x → ⊥) → drop_one (tower ts (base_layers b)) u e ≡ End (outcome 0 [] (Given (Number 0)))
+drops_framing ts b u e h p n m = rw h (alone b (sym (ws_tower ts (base_layers b)) ∙ p) n m)
   where
-    alone : (b : Base) → (b ≡ base.Bytes → ⊥) → ((x : HttpLayer) → b ≡ base.Http x → ⊥) → drop_one (base_layers b) u e ≡ End (outcome 0 [] (Given (Number 0)))
-    alone base.Bytes n m = absurd (n refl)
-    alone (base.Prefix form) n m = refl
-    alone (base.Suffix end) n m = refl
-    alone (base.Http http) n m = absurd (m http refl)
+    alone : (b : Base) → ws_of (base_layers b) ≡ None → (b ≡ base.Bytes → ⊥) → ((x : HttpLayer) → b ≡ base.Http x → ⊥) → drop_one (base_layers b) u e ≡ End (outcome 0 [] (Given (Number 0)))
+    alone base.Bytes p n m = absurd (n refl)
+    alone (base.Prefix form) p n m = refl
+    alone (base.Suffix end) p n m = refl
+    alone (base.Http http) p n m = absurd (m http refl)
+    alone (base.Ws framed) p n m = cc
+
+-- No frames come from dropping.
+if_plain : (b : Bool) (x y : Outcome) → ws_of x.layers ≡ None → ws_of y.layers ≡ None → ws_of (if b then x else y).layers ≡ None
+if_plain true x y p q = p
+if_plain false x y p q = q
+
+front_plain : (layers : List Placed) (u : List ℕ) (e : Bool) (f : Front) → ws_of layers ≡ None → ws_of (by_front layers u e f).layers ≡ None
+front_plain layers u e (front.Whole x y z) h = h
+front_plain layers u e front.Need h = h
+front_plain layers u e (front.Fault x) h = h
+
+read_plain : (layers : List Placed) (u : List ℕ) (e : Bool) (l : ℕ) → ws_of layers ≡ None → ws_of (read_message layers u e l).layers ≡ None
+read_plain [] u e l h = refl
+read_plain (Prefix form ∷ below) u e l h = front_plain (Prefix form ∷ below) u e (prefix_front form u l) h
+read_plain (Suffix end ∷ below) u e l h = front_plain (Suffix end ∷ below) u e (suffix_front end u l) h
+read_plain (Term t ∷ below) u e l h =
+    let o = read_message below u e l in
+    let p = read_plain below u e l h in
+    if_plain t.met (outcome 0 (Term t ∷ below) (Fault Epipe)) (over_term t o) h (if_plain (is_terminal t o.said) (record o { layers = Term (record t { met = true }) ∷ o.layers; said = Fault Epipe }) (record o { layers = Term t ∷ o.layers }) p p)
+read_plain (Http http ∷ below) u e l h = h
+read_plain (Ws ws ∷ below) u e l h = cc
+
+drop_plain_if : (b : Bool) (x y : Dropped) → ws_of (outcome_of x).layers ≡ None → ws_of (outcome_of y).layers ≡ None → ws_of (outcome_of (if b then x else y)).layers ≡ None
+drop_plain_if true x y p q = p
+drop_plain_if false x y p q = q
+
+line_plain : (http : HttpLayer) (below : List Placed) (u : List ℕ) (e : Bool) (f : Front) → ws_of below ≡ None → ws_of (outcome_of (drop_line http below u e f)).layers ≡ None
+line_plain http below u e (front.Whole x y z) h = drop_plain_if (not (y - x == 0)) (Item (outcome z (received AmongFields http ∷ below) Need)) (if is_first http.receiving then Stops (outcome 0 (Http http ∷ below) (Fault Eproto)) else End (outcome z below (Given (Number 0)))) h (drop_plain_if (is_first http.receiving) (Stops (outcome 0 (Http http ∷ below) (Fault Eproto))) (End (outcome z below (Given (Number 0)))) h h)
+line_plain http below u e front.Need h = h
+line_plain http below u e (front.Fault x) h = h
+
+pub drops_plain : (layers : List Placed) (u : List ℕ) (e : Bool) → ws_of layers ≡ None → ws_of (outcome_of (drop_one layers u e)).layers ≡ None
+drops_plain [] u e h = refl
+drops_plain (Prefix form ∷ below) u e h = h
+drops_plain (Suffix end ∷ below) u e h = h
+drops_plain (Term t ∷ below) u e h =
+    let o = read_message below u e drop_limit in
+    let p = read_plain below u e drop_limit h in
+    drop_plain_if t.met (End (outcome 0 below (Given (Number 0)))) (drop_message t o) h (drop_plain_if (is_terminal t o.said) (End (left_with o.layers o)) (if is_given o.said then Item (record o { layers = Term t ∷ o.layers }) else Stops (record o { layers = Term t ∷ o.layers })) p (drop_plain_if (is_given o.said) (Item (record o { layers = Term t ∷ o.layers })) (Stops (record o { layers = Term t ∷ o.layers })) p p))
+drops_plain (Http http ∷ below) u e h = drop_plain_if (is_behind http.receiving) (End (outcome 0 below (Given (Number 0)))) (drop_line http below u e (front_of_line u)) h (line_plain http below u e (front_of_line u) h)
+drops_plain (Ws ws ∷ below) u e h = cc
+
+pub step_plain : (b c : Stocked) → ws_of b.held.layers ≡ None → c ≡ record b { held = behind (outcome_of (next_dropped b.held)) b.held } → ws_of c.held.layers ≡ None
+step_plain b c h e = ap {A = Stocked} (λ x. ws_of x.held.layers) e ∙ drops_plain b.held.layers b.held.unread b.held.receiving.done h
 
 -- nothing whole is there, or it is refused
 pub held_stop : (s : Stocked) (d : Dropped) (r : ReadOut) → d ≡ Stops (outcome 0 s.held.layers r) → s ≡ record s { held = behind (outcome_of d) s.held }

@@ -12,7 +12,7 @@ use Rattle.dill_stack.specs.declared.placed.Base.{Base}
 use Rattle.dill_stack.specs.declared.placed.Base.TheVariants as base
 use Rattle.dill_stack.specs.declared.want.ReadOut.{ReadOut}
 use Rattle.dill_stack.specs.declared.want.ReadOut.TheVariants.{Given, Need, Fault}
-use Rattle.dill_stack.specs.Layers.{TermLayer, Placed, Term, HasMessages}
+use Rattle.dill_stack.specs.Layers.{TermLayer, WsLayer, Placed, Term, HasMessages}
 use Rattle.rand_core.specs.Stream.{Stream}
 use Rattle.dill_base.specs.declared.errno.Errno.TheVariants.{Einval}
 use Rattle.dill_stack.specs.declared.want.Want.{Want}
@@ -21,9 +21,9 @@ use Rattle.dill_stack.specs.Rooms.{Stocked}
 use Rattle.dill_stack.specs.Composed.{spelled}
 use Rattle.dill_stack.specs.Refusing.{fault_of}
 use Rattle.dill_stack.specs.Read.{Outcome, outcome, read_message, over_term, by_front, no_more}
-use Rattle.dill_stack.specs.Receiving.{ws_of, broken_by, read, read_of}
+use Rattle.dill_stack.specs.Receiving.{ws_of, broken_by, read, read_of, with_pongs_of, answers_pings}
 use Rattle.dill_stack.specs.Standing.{tower, base_layers, HasBase, HasEnds, IsTower}
-use Rattle.dill_stack.specs.Taking.{any_met, lowest, found, meet, base_front, framing_of, over_layers, after, room_after, second_after}
+use Rattle.dill_stack.specs.Taking.{any_met, lowest, found, meet, base_front, base_need, IsFraming, DrawsNone, over_layers, after, room_after, second_after}
 use Rattle.dill_stack.specs.Needs.{message_need}
 
 pub meet_set : (ts : List TermLayer) (n : ℕ) (t : TermLayer) → n < length ts → set ts n (record (get_or ts n t) { met = true }) ≡ meet n ts
@@ -125,17 +125,19 @@ search_none ts m back h n =
     sym (ap (λ k. lowest (drop k ts) m) (sym i) ∙ n)
 
 -- one layer on the link alone
-pub read_base : (b : Base) (u : List ℕ) (e : Bool) (l : ℕ) → HasMessages (base_layers b) → read_message (base_layers b) u e l ≡ by_front (base_layers b) u e (base_front b u l)
+pub read_base : (b : Base) (u : List ℕ) (e : Bool) (l : ℕ) → IsFraming b → read_message (base_layers b) u e l ≡ by_front (base_layers b) u e (base_front b u l)
 read_base base.Bytes u e l f = absurd f
 read_base (base.Prefix form) u e l f = refl
 read_base (base.Suffix t) u e l f = refl
 read_base (base.Http http) u e l f = absurd f
+read_base (base.Ws framed) u e l f = absurd f
 
 pub layers_base : (b : Base) (k : ℕ) (said : ReadOut) → over_layers (base_layers b) (outcome k [] said) ≡ outcome k (base_layers b) said
 layers_base base.Bytes k said = refl
 layers_base (base.Prefix form) k said = refl
 layers_base (base.Suffix t) k said = refl
 layers_base (base.Http http) k said = refl
+layers_base (base.Ws framed) k said = refl
 
 pub layers_tower : (ts : List TermLayer) (b : Base) (k : ℕ) (said : ReadOut) → over_layers (tower ts (base_layers b)) (outcome k [] said) ≡ over_terms ts (outcome k (base_layers b) said)
 layers_tower [] b k said = layers_base b k said
@@ -146,16 +148,16 @@ over_no_more ts below false u = over_need ts 0 below
 over_no_more ts below true [] = over_fault ts 0 below Epipe
 over_no_more ts below true (x ∷ u) = rw (eqb-suc-zero (length u)) (over_fault ts 0 below Eproto)
 
-reads_by : (ts : List TermLayer) (b : Base) (u : List ℕ) (e : Bool) (l : ℕ) (q : Front) → HasMessages (base_layers b) → any_met ts ≡ false → q ≡ base_front b u l → read_message (tower ts (base_layers b)) u e l ≡ over_terms ts (by_front (base_layers b) u e q)
+reads_by : (ts : List TermLayer) (b : Base) (u : List ℕ) (e : Bool) (l : ℕ) (q : Front) → IsFraming b → any_met ts ≡ false → q ≡ base_front b u l → read_message (tower ts (base_layers b)) u e l ≡ over_terms ts (by_front (base_layers b) u e q)
 reads_by ts b u e l q f m h = read_over ts (base_layers b) u e l m ∙ ap (over_terms ts) (read_base b u e l f ∙ ap (by_front (base_layers b) u e) (sym h))
 
-pub reads_whole : (ts : List TermLayer) (b : Base) (u : List ℕ) (e : Bool) (l x y z : ℕ) → HasMessages (base_layers b) → any_met ts ≡ false → front.Whole x y z ≡ base_front b u l → read_message (tower ts (base_layers b)) u e l ≡ over_layers (tower ts (base_layers b)) (outcome z [] (Given (Bytes (take (y - x) (drop x u)))))
+pub reads_whole : (ts : List TermLayer) (b : Base) (u : List ℕ) (e : Bool) (l x y z : ℕ) → IsFraming b → any_met ts ≡ false → front.Whole x y z ≡ base_front b u l → read_message (tower ts (base_layers b)) u e l ≡ over_layers (tower ts (base_layers b)) (outcome z [] (Given (Bytes (take (y - x) (drop x u)))))
 reads_whole ts b u e l x y z f m h = reads_by ts b u e l (front.Whole x y z) f m h ∙ sym (layers_tower ts b z (Given (Bytes (take (y - x) (drop x u)))))
 
-pub reads_need : (ts : List TermLayer) (b : Base) (u : List ℕ) (e : Bool) (l : ℕ) → HasMessages (base_layers b) → any_met ts ≡ false → front.Need ≡ base_front b u l → read_message (tower ts (base_layers b)) u e l ≡ outcome 0 (tower ts (base_layers b)) (no_more e true u)
+pub reads_need : (ts : List TermLayer) (b : Base) (u : List ℕ) (e : Bool) (l : ℕ) → IsFraming b → any_met ts ≡ false → front.Need ≡ base_front b u l → read_message (tower ts (base_layers b)) u e l ≡ outcome 0 (tower ts (base_layers b)) (no_more e true u)
 reads_need ts b u e l f m h = reads_by ts b u e l front.Need f m h ∙ over_no_more ts (base_layers b) e u
 
-pub reads_fault : (ts : List TermLayer) (b : Base) (u : List ℕ) (e : Bool) (l : ℕ) (x : Errno) → HasMessages (base_layers b) → any_met ts ≡ false → front.Fault x ≡ base_front b u l → read_message (tower ts (base_layers b)) u e l ≡ outcome 0 (tower ts (base_layers b)) (Fault x)
+pub reads_fault : (ts : List TermLayer) (b : Base) (u : List ℕ) (e : Bool) (l : ℕ) (x : Errno) → IsFraming b → any_met ts ≡ false → front.Fault x ≡ base_front b u l → read_message (tower ts (base_layers b)) u e l ≡ outcome 0 (tower ts (base_layers b)) (Fault x)
 reads_fault ts b u e l x f m h = reads_by ts b u e l (front.Fault x) f m h ∙ over_fault ts 0 (base_layers b) x
 
 pub takes_none : (ts : List TermLayer) (b : Base) (k : ℕ) (m : List ℕ) → None ≡ lowest ts m → over_layers (tower ts (base_layers b)) (outcome k [] (Given (Bytes m))) ≡ outcome k (tower ts (base_layers b)) (Given (Bytes m))
@@ -170,6 +172,22 @@ messages_base (t ∷ ts) base.Bytes h k = cc
 messages_base (t ∷ ts) (base.Prefix form) h k = tt
 messages_base (t ∷ ts) (base.Suffix end) h k = tt
 messages_base (t ∷ ts) (base.Http http) h k = cc
+messages_base (t ∷ ts) (base.Ws framed) h k = tt
+
+pub ws_tower : (ts : List TermLayer) (below : List Placed) → ws_of (tower ts below) ≡ ws_of below
+ws_tower [] below = refl
+ws_tower (t ∷ ts) below = ws_tower ts below
+
+pub framed_base : (b : Base) → HasMessages (base_layers b) → ws_of (base_layers b) ≡ None → IsFraming b
+framed_base base.Bytes h k = absurd h
+framed_base (base.Prefix form) h k = tt
+framed_base (base.Suffix end) h k = tt
+framed_base (base.Http http) h k = absurd h
+framed_base (base.Ws framed) h k = cc
+
+-- messages without frames are those of a framing
+pub framing_base : (ts : List TermLayer) (b : Base) → HasBase ts b → HasMessages (tower ts (base_layers b)) → ws_of (tower ts (base_layers b)) ≡ None → IsFraming b
+framing_base ts b h k p = framed_base b (messages_base ts b h k) (sym (ws_tower ts (base_layers b)) ∙ p)
 
 spelled_meet : (n : ℕ) (ts : List TermLayer) (below : List Placed) (m : List ℕ) → spelled [] (tower (meet n ts) below) m ≡ spelled [] (tower ts below) m
 spelled_meet n [] below m = refl
@@ -186,6 +204,7 @@ based_meet n ts base.Bytes h = ap (meet n) h
 based_meet n ts (base.Prefix form) h = tt
 based_meet n ts (base.Suffix end) h = tt
 based_meet n ts (base.Http http) h = ap (meet n) h
+based_meet n ts (base.Ws framed) h = tt
 
 pub stack_meet : (n : ℕ) (ts : List TermLayer) (b : Base) (room : ℕ) → IsTower ts b room → IsTower (meet n ts) b room
 stack_meet n ts b room i = record { fits = i.fits; based = based_meet n ts b i.based; ends = ends_meet n ts (base_layers b) i.ends; room = i.room }
@@ -210,24 +229,37 @@ need_after s o r b h q =
     let k = kept_rooms s.held.receiving.done b s.held.unread r s.answer s.second q in
     sym (ap (λ x. after x s) (h ∙ ap (outcome 0 s.held.layers) (sym q)) ∙ ap (λ n. record s { held = broken_by r s.held; answer = n; second = second_after r s.second }) k.0 ∙ ap (λ n. record s { held = broken_by r s.held; second = n }) k.1)
 
-none_ws : (b : Base) → ws_of (base_layers b) ≡ None
-none_ws base.Bytes = refl
-none_ws (base.Prefix form) = refl
-none_ws (base.Suffix end) = refl
-none_ws (base.Http http) = refl
+-- a stack and the random numbers, whether pings are answered or not
+abbrev pub kept_if_so : Bool → Held → Stream → Held × Stream
+kept_if_so b t random = if b then (record t { queue = t.queue }, random) else (t, random)
 
-pub no_ws : (ts : List TermLayer) (b : Base) → ws_of (tower ts (base_layers b)) ≡ None
-no_ws [] b = none_ws b
-no_ws (t ∷ ts) b = no_ws ts b
+abbrev pub kept_both : Held → Stream → Held × Stream
+kept_both t random = (t, random)
 
--- A stack without frames reads as its layers do, and draws no random number.
-pub reads_plain : (want : Want) (random : Stream) (s : Held) → ws_of s.layers ≡ None → read want random s ≡ record { stack = broken_by (read_of want s).said (record s { layers = (read_of want s).layers; unread = drop (read_of want s).used s.unread }); said = (read_of want s).said; random = random }
+kept_by : (b : Bool) (t : Held) (random : Stream) → kept_if_so b t random ≡ kept_both t random
+kept_by true t random = refl
+kept_by false t random = refl
+
+no_pongs : (w : Option WsLayer) (random : Stream) (t : Held) → with_pongs_of w [] random t ≡ (t, random)
+no_pongs None random t = refl
+no_pongs (Some ws) random t = kept_by (answers_pings ws t) t random
+
+-- Where no ping was passed, or no frames stand there, no pong is queued.
+pub draws_none : (o : Outcome) (s : Held) → o.pings ≡ [] → DrawsNone o s
+draws_none o s h = λ random t. ap (λ p. with_pongs_of (ws_of s.layers) p random t) h ∙ no_pongs (ws_of s.layers) random t
+
+pub draws_plain : (o : Outcome) (s : Held) → ws_of s.layers ≡ None → DrawsNone o s
+draws_plain o s h = λ random t. ap (λ w. with_pongs_of w o.pings random t) h
+
+-- Such a stack reads as its layers do, and draws no random number.
+pub reads_plain : (want : Want) (random : Stream) (s : Held) → DrawsNone (read_of want s) s → read want random s ≡ record { stack = broken_by (read_of want s).said (record s { layers = (read_of want s).layers; unread = drop (read_of want s).used s.unread }); said = (read_of want s).said; random = random }
 unfolding read
-reads_plain want random s h = rw h refl
+reads_plain want random s h = ap (λ (p : Held × Stream). record { stack = broken_by (read_of want s).said p.0; said = (read_of want s).said; random = p.1 }) (h random (record s { layers = (read_of want s).layers; unread = drop (read_of want s).used s.unread }))
 
-pub need_tower : (ts : List TermLayer) (b : Base) (l : ℕ) → message_need l (tower ts (base_layers b)) ≡ l + framing_of b
-need_tower [] base.Bytes l = omega arith
+pub need_tower : (ts : List TermLayer) (b : Base) (l : ℕ) → message_need l (tower ts (base_layers b)) ≡ base_need l b
+need_tower [] base.Bytes l = refl
 need_tower [] (base.Prefix form) l = refl
 need_tower [] (base.Suffix end) l = refl
-need_tower [] (base.Http http) l = omega arith
+need_tower [] (base.Http http) l = refl
+need_tower [] (base.Ws framed) l = refl
 need_tower (t ∷ ts) b l = need_tower ts b l

@@ -1,8 +1,9 @@
-ghost use Rattle.std.specs.Prelude.{◌≡◌, ◌≤◌, ◌<◌, ◌∷◌, [], length, drop};
+ghost use Rattle.std.specs.Prelude.{◌≡◌, ◌≤◌, ◌<◌, ◌∷◌, [], length, drop, None};
 ghost use Rattle.dill_stack.specs.Layers.{Http};
 ghost use Rattle.dill_stack.specs.Dropping.{drop_line};
 ghost use Rattle.dill_stack.specs.Leaving.{step_of, outcome_of, next_dropped, sifted_message, is_top_met, below_top, step_at, terms_at};
 ghost use Rattle.dill_stack.specs.Read.{no_more};
+ghost use Rattle.dill_stack.specs.Receiving.{ws_of};
 ghost use Rattle.dill_stack.specs.Standing.{ends_of};
 ghost use Rattle.dill_stack.specs.Taking.{behind, IsWithin};
 
@@ -27,6 +28,7 @@ pub(crate) enum DropStep {
 impl Stack {
     // One item at the front is dropped, or is the end, after which the layers below are left.
     pub(crate) fn drop_one(&mut self) -> DropStep
+        requires plain { ws_of self.old.held.layers ≡ None }
         ensures step { result ≡ step_of (next_dropped self.old.held) }
         ensures after { self.new ≡ record self.old { held = behind (outcome_of (next_dropped self.old.held)) self.old.held } }
     {
@@ -38,6 +40,7 @@ impl Stack {
 
     // The same where an end by a terminal message is on top.
     fn drop_under_end(&mut self) -> DropStep
+        requires plain { ws_of self.old.held.layers ≡ None }
         requires top { 1 ≤ length (ends_of self.old.held.layers) }
         ensures step { result ≡ step_of (next_dropped self.old.held) }
         ensures after { self.new ≡ record self.old { held = behind (outcome_of (next_dropped self.old.held)) self.old.held } }
@@ -62,6 +65,7 @@ impl Stack {
 
     // The same where no end by a terminal message stands.
     fn drop_on_link(&mut self) -> DropStep
+        requires plain { ws_of self.old.held.layers ≡ None }
         requires bare { ends_of self.old.held.layers ≡ [] }
         ensures step { result ≡ step_of (next_dropped self.old.held) }
         ensures after { self.new ≡ record self.old { held = behind (outcome_of (next_dropped self.old.held)) self.old.held } }
@@ -78,6 +82,7 @@ impl Stack {
 
     // The layer on the link is left, and so many bytes are used.
     fn leave_link(&mut self, used: usize)
+        requires plain { ws_of self.old.held.layers ≡ None }
         requires bare { ends_of self.old.held.layers ≡ [] }
         requires within { used ≤ length self.old.held.unread }
         ensures { self.new ≡ record self.old { held = record self.old.held { layers = []; unread = drop used self.old.held.unread } } }

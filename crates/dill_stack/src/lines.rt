@@ -2,9 +2,8 @@ ghost use Rattle.std.specs.Prelude.{◌≡◌, ◌≤◌, ◌∷◌, [], length,
 ghost use Rattle.dill_http.specs.Reading.{LiesIn};
 ghost use Rattle.dill_stack.specs.Layers.{Http};
 ghost use Rattle.dill_stack.specs.Read.{line_answer, two_of, coded_of, ends_fields, by_line};
-ghost use Rattle.dill_stack.specs.Receiving.{ws_of};
 ghost use Rattle.dill_stack.specs.Standing.{receives_at};
-ghost use Rattle.dill_stack.specs.Taking.{after, IsWithin, line_read, room_after, second_after, said_of};
+ghost use Rattle.dill_stack.specs.Taking.{DrawsNone, after, IsWithin, line_read, room_after, second_after, said_of};
 
 use crate::answer::AnswerRoom;
 use crate::placed::{Base, HttpLayer, Place};
@@ -16,13 +15,13 @@ use dill_http::{Cut, Span, line_front, read_field, read_request, read_status};
 
 impl Stack {
     // The line of a head at the front; behind its empty line there is none.
-    #[tactic(auto, using(crate::proofs::TowerReads::no_ws))]
+    #[tactic(auto, using(crate::proofs::HeadReads::line_draws))]
     pub(crate) fn read_line(&mut self, want: Want) -> ReadOut
         requires reserved { 8192 ≤ self.old.answer }
         requires second { 8192 ≤ self.old.second }
         ensures said { result ≡ (line_read want self.old.held).said }
         ensures after { self.new ≡ after (line_read want self.old.held) self.old }
-        ensures plain { ws_of self.old.held.layers ≡ None }
+        ensures plain { DrawsNone (line_read want self.old.held) self.old.held }
     {
         match self.base {
             Base::Http(http) => self.read_head(want, http),

@@ -5,7 +5,7 @@ ghost use Rattle.dill_stack.specs.Layers.{HasMessages};
 ghost use Rattle.dill_stack.specs.Read.{no_more};
 ghost use Rattle.dill_stack.specs.Receiving.{read, read_of, ws_of, broken_by};
 ghost use Rattle.dill_stack.specs.Standing.{FitsBase};
-ghost use Rattle.dill_stack.specs.Taking.{size_of, second_of, framing_of, Reserved, IsShort, FitsTop, room_after, second_after, after, base_front, IsWithin, any_met, lowest, meet, taken};
+ghost use Rattle.dill_stack.specs.Taking.{DrawsNone, size_of, second_of, base_need, Reserved, IsShort, FitsTop, room_after, second_after, after, base_front, IsWithin, any_met, lowest, meet, taken};
 
 use crate::placed::{Base, TermLayer};
 use crate::stack::Stack;
@@ -17,6 +17,11 @@ use rand_core::Rng;
 
 /// The most bytes that one read of the link brings.
 const PIECE: usize = 4_096;
+
+/// The most bytes of the payload of a control frame, and of the head of a frame.
+const CONTROL: usize = 125;
+
+const HEAD: usize = 14;
 
 /// The most bytes of a line, without its CRLF.
 const LINE_LIMIT: usize = 8_192;
@@ -32,6 +37,7 @@ pub(crate) fn front_on_link(base: &Base, bytes: &[u8], limit: usize) -> Front
         Base::Prefix(form) => prefix_read(*form, bytes, limit),
         Base::Suffix(end) => suffix_read(end.as_slice(), bytes, limit),
         Base::Http(_) => Front::Need,
+        Base::Ws(_) => Front::Need,
     }
 }
 
@@ -74,14 +80,15 @@ fn second_size(want: Want) -> usize
     }
 }
 
-// What the framing of a message on the link takes besides it.
-fn framing(base: &Base) -> usize
-    ensures { result ≡ framing_of base.now }
+// How many unread bytes a message of at most so many may need, unless they are more than can be told.
+fn message_need(base: &Base, limit: usize) -> Option<usize>
+    ensures { IfSome result (λ n. n ≡ base_need limit base.now) }
 {
     match base {
-        Base::Prefix(form) => form.size as usize,
-        Base::Suffix(end) => end.as_slice().len(),
-        _ => 0,
+        Base::Prefix(form) => limit.checked_add(form.size as usize),
+        Base::Suffix(end) => limit.checked_add(end.as_slice().len()),
+        Base::Ws(_) => limit.max(CONTROL).checked_add(HEAD),
+        _ => Some(limit),
     }
 }
 
@@ -119,7 +126,7 @@ impl Stack {
     {
         match want {
             Want::Exact(size) => Some(size),
-            Want::Message(limit) => limit.checked_add(framing(&self.base)),
+            Want::Message(limit) => message_need(&self.base, limit),
             _ => Some(LINE_LIMIT + 2),
         }
     }
@@ -143,7 +150,7 @@ impl Stack {
         requires fits { FitsTop want self.old.held.layers }
         ensures said { result ≡ (read_of want self.old.held).said }
         ensures after { self.new ≡ after (read_of want self.old.held) self.old }
-        ensures plain { ws_of self.old.held.layers ≡ None }
+        ensures plain { DrawsNone (read_of want self.old.held) self.old.held }
     {
         match want {
             Want::Exact(count) => self.read_exactly(count),
@@ -152,12 +159,12 @@ impl Stack {
         }
     }
 
-    #[tactic(auto, using(crate::proofs::TowerReads::no_ws), unfolding(crate::specs::Read::read_list))]
+    #[tactic(auto, using(crate::proofs::TowerReads::draws_none), unfolding(crate::specs::Read::read_list))]
     fn read_exactly(&mut self, count: usize) -> ReadOut
         requires { count ≤ self.old.answer }
         ensures said { result ≡ (read_of (want.Exact count) self.old.held).said }
         ensures after { self.new ≡ after (read_of (want.Exact count) self.old.held) self.old }
-        ensures plain { ws_of self.old.held.layers ≡ None }
+        ensures plain { DrawsNone (read_of (want.Exact count) self.old.held) self.old.held }
     {
         if self.unread.as_slice().len() < count {
             return if self.receiving.done {
@@ -171,13 +178,14 @@ impl Stack {
         ReadOut::Given(Answer::Bytes(given))
     }
 
-    #[tactic(auto, using(crate::proofs::TowerReads::no_ws))]
+    #[tactic(auto, using(crate::proofs::TowerReads::draws_plain))]
     fn read_message(&mut self, limit: usize) -> ReadOut
         requires reserved { limit ≤ self.old.answer }
         requires fits { HasMessages self.old.held.layers }
+        requires plain { ws_of self.old.held.layers ≡ None }
         ensures said { result ≡ (read_of (want.Message limit) self.old.held).said }
         ensures after { self.new ≡ after (read_of (want.Message limit) self.old.held) self.old }
-        ensures plain { ws_of self.old.held.layers ≡ None }
+        ensures plain { DrawsNone (read_of (want.Message limit) self.old.held) self.old.held }
     {
         if any_met(self.terms.as_slice()) {
             return ReadOut::Fault(Errno::Epipe);

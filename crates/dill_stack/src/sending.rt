@@ -1,12 +1,13 @@
-ghost use Rattle.std.specs.Prelude.{◌≡◌, ◌+◌, ◌≤◌, ◌++◌, [], not, length, max, true, false, None, Ok, OnOk, OnErr, IfErr};
-ghost use Rattle.dill_stack.specs.declared.fault.StackFault.TheVariants.{NoMemory};
+ghost use Rattle.std.specs.Prelude.{◌≡◌, ◌+◌, ◌≤◌, ◌++◌, [], not, length, max, true, false, None, Ok, OnOk, OnErr, IfErr, if◌then◌else◌};
+ghost use Rattle.dill_stack.specs.declared.fault.StackFault.TheVariants as fault;
+ghost use Rattle.dill_stack.specs.Composed.{drawn_key, is_masking, random_after};
 ghost use Rattle.std.specs.List.{list_any};
 ghost use Rattle.rand_core.specs.Stream.{Stream};
 ghost use Rattle.dill_stack.specs.Held.{Plain};
 ghost use Rattle.dill_stack.specs.Layers.{AmongFields};
 ghost use Rattle.dill_stack.specs.Refusals.{send_fault};
-ghost use Rattle.dill_stack.specs.Doing.{Sends, Ends, Changes, on_link};
-ghost use Rattle.dill_stack.specs.Standing.{FitsBase, HasEnds, base_layers, ends_of, ending_of, done_top, undone_top};
+ghost use Rattle.dill_stack.specs.Doing.{Sends, Ends, Changes, IsKey, on_link, below_end};
+ghost use Rattle.dill_stack.specs.Standing.{FitsBase, HasEnds, base_layers, tower, ends_of, ending_of, done_top, undone_top};
 ghost use Rattle.dill_stack.specs.Sending.{is_sent, is_pong, done, with_end, frame, line as lined, queued, with_line, withdraw, reopened, taken_back};
 
 use crate::fault::StackFault;
@@ -16,37 +17,59 @@ use crate::origin::Origin;
 use crate::placed::{Base, Place, TermLayer};
 use crate::queue::Queue;
 use crate::stack::Stack;
-use dill_base::{Errno, Octets};
+use dill_base::{Errno, NoMemory, Octets};
 use rand_core::Rng;
 
 impl Stack {
     /// Queues a message in the framing of all layers, or bytes where no layer stands.
-    pub fn frame<R: Rng>(&mut self, message: &[u8], _keys: &mut R) -> Result<(), StackFault>
+    pub fn frame<R: Rng>(&mut self, message: &[u8], keys: &mut R) -> Result<(), StackFault>
         requires sent { is_sent self.old.held ≡ true }
-        ensures { Sends (frame message.now (R.stream _keys.old) self.old.held) result self.old self.new (R.stream _keys.old) (R.stream _keys.new) }
+        ensures { Sends (frame message.now (R.stream keys.old) self.old.held) result self.old self.new (R.stream keys.old) (R.stream keys.new) }
     {
-        match self.send_fault(message, false) {
-            Some(e) => Err(StackFault::Refused(e)),
-            None => self.queue_message(message),
+        if let Some(e) = self.send_fault(message, false) {
+            return Err(StackFault::Refused(e));
         }
-    }
-
-    // Queues a message that isn't refused.
-    fn queue_message(&mut self, message: &[u8]) -> Result<(), StackFault>
-        requires sent { is_sent self.old.held ≡ true }
-        requires free { send_fault message.now false self.old.held ≡ None }
-        ensures due { (random : Stream) → frame message.now random self.old.held ≡ Ok (queued Plain (on_link self.old.held.layers message.now) self.old.held, random) }
-        ensures ok { OnOk result (self.new ≡ record self.old { held = queued Plain (on_link self.old.held.layers message.now) self.old.held; sending = max self.old.sending (length message.now + FRAMING) }) }
-        ensures err { OnErr result (self.new ≡ self.old) }
-        ensures memory { IfErr result (λ e. e ≡ NoMemory) }
-    {
-        match self.queue.make_room(message.len() + FRAMING) {
+        match self.make_message_room(message) {
             Ok(()) => {
-                push_framed(&mut self.queue, &self.base, Origin::Plain, message);
+                let key = draw(self.masks(), keys);
+                self.push_message(message, key);
                 Ok(())
             }
             Err(_) => Err(StackFault::NoMemory),
         }
+    }
+
+    // A message that isn't refused gets room in its framing.
+    fn make_message_room(&mut self, message: &[u8]) -> Result<(), NoMemory>
+        requires free { send_fault message.now false self.old.held ≡ None }
+        ensures due { (random : Stream) → frame message.now random self.old.held ≡ Ok (queued Plain (on_link (drawn_key random).0 self.old.held.layers message.now) self.old.held, random_after self.old.held.layers random) }
+        ensures ok { OnOk result (self.new ≡ record self.old { sending = max self.old.sending (length message.now + FRAMING) }) }
+        ensures err { OnErr result (self.new ≡ self.old) }
+    {
+        self.queue.make_room(message.len() + FRAMING)
+    }
+
+    // Queues a message for which there is room. It takes no memory.
+    fn push_message(&mut self, message: &[u8], key: [u8; 4])
+        requires sent { is_sent self.old.held ≡ true }
+        requires room { length message.now + FRAMING ≤ self.old.sending }
+        ensures { self.new ≡ record self.old { held = queued Plain (on_link key self.old.held.layers message.now) self.old.held } }
+    {
+        push_framed(&mut self.queue, &self.base, Origin::Plain, message, key);
+    }
+
+    // Some layer masks what is sent.
+    fn masks(&self) -> bool
+        ensures { result ≡ list_any is_masking self.now.held.layers }
+    {
+        self.base.masks()
+    }
+
+    // Some layer masks the end of the top layer.
+    fn masks_end(&self) -> bool
+        ensures { result ≡ list_any is_masking (below_end self.now.held.layers) }
+    {
+        masks_end(self.terms.as_slice(), &self.base)
     }
 
     /// Queues a first line, or a field. The line has its CRLF.
@@ -65,7 +88,7 @@ impl Stack {
         requires sent { is_sent self.old.held ≡ true }
         ensures ok { OnOk result (self.new ≡ record self.old { held = with_line AmongFields line.now self.old.held; sending = max self.old.sending (length line.now) }) }
         ensures err { OnErr result (self.new ≡ self.old) }
-        ensures memory { IfErr result (λ e. e ≡ NoMemory) }
+        ensures memory { IfErr result (λ e. e ≡ fault.NoMemory) }
     {
         match self.queue.make_room(line.len()) {
             Ok(()) => {
@@ -88,28 +111,29 @@ impl Stack {
     }
 
     /// The end of the top layer, or of the link's direction where no layer stands on it. It takes no memory.
-    pub fn done<R: Rng>(&mut self, _keys: &mut R) -> Result<(), Errno>
+    pub fn done<R: Rng>(&mut self, keys: &mut R) -> Result<(), Errno>
         requires sent { is_sent self.old.held ≡ true }
-        ensures { Ends (done (R.stream _keys.old) self.old.held) result self.old self.new (R.stream _keys.old) (R.stream _keys.new) }
+        ensures { Ends (done (R.stream keys.old) self.old.held) result self.old self.new (R.stream keys.old) (R.stream keys.new) }
     {
         match self.done_fault(false) {
             Some(e) => Err(e),
             None => {
-                self.queue_end();
+                let key = draw(self.masks_end(), keys);
+                self.queue_end(key);
                 Ok(())
             }
         }
     }
 
     // Queues the end of the top layer, if it has one, or marks the link's direction.
-    pub(crate) fn queue_end(&mut self)
+    pub(crate) fn queue_end(&mut self, key: [u8; 4])
         requires sent { is_sent self.old.held ≡ true }
-        ensures due { (random : Stream) → with_end self.old.held.layers random self.old.held ≡ Ok (self.new.held, random) }
+        ensures due { (random : Stream) → IsKey key (below_end self.old.held.layers) random → with_end self.old.held.layers random self.old.held ≡ Ok (self.new.held, random_after (below_end self.old.held.layers) random) }
         ensures rest { self.new ≡ record self.old { held = self.new.held } }
     {
         match self.terms.as_slice() {
             [] => self.end_on_link(),
-            [_, ..] => push_ending(&mut self.queue, &self.base, &mut self.terms),
+            [_, ..] => push_ending(&mut self.queue, &self.base, &mut self.terms, key),
         }
     }
 
@@ -117,7 +141,7 @@ impl Stack {
     fn end_on_link(&mut self)
         requires sent { is_sent self.old.held ≡ true }
         requires bare { ends_of self.old.held.layers ≡ [] }
-        ensures due { (random : Stream) → with_end self.old.held.layers random self.old.held ≡ Ok (self.new.held, random) }
+        ensures due { (random : Stream) → with_end self.old.held.layers random self.old.held ≡ Ok (self.new.held, random_after (below_end self.old.held.layers) random) }
         ensures rest { self.new ≡ record self.old { held = self.new.held } }
     {
         match self.base {
@@ -166,18 +190,39 @@ impl Stack {
 }
 
 // The terminal message of the top is queued in the framing of the layer on the link.
-fn push_ending(queue: &mut Queue, base: &Base, terms: &mut Vec<TermLayer>)
+fn push_ending(queue: &mut Queue, base: &Base, terms: &mut Vec<TermLayer>, key: [u8; 4])
     requires fits { FitsBase base.now }
     requires ends { HasEnds terms.old.items (base_layers base.now) }
     requires sent { not (list_any (λ item. not (is_pong item)) queue.old.items) ≡ true }
     requires room { 2048 ≤ queue.old.room }
-    ensures queued { queue.new ≡ record queue.old { items = queue.old.items ++ ending_of (base_layers base.now) terms.old.items } }
+    ensures queued { queue.new ≡ record queue.old { items = queue.old.items ++ ending_of key (base_layers base.now) terms.old.items } }
     ensures done { terms.new.items ≡ done_top terms.old.items }
 {
     if let Some(term) = terms.first_mut() {
-        push_framed(queue, base, Origin::Ending, term.terminal.as_slice());
+        push_framed(queue, base, Origin::Ending, term.terminal.as_slice(), key);
         term.done = true;
     }
+}
+
+// Some layer masks the end of the top layer.
+fn masks_end(terms: &[TermLayer], base: &Base) -> bool
+    ensures { result ≡ list_any is_masking (below_end (tower terms.now (base_layers base.now))) }
+{
+    match terms {
+        [] => false,
+        [_, ..] => base.masks(),
+    }
+}
+
+// The masking key that the next random number makes, where one is drawn.
+pub(crate) fn draw<R: Rng>(masks: bool, keys: &mut R) -> [u8; 4]
+    ensures left { R.stream keys.new ≡ (if masks then (drawn_key (R.stream keys.old)).1 else R.stream keys.old) }
+    ensures key { masks ≡ true → result ≡ (drawn_key (R.stream keys.old)).0 }
+{
+    if masks {
+        return keys.next_u32().to_be_bytes();
+    }
+    [0; 4]
 }
 
 // The top layer's end was not sent.

@@ -1,9 +1,12 @@
-ghost use Rattle.std.specs.Prelude.{◌≡◌, ◌<◌, ◌++◌, ◌∷◌, [], true, false, length, IfOk, OnOk};
+ghost use Rattle.std.specs.Prelude.{◌≡◌, ◌<◌, ◌≤◌, ◌+◌, ◌++◌, ◌∷◌, [], true, false, length, vec_capacity, IfOk};
 ghost use Rattle.dill_ws.specs.Frames.{length_bits, length_tail, first_byte, second_byte, key_bytes, head_bytes, frame_bytes, masked, may_follow};
 
 use crate::mask;
 use dill_base::{NoMemory, Octets};
 use std::alloc::{AllocError, Global};
+
+/// The most bytes of a head: bytes 1 and 2, a length of eight, and a key.
+const HEAD: usize = 14;
 
 /// A whole frame with FIN: text (1), binary (2), or close (8), ping (9) or pong (10) with at most 125 bytes.
 /// A client gives a key that its peer can't foresee (RFC 6455, section 5.3), a server none.
@@ -31,26 +34,32 @@ fn frame_in(
     requires { opcode < 16 }
     ensures { IfOk result (λ v. v.items ≡ frame_bytes true opcode key payload.now) }
 {
-    let mut bytes = head_in(alloc, opcode, key, payload.len() as u64)?;
-    push_masked(&mut bytes, key, payload)?;
+    let mut bytes = Vec::with_capacity(alloc, payload.len() + HEAD)?;
+    frame_into(&mut bytes, opcode, key, payload);
     Ok(bytes)
 }
 
-fn head_in(
-    alloc: Global,
-    opcode: u8,
-    key: Option<[u8; 4]>,
-    length: u64,
-) -> Result<Vec<u8>, AllocError>
-    requires { opcode < 16 }
-    ensures { IfOk result (λ v. v.items ≡ head_bytes true opcode key length) }
+/// Puts a whole frame with FIN behind these bytes, which have room for it. It takes no memory.
+pub fn frame_into(bytes: &mut Vec<u8>, opcode: u8, key: Option<[u8; 4]>, payload: &[u8])
+    requires known { opcode < 16 }
+    requires room { length bytes.old.items + HEAD + length payload.now ≤ vec_capacity bytes.old }
+    ensures frame { bytes.new.items ≡ bytes.old.items ++ frame_bytes true opcode key payload.now }
+    ensures kept { vec_capacity bytes.old ≤ vec_capacity bytes.new }
 {
-    let mut bytes = Vec::from_slice(alloc, &opening(opcode, key, length))?;
-    push_length(&mut bytes, length)?;
-    if let Some(key) = key {
-        bytes.extend_from_slice(&key)?;
-    }
-    Ok(bytes)
+    head_into(bytes, opcode, key, payload.len() as u64);
+    masked_into(bytes, key, payload);
+}
+
+fn head_into(bytes: &mut Vec<u8>, opcode: u8, key: Option<[u8; 4]>, count: u64)
+    requires known { opcode < 16 }
+    requires room { length bytes.old.items + HEAD ≤ vec_capacity bytes.old }
+    ensures head { bytes.new.items ≡ bytes.old.items ++ head_bytes true opcode key count }
+    ensures most { length bytes.new.items ≤ length bytes.old.items + HEAD }
+    ensures kept { vec_capacity bytes.old ≤ vec_capacity bytes.new }
+{
+    let _ = bytes.extend_from_slice(&opening(opcode, key, count));
+    length_into(bytes, count);
+    key_into(bytes, key);
 }
 
 /// Bytes 1 and 2 of a frame with FIN.
@@ -79,25 +88,43 @@ pub fn bits_of_length(length: u64) -> u8
     }
 }
 
-fn push_length(bytes: &mut Vec<u8>, length: u64) -> Result<(), AllocError>
-    ensures { OnOk result (bytes.new.items ≡ bytes.old.items ++ length_tail length) }
+fn length_into(bytes: &mut Vec<u8>, count: u64)
+    requires room { length bytes.old.items + 8 ≤ vec_capacity bytes.old }
+    ensures tail { bytes.new.items ≡ bytes.old.items ++ length_tail count }
+    ensures most { length bytes.new.items ≤ length bytes.old.items + 8 }
+    ensures kept { vec_capacity bytes.old ≤ vec_capacity bytes.new }
 {
-    if length < 126 {
-        return Ok(());
+    if count < 126 {
+        return;
     }
-    if length < 65_536 {
-        return bytes.extend_from_slice(&(length as u16).to_be_bytes());
+    if count < 65_536 {
+        let _ = bytes.extend_from_slice(&(count as u16).to_be_bytes());
+        return;
     }
-    bytes.extend_from_slice(&length.to_be_bytes())
+    let _ = bytes.extend_from_slice(&count.to_be_bytes());
 }
 
-fn push_masked(bytes: &mut Vec<u8>, key: Option<[u8; 4]>, payload: &[u8]) -> Result<(), AllocError>
-    ensures { OnOk result (bytes.new.items ≡ bytes.old.items ++ masked key payload.now) }
+fn key_into(bytes: &mut Vec<u8>, key: Option<[u8; 4]>)
+    requires room { length bytes.old.items + 4 ≤ vec_capacity bytes.old }
+    ensures key { bytes.new.items ≡ bytes.old.items ++ key_bytes key }
+    ensures most { length bytes.new.items ≤ length bytes.old.items + 4 }
+    ensures kept { vec_capacity bytes.old ≤ vec_capacity bytes.new }
+{
+    if let Some(key) = key {
+        let _ = bytes.extend_from_slice(&key);
+    }
+}
+
+/// Puts a payload behind these bytes as it stands in its frame; they have room for it. It takes no memory. To do it again
+/// takes the mask off.
+pub fn masked_into(bytes: &mut Vec<u8>, key: Option<[u8; 4]>, payload: &[u8])
+    requires room { length bytes.old.items + length payload.now ≤ vec_capacity bytes.old }
+    ensures masked { bytes.new.items ≡ bytes.old.items ++ masked key payload.now }
+    ensures kept { vec_capacity bytes.old ≤ vec_capacity bytes.new }
 {
     let start = bytes.len();
-    bytes.extend_from_slice(payload)?;
+    let _ = bytes.extend_from_slice(payload);
     if let Some(key) = key {
         mask(key, &mut bytes[start..]);
     }
-    Ok(())
 }

@@ -22,7 +22,7 @@ mod worked;
 pub use accept::accept_of;
 pub use close::{close_code, is_text, may_be_sent};
 pub use control::{Control, control_write};
-pub use frame::frame_write;
+pub use frame::{frame_into, frame_write, masked_into};
 pub use front::frame_front;
 pub use head::{Head, HeadFront};
 pub use laws::{frame_laws, handshake_laws};

@@ -9,4 +9,4 @@ pub drop_under_end-requires : goal.drop_under_end-requires
 drop_under_end-requires c =
     let l : 1 ≤ length c.self.inside.terms.items = subst (λ (ts : List TermLayer). 1 ≤ length ts) c.as_slice.ensures.value c.in-len1-up.len_at_least in
     let h : 1 ≤ length (ends_of (tower c.self.inside.terms.items (base_layers c.self.inside.base))) = omega (arith, l, top_there c.self.inside.terms.items c.self.inside.base) in
-    record { top = subst (λ (s : Stocked). 1 ≤ length (ends_of s.held.layers)) c.self.view_is h }
+    record { plain = c.requires.plain; top = subst (λ (s : Stocked). 1 ≤ length (ends_of s.held.layers)) c.self.view_is h }

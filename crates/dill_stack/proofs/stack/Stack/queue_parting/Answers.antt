@@ -1,7 +1,12 @@
-use Rattle.std.proofs.Common.{◌∙◌, sym, ap}
-use Rattle.dill_stack.specs.Standing.{tower, base_layers, has_end_of}
-use Rattle.dill_stack.proofs.Endings.{parts}
+use Rattle.std.proofs.Common.{◌∙◌, sym, ap, subst}
+use Rattle.dill_stack.specs.Doing.{IsKey, below_parting}
+use Rattle.dill_stack.specs.Rooms.{Stocked}
+use Rattle.dill_stack.specs.Standing.{tower, base_layers, is_frames_top}
+use Rattle.dill_stack.proofs.Endings.{closes, stack_closed}
 use Rattle.dill_stack.proofs.stack.Stack.queue_parting.Goals as goal
 
-pub returns-then-has_end-clause-due : goal.returns-then-has_end-clause-due
-returns-then-has_end-clause-due c = λ p random. parts p c.args.self.now.held.layers c.self.inside.terms.items c.self.inside.base random c.args.self.now.held (ap (λ s. s.held.layers) (sym c.self.view_is)) (sym (c.has_end.ensures ∙ ap (λ ts. has_end_of (tower ts (base_layers c.self.inside.base))) c.as_slice.ensures.value) ∙ c.if-has_end.true) ∙ c.queue_end.ensures.due random
+pub invariant_of-self : goal.invariant_of-self
+invariant_of-self c = rw (c.push_close.ensures.queued, c.push_close.ensures.closed) (stack_closed c.self.inside.terms.items c.self.inside.base c.self.inside.queue.room (ap (λ ts. is_frames_top (tower ts (base_layers c.self.inside.base))) (sym c.as_slice.ensures.value) ∙ sym c.is_frames_top.ensures ∙ c.if-is_frames_top.true) c.self.invariant)
+
+pub returns-then-is_frames_top-clause-due : goal.returns-then-is_frames_top-clause-due
+returns-then-is_frames_top-clause-due c = λ random k. rw (c.push_close.ensures.queued, c.push_close.ensures.closed) (rw (← c.self.view_is) (closes c.args.parting.now c.args.key c.self.inside.terms.items c.self.inside.base random _ (ap (λ ts. is_frames_top (tower ts (base_layers c.self.inside.base))) (sym c.as_slice.ensures.value) ∙ sym c.is_frames_top.ensures ∙ c.if-is_frames_top.true) (subst (λ (s : Stocked). IsKey c.args.key (below_parting s.held.layers) random) (sym c.self.view_is) k)))
