@@ -63,8 +63,11 @@ pub dones : (random : Stream) (s : Held) → done_fault false s ≡ None → don
 unfolding done
 dones random s h = rw h refl
 
-pub rest_of : (before now : Stocked) → now ≡ record before { held = now.held } → now ≡ record before { held = now.held; sending = now.sending }
-rest_of before now h = h ∙ ap (λ n. record before { held = now.held; sending = n }) (sym (ap (λ s. s.sending) h))
+pub rest_of : (before now : Stocked) → now ≡ record before { held = now.held } → now ≡ record before { held = now.held; sending = now.sending; joined = now.joined }
+rest_of before now h = h ∙ ap (λ n. record before { held = now.held; sending = n }) (sym (ap (λ s. s.sending) h)) ∙ ap (λ n. record before { held = now.held; sending = now.sending; joined = n }) (sym (ap (λ s. s.joined) h))
+
+pub more_of : (before now : Stocked) → now ≡ record before { held = now.held } → before.joined ≤ now.joined
+more_of before now h = omega (arith, ap (λ s. s.joined) h)
 
 pub room_of : (before now : Stocked) → now ≡ record before { held = now.held } → before.sending ≤ now.sending
 room_of before now h = omega (arith, ap (λ s. s.sending) h)

@@ -22,3 +22,4 @@ pub mod TowerReads
 pub mod Towers
 pub mod Drops
 pub mod HeadReads
+pub mod Greetings

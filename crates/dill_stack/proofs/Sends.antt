@@ -119,6 +119,7 @@ framed key m due before room now count random left d r n k l =
       due = d ∙ ap (λ x. Ok (queued Plain x before.held, random_after before.held.layers random)) (sym (on_key before.held.layers key m random k)) ∙ ap (λ x. Ok (queued Plain (on_link key before.held.layers m) before.held, x)) (sym l);
       rest = refl;
       room = omega arith;
+      more = omega arith;
     }
 
 pub lacking : (due : Result (Held × Stream) Errno) (x : Held × Stream) (before now : Stocked) (random : Stream) → due ≡ Ok x → now ≡ before → IsLacking due before now random random

@@ -14,8 +14,9 @@ use Rattle.dill_stack.specs.Rooms.{Stocked}
 -- what is due is done, and no room is lost
 pub record IsDone (wanted : Result (Held × Stream) Errno) (before now : Stocked) (left : Stream) : Type 0 where
   pub due : wanted ≡ Ok (now.held, left)
-  pub rest : now ≡ record before { held = now.held; sending = now.sending }
+  pub rest : now ≡ record before { held = now.held; sending = now.sending; joined = now.joined }
   pub room : before.sending ≤ now.sending
+  pub more : before.joined ≤ now.joined
 
 -- a refusal changes nothing
 pub record IsRefused (wanted : Result (Held × Stream) Errno) (e : Errno) (before now : Stocked) (random left : Stream) : Type 0 where

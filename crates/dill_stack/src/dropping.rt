@@ -185,7 +185,7 @@ fn meet_end(terms: &mut Vec<TermLayer>, at: usize) -> DropStep
 }
 
 // Nothing whole is at the front, which may be a boundary between two items.
-fn no_more(ended: bool, boundary: bool, unread: &[u8]) -> ReadOut
+pub(crate) fn no_more(ended: bool, boundary: bool, unread: &[u8]) -> ReadOut
     ensures { result ≡ no_more ended boundary unread.now }
 {
     if !ended {

@@ -1,5 +1,5 @@
 -- The head that a client sends is one.
-use Rattle.std.proofs.Common.{◌≡◌, ◌<◌, ◌≤◌, ◌+◌, ◌-◌, ◌++◌, ◌∷◌, [], ◌&&◌, ◌||◌, ℕ, List, Bool, true, false, length, drop, codes, Option, Some, None, Ok, arith, sym, ap, ◌∙◌, refl, if◌then◌else◌, append_assoc, length-append, inl}
+use Rattle.std.proofs.Common.{◌≡◌, ◌<◌, ◌≤◌, ◌+◌, ◌-◌, ◌++◌, ◌∷◌, [], ◌&&◌, ℕ, List, Bool, true, false, length, drop, codes, Option, Some, None, Ok, arith, sym, ap, ◌∙◌, refl, if◌then◌else◌, append_assoc, length-append, inl}
 use Rattle.std.specs.Prelude.{is_some, nat_eq, nat_lt}
 use Rattle.std.specs.Cmp.Lexicographic.{pointwise}
 use Rattle.std.specs.List.{list_all, list_any, cons_option, starts_with}

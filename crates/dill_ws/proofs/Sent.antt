@@ -1,5 +1,5 @@
 -- What a side sends is a head that the other reads.
-use Rattle.std.proofs.Common.{◌≡◌, ◌<◌, ◌≤◌, ◌+◌, ◌*◌, ◌/◌, ◌%◌, ◌++◌, ◌∷◌, [], ◌&&◌, ◌||◌, not, ℕ, suc, zero, List, Bool, true, false, eqb, length, replicate, get_or, Option, Some, None, Ok, arith, sym, ap, ◌∙◌, refl, if◌then◌else◌, length-append}
+use Rattle.std.proofs.Common.{◌≡◌, ◌<◌, ◌≤◌, ◌+◌, ◌*◌, ◌/◌, ◌%◌, ◌++◌, ◌∷◌, [], ◌&&◌, not, ℕ, suc, zero, List, Bool, true, false, eqb, length, replicate, get_or, Option, Some, None, Ok, arith, sym, ap, ◌∙◌, refl, if◌then◌else◌, length-append}
 use Rattle.std.specs.Prelude.{is_some, nat_eq, nat_le, slice_index}
 use Rattle.std.specs.List.{list_all}
 use Rattle.std.proofs.lemmas.Bool.{and_parts, and_from, leb-true, le-leb, ne_eqb, or_from, or_right}

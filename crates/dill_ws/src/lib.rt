@@ -27,7 +27,7 @@ pub use front::frame_front;
 pub use head::{Head, HeadFront};
 pub use laws::{frame_laws, handshake_laws};
 pub use masking::mask;
-pub use offer::{client_head, head_fault};
+pub use offer::{client_head, client_head_into, head_fault, key_text};
 pub use request::{Asked, read_client_head};
 pub use response::{read_server_head, server_head};
 pub use side::Side;

@@ -1,4 +1,4 @@
-ghost use Rattle.std.specs.Prelude.{◌≡◌, ◌++◌, codes, IfOk};
+ghost use Rattle.std.specs.Prelude.{◌≡◌, ◌≤◌, ◌+◌, ◌++◌, [], length, vec_capacity, codes, IfOk};
 ghost use Rattle.std.specs.List.{list_all};
 ghost use Rattle.base64.specs.Engines.{standard};
 ghost use Rattle.base64.specs.GeneralPurpose.{encode_of};
@@ -71,7 +71,37 @@ fn head_bytes(
     Ok(head)
 }
 
-fn key_text(key: [u8; 16]) -> [u8; 24]
+/// Puts the same head into these bytes, which are none and have room for it. It takes no memory. The key is in base64.
+pub fn client_head_into(bytes: &mut Vec<u8>, resource: &[u8], host: &[u8], key: &[u8; 24])
+    requires empty { bytes.old.items ≡ [] }
+    requires room { length resource.now + length host.now + 138 ≤ vec_capacity bytes.old }
+    ensures head { bytes.new.items ≡ head_of_lines (client_lines resource.now host.now key.now) }
+    ensures kept { vec_capacity bytes.old ≤ vec_capacity bytes.new }
+{
+    put(bytes, b"GET ");
+    put(bytes, resource);
+    put(bytes, b" HTTP/1.1\r\nHost: ");
+    put(bytes, host);
+    put(
+        bytes,
+        b"\r\nUpgrade: websocket\r\nConnection: Upgrade\r\nSec-WebSocket-Key: ",
+    );
+    put(bytes, key);
+    put(bytes, b"\r\nSec-WebSocket-Version: 13\r\n\r\n");
+}
+
+// Puts a piece behind these bytes, which have room for it.
+fn put(bytes: &mut Vec<u8>, piece: &[u8])
+    requires { length bytes.old.items + length piece.now ≤ vec_capacity bytes.old }
+    ensures put { bytes.new.items ≡ bytes.old.items ++ piece.now }
+    ensures count { length bytes.new.items ≡ length bytes.old.items + length piece.now }
+    ensures kept { vec_capacity bytes.old ≤ vec_capacity bytes.new }
+{
+    let _ = bytes.extend_from_slice(piece);
+}
+
+/// The base64 of a key of 16 bytes.
+pub fn key_text(key: [u8; 16]) -> [u8; 24]
     ensures { result ≡ encode_of standard key }
 {
     let mut text = [0; 24];

@@ -1,0 +1,92 @@
+-- Handshakes, and what becomes of them.
+use Rattle.std.proofs.Common.{◌≡◌, ◌≤◌, ◌∷◌, ◌&&◌, ◌∙◌, [], sym, ap, refl, arith, ℕ, List, Bool, true, false, not, Option, Some, None, Result, Ok, Err, if◌then◌else◌}
+use Rattle.rand_core.specs.Stream.{Stream}
+use Rattle.dill_base.specs.declared.errno.Errno.{Errno}
+use Rattle.dill_base.specs.declared.errno.Errno.TheVariants.{Einval, Emsgsize}
+use Rattle.dill_http.specs.Bytes.{is_resource}
+use Rattle.dill_ws.specs.declared.side.Side.TheVariants.{Server}
+use Rattle.dill_ws.specs.Handshakes.{client_lines, any_key, are_too_long, head_fault_of}
+use Rattle.dill_stack.specs.declared.fault.StackFault.{StackFault}
+use Rattle.dill_stack.specs.declared.fault.StackFault.TheVariants.{Refused, NoMemory}
+use Rattle.dill_stack.specs.declared.want.ReadOut.TheVariants.{Need}
+use Rattle.dill_stack.specs.Attaching.{greet_fault, expect_greet}
+use Rattle.dill_stack.specs.Composed.{is_any, is_einval}
+use Rattle.dill_stack.specs.Doing.{IsDone, Changes}
+use Rattle.dill_stack.specs.Greeting.{Heard, greet, greeted, greeting, heard_by, key_text, nonce, offer_fault}
+use Rattle.dill_stack.specs.Held.{Held, Task, Idle, Greets, Expects, Answers, Leaves, is_broken}
+use Rattle.dill_stack.specs.Layers.{Ws, fresh_ws}
+use Rattle.dill_stack.specs.Refusals.{first_fault, is_done}
+use Rattle.dill_stack.specs.Refusing.{is_fault_with}
+use Rattle.dill_stack.specs.Rooms.{Stocked}
+
+offers_if : (seen long over broken : Bool) → first_fault (is_fault_with is_einval (if seen then (if long then Some Emsgsize else None) else Some Einval)) false over broken (is_fault_with is_any (if seen then (if long then Some Emsgsize else None) else Some Einval)) ≡ first_fault (not seen) false over broken long
+offers_if true true over broken = refl
+offers_if true false over broken = refl
+offers_if false long over broken = refl
+
+pub offers_by : (r h : List ℕ) (own : Option Errno) (s : Held) → own ≡ head_fault_of r h → first_fault (is_fault_with is_einval own) false (is_done s) (is_broken s) (is_fault_with is_any own) ≡ offer_fault r h s
+unfolding head_fault_of greet_fault
+offers_by r h own s e = rw e (offers_if (is_resource r && is_resource h) (are_too_long (client_lines r h any_key)) (is_done s) (is_broken s))
+
+pub greet_refused : (text : Bool) (r h : List ℕ) (random : Stream) (s : Held) (e : Errno) → offer_fault r h s ≡ Some e → greet text r h random s ≡ Err e
+unfolding greet
+greet_refused text r h random s e k = rw k refl
+
+pub greets : (text : Bool) (r h : List ℕ) (random : Stream) (s : Held) → offer_fault r h s ≡ None → greet text r h random s ≡ Ok (greeting text r h (key_text random) s, (nonce random).1)
+unfolding greet
+greets text r h random s k = rw k refl
+
+-- A client's head is in the queue, and its layer on the link.
+pub has_greeted : (text : Bool) (r h key : List ℕ) (due : Result (Held × Stream) Errno) (before room now : Stocked) (random left : Stream) → due ≡ Ok (greeting text r h (key_text random) before.held, (nonce random).1) → room ≡ record before { sending = room.sending } → before.sending ≤ room.sending → now ≡ record room { held = greeting text r h key room.held; joined = now.joined } → room.joined ≤ now.joined → key ≡ key_text random → left ≡ (nonce random).1 → IsDone due before now left
+has_greeted text r h key due before room now random left d p m n j k l =
+    let w : now ≡ record before { held = greeting text r h key before.held; sending = room.sending; joined = now.joined } = n ∙ ap {A = Stocked} (λ x. record x { held = greeting text r h key x.held; joined = now.joined }) p in
+    let e : now.held ≡ greeting text r h key before.held = ap {A = Stocked} (λ x. x.held) w in
+    let f : now.sending ≡ room.sending = ap {A = Stocked} (λ x. x.sending) w in
+    let i : room.joined ≡ before.joined = ap {A = Stocked} (λ x. x.joined) p in
+    record {
+      due = d ∙ ap {A = List ℕ} (λ x. Ok (greeting text r h x before.held, (nonce random).1)) (sym k) ∙ ap {A = Held} (λ x. Ok (x, (nonce random).1)) (sym e) ∙ ap {A = Stream} (λ x. Ok (now.held, x)) (sym l);
+      rest = w ∙ ap {A = Held} (λ x. record before { held = x; sending = room.sending; joined = now.joined }) (sym e) ∙ ap {A = ℕ} (λ x. record before { held = now.held; sending = x; joined = now.joined }) (sym f);
+      room = omega (arith, f, m);
+      more = omega (arith, i, j);
+    }
+
+pub expect_refused : (text : Bool) (s : Held) (e : Errno) → greet_fault false false s ≡ Some e → expect_greet text s ≡ Err e
+unfolding expect_greet
+expect_refused text s e h = rw h refl
+
+pub expects : (text : Bool) (s : Held) → greet_fault false false s ≡ None → expect_greet text s ≡ Ok (record s { layers = Ws (fresh_ws Server text) ∷ s.layers; task = Expects })
+unfolding expect_greet
+expects text s h = rw h refl
+
+-- A server's layer is on the link, and waits.
+pub has_expected : (text : Bool) (before mid now : Stocked) → expect_greet text before.held ≡ Ok (record before.held { layers = Ws (fresh_ws Server text) ∷ before.held.layers; task = Expects }) → before.held.layers ≡ [] → mid ≡ record before { held = record before.held { layers = Ws (fresh_ws Server text) ∷ [] }; joined = mid.joined } → before.joined ≤ mid.joined → now ≡ record mid { held = record mid.held { task = Expects } }
+    → (expect_greet text before.held ≡ Ok now.held) × (now ≡ record before { held = now.held; sending = now.sending; joined = now.joined }) × (before.sending ≤ now.sending) × (before.joined ≤ now.joined)
+has_expected text before mid now d b p j n =
+    let w : now ≡ record before { held = record before.held { layers = Ws (fresh_ws Server text) ∷ []; task = Expects }; joined = mid.joined } = n ∙ ap {A = Stocked} (λ x. record x { held = record x.held { task = Expects } }) p in
+    let e : now.held ≡ record before.held { layers = Ws (fresh_ws Server text) ∷ []; task = Expects } = ap {A = Stocked} (λ x. x.held) w in
+    let f : now.sending ≡ before.sending = ap {A = Stocked} (λ x. x.sending) w in
+    let g : now.joined ≡ mid.joined = ap {A = Stocked} (λ x. x.joined) w in (
+      d ∙ ap (λ l. Ok (record before.held { layers = Ws (fresh_ws Server text) ∷ l; task = Expects })) b ∙ ap {A = Held} Ok (sym e),
+      w ∙ ap {A = Held} (λ x. record before { held = x; joined = mid.joined }) (sym e) ∙ ap {A = ℕ} (λ x. record before { held = now.held; sending = x; joined = mid.joined }) (sym f) ∙ ap {A = ℕ} (λ x. record before { held = now.held; sending = now.sending; joined = x }) (sym g),
+      omega (arith, f),
+      omega (arith, g, j),
+    )
+
+pub not_expected : (e : StackFault) (due : Result Held Errno) (x : Held) (before now : Stocked) → due ≡ Ok x → e ≡ NoMemory → now ≡ before → Changes due (Err e) before now
+not_expected NoMemory due x before now d m h = (rw d refl, h)
+not_expected (Refused f) due x before now d m h = cc
+
+pub hears : (s : Held) (t : Task) → s.task ≡ t → greeted s ≡ heard_by t s
+unfolding greeted
+hears s t h = ap (λ x. heard_by x s) h
+
+-- a look, where no handshake has begun
+abbrev pub unheard : Held → Heard
+unheard s = record { stack = s; said = Need }
+
+pub hears_none : (s : Held) (t : Task) → ((a : List ℕ) → t ≡ Greets a → ⊥) → (t ≡ Expects → ⊥) → (t ≡ Answers → ⊥) → heard_by t s ≡ unheard s
+hears_none s Idle g e a = refl
+hears_none s (Greets x) g e a = absurd (g x refl)
+hears_none s Expects g e a = absurd (e refl)
+hears_none s Answers g e a = absurd (a refl)
+hears_none s Leaves g e a = refl
