@@ -23,3 +23,4 @@ pub mod Towers
 pub mod Drops
 pub mod HeadReads
 pub mod Greetings
+pub mod Shortness

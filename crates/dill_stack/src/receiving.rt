@@ -1,7 +1,7 @@
 ghost use Rattle.std.specs.Prelude.{◌≡◌, ◌≤◌, ◌<◌, length, true, None, OnOk, OnErr, IfSome};
 ghost use Rattle.dill_stack.specs.Needs.{need};
 ghost use Rattle.dill_stack.specs.declared.want.Want.TheVariants as want;
-ghost use Rattle.dill_stack.specs.Layers.{HasMessages};
+ghost use Rattle.dill_stack.specs.Layers.{HasMessages, IsStanding};
 ghost use Rattle.dill_stack.specs.Read.{no_more};
 ghost use Rattle.dill_stack.specs.Receiving.{read, read_of, ws_of, broken_by};
 ghost use Rattle.dill_stack.specs.Standing.{FitsBase};
@@ -12,7 +12,8 @@ use crate::stack::Stack;
 use crate::want::{ReadOut, Want};
 use dill_base::{Errno, Front, NoMemory};
 use dill_calls::Answer;
-use dill_frames::{is_terminal, prefix_read, suffix_read};
+use dill_frames::{is_terminal, prefix_laws, prefix_read, suffix_laws, suffix_read};
+use dill_http::http_laws;
 use rand_core::Rng;
 
 /// The most bytes that one read of the link brings.
@@ -131,7 +132,8 @@ impl Stack {
         }
     }
 
-    /// The answer to this receive, from all that is unread. It takes no memory.
+    /// The answer to this receive, from all that is unread. Where more bytes are awaited, fewer are unread than it may
+    /// need, so that there is room for another 4,096. It takes no memory.
     pub fn read<R: Rng>(&mut self, want: Want, _keys: &mut R) -> ReadOut
         requires reserved { size_of want ≤ self.old.answer }
         requires second { second_of want ≤ self.old.second }
@@ -139,8 +141,20 @@ impl Stack {
         ensures said { result ≡ (read want (R.stream _keys.old) self.old.held).said }
         ensures stack { self.new ≡ record self.old { held = (read want (R.stream _keys.old) self.old.held).stack; answer = room_after result self.old.answer; second = second_after result self.old.second } }
         ensures random { R.stream _keys.new ≡ (read want (R.stream _keys.old) self.old.held).random }
+        ensures short { result ≡ ReadOut.Need → length self.new.held.unread < need want self.old.held }
     {
+        prefix_laws();
+        suffix_laws();
+        http_laws();
+        self.stands();
         self.look(want)
+    }
+
+    // Its layers stand on one another as they may.
+    fn stands(&self)
+        ensures { IsStanding self.now.held.layers }
+    {
+        let _ = &self.base;
     }
 
     // The answer to this receive, which draws no random number.
