@@ -236,7 +236,7 @@ module _ {V : Type 0} (p : Program V) (law : IsLawful p) (plainly : MakesPlain p
       falls_moved : total (share_by p (early_of (early - 1) rest)) v.coroutines < total (share_by p (early_of early (who ∷ rest))) w.coroutines
 
     went_falls : (w : World V) (early who : ℕ) (rest : List ℕ) (c : Coroutine V) (v : World V) → coroutine_of w who ≡ Some c → is_answered c.mode ≡ true → 1 ≤ p.left c.body → SaysIn (p.said c.body) c.mode → IsLowering (early_of early (who ∷ rest)) c → Numbered 0 w.coroutines w.last_coroutine → early_of (early - 1) rest who ≡ false → Went p law all_calm (begin w) who c (given_of c.mode).1 v → total (share_by p (early_of (early - 1) rest)) v.coroutines < total (share_by p (early_of early (who ∷ rest))) w.coroutines
-    went_falls w early who rest c v found answered some says lowers numbered gone (called word view goes leads stands) =
+    went_falls w early who rest c v found answered some says lowers numbered gone (called word view goes leads) =
         let now = early_of early (who ∷ rest) in
         let less = early_of (early - 1) rest in
         let number = found_number who w.coroutines c found in

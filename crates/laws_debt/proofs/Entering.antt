@@ -1,14 +1,12 @@
 -- What the cancelled are answered: ECANCELED of a call that blocks, and of no other call anything but what lowers.
-use Rattle.std.proofs.Common.{◌≡◌, ◌∙◌, ◌⊎◌, inl, inr, ℕ, List, [], ◌∷◌, length, find, Bool, true, false, not, ◌&&◌, ◌||◌, cond, Option, Some, None, is_none, nat_lt, refl, sym, ap}
+use Rattle.std.proofs.Common.{◌≡◌, ◌∙◌, ◌⊎◌, inl, inr, ℕ, Bool, true, false, Option, Some, None, nat_lt, refl, sym, ap}
 use Rattle.std.specs.Option.{option_or}
 use Rattle.dill_base.specs.declared.errno.Errno.{Errno}
 use Rattle.dill_base.specs.declared.errno.Errno.TheVariants.{Ecanceled}
-use Rattle.dill_base.specs.declared.errno.Errno.TheVariants as errnos
 use Rattle.dill_calls.specs.declared.answer.Answer.{Answer}
 use Rattle.dill_calls.specs.declared.answer.Answer.TheVariants.{Fault}
 use Rattle.dill_calls.specs.declared.call.Call.{Call}
 use Rattle.dill_calls.specs.declared.call.Call.TheVariants as calls
-use Rattle.dill_calls.specs.declared.lists.Arg.{Arg}
 use Rattle.dill_calls.specs.declared.word.Word.{Word}
 use Rattle.dill_calls.specs.declared.word.Word.TheVariants as words
 use Rattle.dill_calls.specs.CallTable.{word_of, is_start, is_quiet}
@@ -17,12 +15,11 @@ use Rattle.dill_plain.specs.Plain.{is_plain}
 use Rattle.dill_rules.specs.World.{World}
 use Rattle.dill_rules.specs.Taking.{is_cancelled}
 use Rattle.dill_rules.specs.Answers.{when, answer_of}
-use Rattle.dill_rules.specs.Naming.{gifts_of}
-use Rattle.dill_rules.specs.Kinds.{is_of_kind, names_dead, is_other_kind, names_other}
-use Rattle.dill_rules.specs.Owning.{entry_of}
-use Rattle.dill_rules.specs.Refusals.{refuse, has_twice, holds, is_invalid, is_refused_by_stack}
+use Rattle.dill_rules.specs.Refusals.{refuse}
 use Rattle.dill_rules.specs.Entering.{entered, lack_fault}
 use Rattle.laws_sound.specs.Plain.{may_wait}
+use Rattle.std.proofs.lemmas.Bool.{or_parts}
+use Rattle.laws_sound.proofs.Entering.{may}
 
 -- a quiet call lowers, whatever is answered
 pub by_quiet : (word : Word) (answer : Answer) → is_quiet word ≡ true → Lowers word answer
@@ -41,37 +38,13 @@ start_only words.Start e = refl
 start_only _ e = cc
 
 -- a deadline from its entry on leaves the word of a call
-pub word_entered : (moment : ℕ) (call : Call) → is_plain call ≡ true → word_of (entered moment call) ≡ word_of call
-word_entered moment (calls.Print text) e = refl
-word_entered moment calls.Now e = refl
-word_entered moment calls.Yield e = refl
-word_entered moment (calls.Msleep deadline) e = refl
-word_entered moment (calls.Hmake kind value) e = refl
-word_entered moment (calls.Hquery number kind) e = refl
-word_entered moment (calls.Hown number) e = refl
-word_entered moment (calls.Hclose number) e = refl
-word_entered moment calls.Bundle e = refl
-word_entered moment (calls.Go program args) e = refl
-word_entered moment (calls.BundleGo number program args) e = refl
-word_entered moment (calls.BundleWait number deadline) e = refl
-word_entered moment (calls.Pass word fault) e = refl
-word_entered moment _ e = cc
+pub word_entered : (moment : ℕ) (call : Call) → word_of (entered moment call) ≡ word_of call
+word_entered moment (calls.Msleep deadline) = refl
+word_entered moment call = refl
 
-pub entered_passes : (moment : ℕ) (call : Call) → is_plain call ≡ true → PassesWell call → PassesWell (entered moment call)
-entered_passes moment (calls.Print text) e f = tt
-entered_passes moment calls.Now e f = tt
-entered_passes moment calls.Yield e f = tt
-entered_passes moment (calls.Msleep deadline) e f = tt
-entered_passes moment (calls.Hmake kind value) e f = tt
-entered_passes moment (calls.Hquery number kind) e f = tt
-entered_passes moment (calls.Hown number) e f = tt
-entered_passes moment (calls.Hclose number) e f = tt
-entered_passes moment calls.Bundle e f = tt
-entered_passes moment (calls.Go program args) e f = tt
-entered_passes moment (calls.BundleGo number program args) e f = tt
-entered_passes moment (calls.BundleWait number deadline) e f = tt
-entered_passes moment (calls.Pass word fault) e f = f
-entered_passes moment _ e f = cc
+pub entered_passes : (moment : ℕ) (call : Call) → PassesWell call → PassesWell (entered moment call)
+entered_passes moment (calls.Pass word fault) f = f
+entered_passes moment call f = tt
 
 -- the calls that a cancelled caller is refused whatever they name: they block or make
 abbrev pub is_called_off_at_once : Call → Bool
@@ -162,95 +135,12 @@ module _ {V : Type 0} (w : World V) (who : ℕ) where
   answer_lowers (calls.Hclose number) answer f c r = by_quiet words.Hclose answer refl
   answer_lowers _ answer f c r = cc
 
-pub picks_none : {A : Type 0} (b : Bool) (x : A) (rest : Option A) → cond b (Some x) rest ≡ None → (b ≡ false) × (rest ≡ None)
-picks_none true x rest e = cc
-picks_none false x rest e = (refl, e)
-
-pub or_false : (a b : Bool) → (a || b) ≡ false → a ≡ false
-or_false true b e = cc
-or_false false b e = refl
-
-not_true : (a b : Bool) → not (a && not b) ≡ false → a ≡ true
-not_true true b e = refl
-not_true false b e = cc
-
-of_kind : (b : Bool) → not b ≡ false → b ≡ true
-of_kind true e = refl
-of_kind false e = cc
-
 -- an application's handle has one of its kinds
 abbrev pub MakesProper : Call → Type 0
 MakesProper (calls.Hmake kind value) = nat_lt kind 256 ≡ false
 MakesProper call = Unit {0}
 
 module _ {V : Type 0} (p : Program V) where
-  fourth_none : (f : Errno → Bool) (a b c d : Errno) (rest : List Errno) → find f (a ∷ b ∷ c ∷ d ∷ rest) ≡ None → f d ≡ false
-  fourth_none f a b c d rest e =
-      let one = picks_none (f a) a (find f (b ∷ c ∷ d ∷ rest)) e in
-      let two = picks_none (f b) b (find f (c ∷ d ∷ rest)) one.1 in
-      let three = picks_none (f c) c (find f (d ∷ rest)) two.1 in
-      (picks_none (f d) d (find f rest) three.1).0
-
-  -- what isn't refused starts a program that is known
-  pub go_known : (w : World V) (who : ℕ) (view : V) (program : ℕ) (args : List Arg) → refuse p w who view (calls.Go program args) ≡ None → p.knows view program (length args) ≡ true
-  go_known w who view program args f =
-      let held = fourth_none (holds p w who view (calls.Go program args)) errnos.Ecanceled errnos.Ebadf errnos.Enotsup errnos.Einval (errnos.Ebusy ∷ errnos.Epipe ∷ errnos.Econnreset ∷ errnos.Emsgsize ∷ errnos.Emfile ∷ []) f in
-      not_true (p.knows view program (length args)) (has_twice (gifts_of args)) (or_false (is_invalid p view (calls.Go program args)) (is_refused_by_stack w (calls.Go program args) errnos.Einval) held)
-
-  pub bundle_go_known : (w : World V) (who : ℕ) (view : V) (number program : ℕ) (args : List Arg) → refuse p w who view (calls.BundleGo number program args) ≡ None → p.knows view program (length args) ≡ true
-  bundle_go_known w who view number program args f =
-      let held = fourth_none (holds p w who view (calls.BundleGo number program args)) errnos.Ecanceled errnos.Ebadf errnos.Enotsup errnos.Einval (errnos.Ebusy ∷ errnos.Epipe ∷ errnos.Econnreset ∷ errnos.Emsgsize ∷ errnos.Emfile ∷ []) f in
-      not_true (p.knows view program (length args)) (has_twice (gifts_of args)) (or_false (is_invalid p view (calls.BundleGo number program args)) (is_refused_by_stack w (calls.BundleGo number program args) errnos.Einval) held)
-
   pub unrefused_proper : (w : World V) (who : ℕ) (view : V) (call : Call) → is_plain call ≡ true → refuse p w who view call ≡ None → MakesProper call
-  unrefused_proper w who view (calls.Hmake kind value) e f =
-      let held = fourth_none (holds p w who view (calls.Hmake kind value)) errnos.Ecanceled errnos.Ebadf errnos.Enotsup errnos.Einval (errnos.Ebusy ∷ errnos.Epipe ∷ errnos.Econnreset ∷ errnos.Emsgsize ∷ errnos.Emfile ∷ []) f in
-      or_false (nat_lt kind 256) (nat_lt 4294967295 kind) (or_false (is_invalid p view (calls.Hmake kind value)) (is_refused_by_stack w (calls.Hmake kind value) errnos.Einval) held)
-  unrefused_proper w who view (calls.Print text) e f = tt
-  unrefused_proper w who view calls.Now e f = tt
-  unrefused_proper w who view calls.Yield e f = tt
-  unrefused_proper w who view (calls.Msleep deadline) e f = tt
-  unrefused_proper w who view (calls.Hquery number kind) e f = tt
-  unrefused_proper w who view (calls.Hown number) e f = tt
-  unrefused_proper w who view (calls.Hclose number) e f = tt
-  unrefused_proper w who view calls.Bundle e f = tt
-  unrefused_proper w who view (calls.Go program args) e f = tt
-  unrefused_proper w who view (calls.BundleGo number program args) e f = tt
-  unrefused_proper w who view (calls.BundleWait number deadline) e f = tt
-  unrefused_proper w who view (calls.Pass word fault) e f = tt
-  unrefused_proper w who view _ e f = cc
-
-  second_none : (f : Errno → Bool) (a b : Errno) (rest : List Errno) → find f (a ∷ b ∷ rest) ≡ None → f b ≡ false
-  second_none f a b rest e = (picks_none (f b) b (find f rest) (picks_none (f a) a (find f (b ∷ rest)) e).1).0
-
-  third_none : (f : Errno → Bool) (a b c : Errno) (rest : List Errno) → find f (a ∷ b ∷ c ∷ rest) ≡ None → f c ≡ false
-  third_none f a b c rest e = second_none f b c rest (picks_none (f a) a (find f (b ∷ c ∷ rest)) e).1
-
-  -- what isn't refused names live numbers, and a bundle where it has to
-  abbrev pub Names : World V → Call → Type 0
-  Names w (calls.Hquery number kind) = is_none (entry_of w number) ≡ false
-  Names w (calls.Hclose number) = is_none (entry_of w number) ≡ false
-  Names w (calls.BundleGo number program args) = is_of_kind w 1 number ≡ true
-  Names w call = Unit {0}
-
-  pub unrefused_names : (w : World V) (who : ℕ) (view : V) (call : Call) → is_plain call ≡ true → refuse p w who view call ≡ None → Names w call
-  unrefused_names w who view (calls.Hquery number kind) e f =
-      let held = second_none (holds p w who view (calls.Hquery number kind)) errnos.Ecanceled errnos.Ebadf (errnos.Enotsup ∷ errnos.Einval ∷ errnos.Ebusy ∷ errnos.Epipe ∷ errnos.Econnreset ∷ errnos.Emsgsize ∷ errnos.Emfile ∷ []) f in
-      or_false (is_none (entry_of w number)) false (or_false (names_dead w (calls.Hquery number kind)) (is_refused_by_stack w (calls.Hquery number kind) errnos.Ebadf) held)
-  unrefused_names w who view (calls.Hclose number) e f =
-      let held = second_none (holds p w who view (calls.Hclose number)) errnos.Ecanceled errnos.Ebadf (errnos.Enotsup ∷ errnos.Einval ∷ errnos.Ebusy ∷ errnos.Epipe ∷ errnos.Econnreset ∷ errnos.Emsgsize ∷ errnos.Emfile ∷ []) f in
-      or_false (is_none (entry_of w number)) false (or_false (names_dead w (calls.Hclose number)) (is_refused_by_stack w (calls.Hclose number) errnos.Ebadf) held)
-  unrefused_names w who view (calls.BundleGo number program args) e f =
-      let held = third_none (holds p w who view (calls.BundleGo number program args)) errnos.Ecanceled errnos.Ebadf errnos.Enotsup (errnos.Einval ∷ errnos.Ebusy ∷ errnos.Epipe ∷ errnos.Econnreset ∷ errnos.Emsgsize ∷ errnos.Emfile ∷ []) f in
-      of_kind (is_of_kind w 1 number) (or_false (is_other_kind w (calls.BundleGo number program args)) _ (or_false (names_other w (calls.BundleGo number program args)) (is_refused_by_stack w (calls.BundleGo number program args) errnos.Enotsup) held))
-  unrefused_names w who view (calls.Print text) e f = tt
-  unrefused_names w who view calls.Now e f = tt
-  unrefused_names w who view calls.Yield e f = tt
-  unrefused_names w who view (calls.Msleep deadline) e f = tt
-  unrefused_names w who view (calls.Hmake kind value) e f = tt
-  unrefused_names w who view (calls.Hown number) e f = tt
-  unrefused_names w who view calls.Bundle e f = tt
-  unrefused_names w who view (calls.Go program args) e f = tt
-  unrefused_names w who view (calls.BundleWait number deadline) e f = tt
-  unrefused_names w who view (calls.Pass word fault) e f = tt
-  unrefused_names w who view _ e f = cc
+  unrefused_proper w who view (calls.Hmake kind value) e f = (or_parts (nat_lt kind 256) (nat_lt 4294967295 kind) (may p w who view (calls.Hmake kind value) f).valid).0
+  unrefused_proper w who view call e f = tt

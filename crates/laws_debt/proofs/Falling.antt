@@ -165,7 +165,7 @@ module _ {V : Type 0} (p : Program V) (law : IsLawful p) (plainly : MakesPlain p
     none_left false = refl
 
     went_owes : (w : World V) (c : Coroutine V) (v : World V) → coroutine_of w who ≡ Some c → is_answered c.mode ≡ true → 1 ≤ p.left c.body → SaysIn (p.said c.body) c.mode → (tree c.number ≡ true → IsLowering early c) → Numbered 0 w.coroutines w.last_coroutine → (b : Bool) → tree c.number ≡ b → Went p law tree (begin w) who c (given_of c.mode).1 v → Owes (total (share_in p tree less) v.coroutines) (total (share_in p tree early) w.coroutines) b
-    went_owes w c v found answered some says lowers numbered true i (called word view goes leads stands) =
+    went_owes w c v found answered some says lowers numbered true i (called word view goes leads) =
         let number = found_number who w.coroutines c found in
         let share = share_falls p early less who gone same c view word number answered says (lowers i) goes in
         let both = total_resumed who view (share_in p tree early) (share_in p tree less) c w.coroutines 0 w.last_coroutine numbered found others_in in
@@ -173,7 +173,7 @@ module _ {V : Type 0} (p : Program V) (law : IsLawful p) (plainly : MakesPlain p
         let was : share_in p tree early c ≡ share_by p early c = in_is early c true i in
         let kept = owed_tree p tree less (resume (begin w) who view).coroutines v.coroutines w.last_coroutine v.last_coroutine leads in
         record { no_more = omega (arith, both, now, was, share, kept); falls = λ u. omega (arith, both, now, was, share, kept) }
-    went_owes w c v found answered some says lowers numbered false i (called word view goes leads stands) =
+    went_owes w c v found answered some says lowers numbered false i (called word view goes leads) =
         let both = total_resumed who view (share_in p tree early) (share_in p tree less) c w.coroutines 0 w.last_coroutine numbered found others_in in
         let now : share_in p tree less (as_running view c) ≡ 0 = in_is less (as_running view c) false i in
         let was : share_in p tree early c ≡ 0 = in_is early c false i in

@@ -1,6 +1,6 @@
 -- Each step keeps what holds between steps.
-use Rattle.std.proofs.Common.{◌≡◌, ◌∙◌, inl, ◌-◌, ◌≤◌, ℕ, zero, suc, List, [], ◌∷◌, length, map, fold, Bool, true, false, Option, Some, refl, sym, ap, subst, arith}
-use Rattle.std.proofs.lemmas.Bool.{and_parts, and_from}
+use Rattle.std.proofs.Common.{◌≡◌, ◌∙◌, inl, ◌-◌, ◌≤◌, ℕ, zero, suc, List, [], ◌∷◌, length, fold, Bool, true, false, Option, Some, refl, sym, ap, subst, arith}
+use Rattle.std.proofs.lemmas.Bool.{and_parts}
 use Rattle.std.specs.List.{AllByRecursion, list_all}
 use Rattle.dill_calls.specs.declared.ran.LackPlace.{LackPlace}
 use Rattle.dill_calls.specs.declared.word.Word.{Word}
@@ -26,7 +26,8 @@ use Rattle.laws_sound.specs.PlainLaws.{KeepsPlain}
 use Rattle.laws_sound.proofs.Plainly.{begin_plain}
 use Rattle.laws_sound.proofs.PlainLaws.{steps_keep_plain}
 use Rattle.laws_queue.specs.Well.{Numbered, IsWell}
-use Rattle.laws_sound.specs.Laws.{KeepsOrder, is_resting, is_timed}
+use Rattle.laws_sound.specs.Laws.{KeepsOrder, is_resting, is_timed, IsAtRest, KeepsRest}
+use Rattle.laws_sound.proofs.Resting.{steps_keep_rest}
 use Rattle.laws_sound.specs.Orderly.{IsOrderly}
 use Rattle.laws_debt.specs.Closing.{IsStable}
 use Rattle.laws_debt.specs.Flags.{IsFlagged, HasFlags}
@@ -38,7 +39,6 @@ use Rattle.laws_queue.proofs.Lining.{lined_pending, numbered_lined}
 use Rattle.laws_debt.proofs.Lists.{all_change, all_map, all_to, numbered_change, number_of}
 use Rattle.laws_debt.proofs.Settling.{Sits, AllSit, leads_sits, leads_numbered, settle_one_leads, settle_within_leads, settle_leads, pass_nothing, expire_leads}
 use Rattle.laws_debt.proofs.Shutting.{AllHold, Lasts, settle_one_shut, expire_one_shut, go_on_shut}
-use Rattle.laws_debt.proofs.Standing.{stands, IsStanding, leads_stand, leads_run, all_stand, all_running}
 use Rattle.laws_debt.proofs.Turning.{go_on_went, went_leads}
 use Rattle.laws_debt.proofs.Walking.{Leads}
 
@@ -65,11 +65,10 @@ module _ {V : Type 0} (P : Bundle → Type 0) (low : ℕ) (lasts : Lasts P low) 
       within_holds k (settle_one w) (leads_sits p nobody_calm w (settle_one w) one a) (leads_numbered p nobody_calm w (settle_one w) one n) (settle_one_shut P low lasts p w a n h)
 
 module _ {V : Type 0} (p : Program V) where
-  -- a world in which nobody's program disagrees with what it waits for, handles are proper and nobody is running
+  -- a world in which nobody's program disagrees with what it waits for, and handles are proper
   pub record IsGood (w : World V) : Type 0 where
     pub numbered : Numbered 0 w.coroutines w.last_coroutine
     pub sits : AllSit p w.coroutines
-    pub stand : AllByRecursion IsStanding w.coroutines
     pub holds : AllHold AnyBundle 0 w
 
   pub settles : (w : World V) → AllSit p w.coroutines → Numbered 0 w.coroutines w.last_coroutine → Leads p nobody_calm w (settle w)
@@ -88,7 +87,6 @@ module _ {V : Type 0} (p : Program V) where
       record {
         numbered = leads_numbered p nobody_calm w (settle w) e g.numbered;
         sits = leads_sits p nobody_calm w (settle w) e g.sits;
-        stand = leads_stand p nobody_calm w (settle w) e g.stand;
         holds = settle_holds AnyBundle 0 any_lasts w g.sits g.numbered g.holds;
       }
 
@@ -98,7 +96,6 @@ module _ {V : Type 0} (p : Program V) where
       record {
         numbered = leads_numbered p nobody_calm w (expire_one w who) e g.numbered;
         sits = leads_sits p nobody_calm w (expire_one w who) e g.sits;
-        stand = leads_stand p nobody_calm w (expire_one w who) e g.stand;
         holds = expire_one_shut AnyBundle 0 any_lasts p w who g.sits g.holds;
       }
 
@@ -106,22 +103,10 @@ module _ {V : Type 0} (p : Program V) where
   all_sit [] e a = tt
   all_sit (c ∷ cs) e a = let h = and_parts (waits_plainly c) (list_all waits_plainly cs) e in ((h.0, a.0), all_sit cs h.1 a.1)
 
-  resting_stands : (mode : Mode) → is_resting mode ≡ true → stands mode ≡ true
-  resting_stands (modes.Pending call) e = refl
-  resting_stands modes.Running e = cc
-  resting_stands (modes.Fresh word answer) e = cc
-  resting_stands (modes.Answered word answer) e = refl
-  resting_stands (modes.Ending outcome) e = refl
-
-  all_standing : (cs : List (Coroutine V)) → list_all (λ c. is_resting c.mode) cs ≡ true → AllByRecursion IsStanding cs
-  all_standing [] e = tt
-  all_standing (c ∷ cs) e = let h = and_parts (is_resting c.mode) (list_all (λ d. is_resting d.mode) cs) e in (resting_stands c.mode h.0, all_standing cs h.1)
-
   pub good_stable : (k : Kept V) → IsStable p k → IsGood k.world
   good_stable k s = record {
     numbered = s.well.numbered;
     sits = all_sit k.world.coroutines s.plain.calls s.says;
-    stand = all_standing k.world.coroutines s.rest;
     holds = record { given = omega arith; bundles = all_any k.world.scopes.bundles; things = s.things; flags = s.flags };
   }
 
@@ -132,26 +117,15 @@ module _ {V : Type 0} (p : Program V) where
   says_lined said (modes.Answered word answer) s = s
   says_lined said (modes.Ending outcome) s = tt
 
-  rests_lined : (c : Coroutine V) (mode : Mode) → c.mode ≡ mode → IsStanding c → is_resting (lined_mode c.mode) ≡ true
-  rests_lined c (modes.Pending call) e s = ap (λ m. is_resting (lined_mode m)) e
-  rests_lined c modes.Running e s = let it : false ≡ true = sym (ap (λ m. stands m) e) ∙ s in cc
-  rests_lined c (modes.Fresh word answer) e s = ap (λ m. is_resting (lined_mode m)) e
-  rests_lined c (modes.Answered word answer) e s = ap (λ m. is_resting (lined_mode m)) e
-  rests_lined c (modes.Ending outcome) e s = ap (λ m. is_resting (lined_mode m)) e
-
-  all_rest : (cs : List (Coroutine V)) → AllByRecursion IsStanding cs → list_all (λ c. is_resting c.mode) (map lined cs) ≡ true
-  all_rest [] a = refl
-  all_rest (c ∷ cs) a = and_from (is_resting (lined_mode c.mode)) (list_all (λ d. is_resting d.mode) (map lined cs)) (rests_lined c c.mode refl a.0) (all_rest cs a.1)
-
   -- who was answered in a step is queued
-  pub stable_queued : (v : World V) (ready : List ℕ) (early : ℕ) → IsWell p (queued v ready early) → IsPlain (queued v ready early).world → IsOrderly (queued v ready early).world → IsGood v → IsStable p (queued v ready early)
-  stable_queued v ready early well plain order g = record {
+  pub stable_queued : (v : World V) (ready : List ℕ) (early : ℕ) → IsWell p (queued v ready early) → IsPlain (queued v ready early).world → IsOrderly (queued v ready early).world → IsAtRest (queued v ready early).world → IsGood v → IsStable p (queued v ready early)
+  stable_queued v ready early well plain order rest g = record {
     well = well;
     plain = plain;
     order = order;
     says = all_map (Says p) lined v.coroutines (λ c s. says_lined (p.said c.body) c.mode s) (all_to (Sits p) (Says p) v.coroutines (λ c s. s.1) g.sits);
     things = g.holds.things;
-    rest = all_rest v.coroutines g.stand;
+    rest = rest;
     flags = record { ranked = g.holds.flags.ranked; flagged = g.holds.flags.flagged };
   }
 
@@ -159,19 +133,11 @@ module _ {V : Type 0} (p : Program V) where
   lined_sits : (c : Coroutine V) (mode : Mode) → c.mode ≡ mode → Sits p c → Sits p (lined c)
   lined_sits c mode e s = (ap (λ o. if_some o true may_wait) (lined_pending c.mode) ∙ s.0, says_lined p (p.said c.body) c.mode s.1)
 
-  lined_stands : (mode : Mode) → stands mode ≡ true → stands (lined_mode mode) ≡ true
-  lined_stands (modes.Pending call) e = refl
-  lined_stands modes.Running e = cc
-  lined_stands (modes.Fresh word answer) e = refl
-  lined_stands (modes.Answered word answer) e = refl
-  lined_stands (modes.Ending outcome) e = refl
-
   -- a place in the queue keeps a world good
   pub good_queued : (v : World V) (ready : List ℕ) (early : ℕ) → IsGood p v → IsGood p (queued v ready early).world
   good_queued v ready early g = record {
     numbered = numbered_lined v.coroutines 0 v.last_coroutine g.numbered;
     sits = all_map (Sits p) lined v.coroutines (λ c s. lined_sits c c.mode refl s) g.sits;
-    stand = all_map IsStanding lined v.coroutines (λ c s. lined_stands c.mode s) g.stand;
     holds = record { given = g.holds.given; bundles = g.holds.bundles; things = g.holds.things; flags = record { ranked = g.holds.flags.ranked; flagged = g.holds.flags.flagged } };
   }
 
@@ -193,11 +159,9 @@ module _ {V : Type 0} (p : Program V) (law : IsLawful p) (plainly : MakesPlain p
       let sits = sits_resumed b who view one found g.sits in
       let numbered = numbered_change (is_coroutine who) (as_running view) w.coroutines 0 w.last_coroutine (λ d. refl) g.numbered in
       let numbered_then = leads_numbered p nobody_calm before moved from.1 numbered in
-      let runs = leads_run p nobody_calm who before moved from.1 (all_running who view w.coroutines g.stand) in
       record {
         numbered = numbered_then;
         sits = leads_sits p nobody_calm before moved from.1 sits;
-        stand = all_stand who moved.coroutines 0 moved.last_coroutine from.2.one numbered_then runs from.2.found from.2.there;
         holds = go_on_shut AnyBundle 0 any_lasts p lack b who one.body (plainly one.body answer real some) (record { given = omega arith; bundles = g.holds.bundles; things = g.holds.things; flags = record { ranked = g.holds.flags.ranked; flagged = g.holds.flags.flagged } });
       }
 
@@ -227,6 +191,9 @@ module _ {V : Type 0} (p : Program V) (law : IsLawful p) (plainly : MakesPlain p
   stays : KeepsPlain p
   stays = steps_keep_plain p law plainly
 
+  rests : KeepsRest p
+  rests = steps_keep_rest p law
+
   opening : (view : V) → Begins p view → IsStable p (opening_kept view)
   opening view b = record {
     well = keeps.opening view b;
@@ -246,13 +213,13 @@ module _ {V : Type 0} (p : Program V) (law : IsLawful p) (plainly : MakesPlain p
       at (who ∷ rest) e =
           let may = keeps.first k who rest s.well e in
           let is : kept_turn p lack k ≡ turn_first p lack k (who ∷ rest) = ap (turn_first p lack k) e in
-          stable_queued p (turn p lack k.world who) rest (k.early - 1) (subst (IsWell p) is (keeps.turned k lack s.well)) (subst (λ (l : Kept V). IsPlain l.world) is (stays.turned k lack s.well s.plain)) (subst (λ (l : Kept V). IsOrderly l.world) is (ordered.turned k lack s.well s.order)) (good_turn p law plainly lack k.world who may (good_stable p k s))
+          stable_queued p (turn p lack k.world who) rest (k.early - 1) (subst (IsWell p) is (keeps.turned k lack s.well)) (subst (λ (l : Kept V). IsPlain l.world) is (stays.turned k lack s.well s.plain)) (subst (λ (l : Kept V). IsOrderly l.world) is (ordered.turned k lack s.well s.order)) (subst (λ (l : Kept V). IsAtRest l.world) is (rests.turned k lack s.well s.order s.rest)) (good_turn p law plainly lack k.world who may (good_stable p k s))
 
   started : (k : Kept V) → IsStable p k → IsStable p (record k { world = begin k.world })
   started k s = record { well = keeps.started k s.well; plain = begin_plain k.world s.plain; order = ordered.started k s.order; says = s.says; things = s.things; rest = s.rest; flags = record { ranked = s.flags.ranked; flagged = s.flags.flagged } }
 
   expires : (k : Kept V) (who : ℕ) → IsStable p k → is_timed k.world who ≡ true → IsStable p (kept_expire_next k who)
-  expires k who s e = stable_queued p (expire_one k.world who) k.ready k.early (keeps.expires k who s.well) (stays.expires k who s.plain) (ordered.expires k who s.order e) (good_expire p k.world who (good_stable p k s))
+  expires k who s e = stable_queued p (expire_one k.world who) k.ready k.early (keeps.expires k who s.well) (stays.expires k who s.plain) (ordered.expires k who s.order e) (rests.expires k who s.rest) (good_expire p k.world who (good_stable p k s))
 
   good_late : (xs : List ℕ) (k : Kept V) → IsGood p k.world → IsGood p (fold kept_expire_next k xs).world
   good_late [] k g = g
@@ -261,18 +228,18 @@ module _ {V : Type 0} (p : Program V) (law : IsLawful p) (plainly : MakesPlain p
   expired : (k : Kept V) → IsStable p k → IsStable p (kept_expired k)
   expired k s =
       let g = good_stable p k s in
-      let begun : IsGood p (begin k.world) = record { numbered = g.numbered; sits = g.sits; stand = g.stand; holds = record { given = omega arith; bundles = g.holds.bundles; things = g.holds.things; flags = record { ranked = g.holds.flags.ranked; flagged = g.holds.flags.flagged } } } in
+      let begun : IsGood p (begin k.world) = record { numbered = g.numbered; sits = g.sits; holds = record { given = omega arith; bundles = g.holds.bundles; things = g.holds.things; flags = record { ranked = g.holds.flags.ranked; flagged = g.holds.flags.flagged } } } in
       let late = good_late (passed k.world) (record k { world = begin k.world }) begun in
-      stable_queued p (settle (kept_late k).world) (kept_late k).ready (kept_late k).early (keeps.expired k s.well) (stays.expired k s.plain) (ordered.expired k s.order) (good_settle p (kept_late k).world late)
+      stable_queued p (settle (kept_late k).world) (kept_late k).ready (kept_late k).early (keeps.expired k s.well) (stays.expired k s.plain) (ordered.expired k s.order) (rests.expired k s.rest) (good_settle p (kept_late k).world late)
 
   settled : (k : Kept V) → IsStable p k → IsStable p (queued (settle k.world) k.ready k.early)
-  settled k s = stable_queued p (settle k.world) k.ready k.early (keeps.settled k s.well) (stays.settled k s.plain) (ordered.settled k s.order) (good_settle p k.world (good_stable p k s))
+  settled k s = stable_queued p (settle k.world) k.ready k.early (keeps.settled k s.well) (stays.settled k s.plain) (ordered.settled k s.order) (rests.settled k s.rest) (good_settle p k.world (good_stable p k s))
 
   pub good_closed : (w : World V) → IsGood p w → IsGood p (root_closed w)
-  good_closed w g = record { numbered = g.numbered; sits = g.sits; stand = g.stand; holds = record { given = omega arith; bundles = all_any (root_closed w).scopes.bundles; things = g.holds.things; flags = root_flags w g.holds.flags } }
+  good_closed w g = record { numbered = g.numbered; sits = g.sits; holds = record { given = omega arith; bundles = all_any (root_closed w).scopes.bundles; things = g.holds.things; flags = root_flags w g.holds.flags } }
 
   shut : (k : Kept V) → IsStable p k → IsStable p (kept_shut k)
-  shut k s = stable_queued p (settle (root_closed k.world)) k.ready (length k.ready) (keeps.shut k s.well) (stays.shut k s.plain) (ordered.shut k s.order) (good_settle p (root_closed k.world) (good_closed k.world (good_stable p k s)))
+  shut k s = stable_queued p (settle (root_closed k.world)) k.ready (length k.ready) (keeps.shut k s.well) (stays.shut k s.plain) (ordered.shut k s.order) (rests.shut k s.rest) (good_settle p (root_closed k.world) (good_closed k.world (good_stable p k s)))
 
   woke : (k : Kept V) (told : ℕ) (ready : List Ready) → IsStable p k → IsStable p (kept_woke k told ready)
   woke k told ready s =

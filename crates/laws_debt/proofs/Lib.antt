@@ -6,7 +6,6 @@ pub mod Walking
 pub mod Settling
 pub mod Flagging
 pub mod Shutting
-pub mod Standing
 pub mod Turning
 pub mod Keeping
 pub mod Lowering

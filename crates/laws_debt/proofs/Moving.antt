@@ -39,7 +39,6 @@ use Rattle.laws_debt.proofs.Lists.{all_found, all_to, all_without, found_passes,
 use Rattle.laws_debt.proofs.Settling.{AllSit, leads_sits, leads_numbered, settle_one_leads, settle_within_leads, pass_nothing}
 use Rattle.laws_debt.proofs.Shutting.{AllHold, go_on_shut}
 use Rattle.laws_debt.proofs.Stamping.{others_stay, taken_gone}
-use Rattle.laws_debt.proofs.Standing.{stands}
 use Rattle.laws_debt.proofs.Stepwise.{LowersFresh, StampOk, stamp_lasts, stamps_self, all_there, Stepped, less_early}
 use Rattle.laws_debt.proofs.Tracking.{tracks_self}
 use Rattle.laws_debt.proofs.Tree.{InTree, tree_same, tree_leads, settled_tree, closing_found, settle_one_tracks}

@@ -25,7 +25,6 @@ use Rattle.laws_sound.proofs.Turns.{entered_plain}
 use Rattle.laws_debt.proofs.Entering.{word_entered, entered_passes, lack_lowers}
 use Rattle.laws_debt.proofs.Evolving.{Evolves, turns}
 use Rattle.laws_debt.proofs.Lists.{found_changed, found_passes, number_of, some_same, above_other, total}
-use Rattle.laws_debt.proofs.Standing.{Stands, reply_stands, enter_stands}
 use Rattle.laws_debt.proofs.Walking.{Leads, Runs, Enters, reply_leads, enter_leads}
 
 -- where a coroutine is found by its number, it has it
@@ -40,7 +39,7 @@ module _ {V : Type 0} (p : Program V) (law : IsLawful p) (calm : ℕ → Bool) w
   -- how a coroutine went on from its answer
   pub data Went (w : World V) (who : ℕ) (c : Coroutine V) (answer : Answer) (v : World V) : Type 0 where
     -- by a call
-    called : (word : Word) (view : V) → GoesOn p c.body answer word view → Leads p calm (resume w who view) v → Stands v who → Went w who c answer v
+    called : (word : Word) (view : V) → GoesOn p c.body answer word view → Leads p calm (resume w who view) v → Went w who c answer v
     -- it is ending
     ended : (view : V) (outcome : Option Errno) → v.coroutines ≡ change (is_coroutine who) (with_mode (modes.Ending outcome)) (resume w who view).coroutines → v.last_coroutine ≡ w.last_coroutine → Went w who c answer v
 
@@ -63,10 +62,10 @@ module _ {V : Type 0} (p : Program V) (law : IsLawful p) (calm : ℕ → Bool) w
     where
       enters : Enters p law calm (resume w who new) who new (entered w.moment call)
       enters = record {
-        runs = runs_resumed w who new (word_of (entered w.moment call)) c g.found (m.1.said ∙ sym (word_entered w.moment call plain));
+        runs = runs_resumed w who new (word_of (entered w.moment call)) c g.found (m.1.said ∙ sym (word_entered w.moment call));
         idle = ap (λ o. if_some o None (λ d. pending_call d.mode)) (resumed w who new c g.found);
         real = m.1.real;
-        passes = entered_passes w.moment call plain m.0;
+        passes = entered_passes w.moment call m.0;
         cancelled = g.cancelled;
         born = g.born;
       }
@@ -75,11 +74,9 @@ module _ {V : Type 0} (p : Program V) (law : IsLawful p) (calm : ℕ → Bool) w
       at true =
           called (word_of call) (p.short c.body answer) m.2
           (reply_leads p calm (resume w who (p.short c.body answer)) who (word_of call) (Fault (lack_fault (resume w who (p.short c.body answer)) who (word_of call))) (runs_resumed w who (p.short c.body answer) (word_of call) c g.found m.2.said) (λ e. lack_lowers (resume w who (p.short c.body answer)) who call plain m.0 (g.cancelled e)))
-          (reply_stands (resume w who (p.short c.body answer)) who (word_of call) (Fault (lack_fault (resume w who (p.short c.body answer)) who (word_of call))) (record { one = as_running (p.short c.body answer) c; found = resumed w who (p.short c.body answer) c g.found }))
       at false =
           called (word_of call) new m.1
           (enter_leads p law calm (is_entry lack) (resume w who new) who new (entered w.moment call) (entered_plain w.moment call plain) enters)
-          (enter_stands p (is_entry lack) (resume w who new) who new (entered w.moment call) (entered_plain w.moment call plain) g.things (record { one = as_running new c; found = resumed w who new c g.found }))
   from_move lack w who c answer (new, Ends outcome) g m plain = at (is_build lack)
     where
       over : Went w who c answer (end (resume w who new) who outcome)
@@ -97,14 +94,14 @@ module _ {V : Type 0} (p : Program V) (law : IsLawful p) (calm : ℕ → Bool) w
       from_move lack w who c answer (p.next c.body answer) g (law.moves c.body answer g.real some) (plainly c.body answer g.real some)
 
   -- however it went on, the coroutines changed as told from its view on
-  pub went_leads : (w : World V) (who : ℕ) (c : Coroutine V) (answer : Answer) (v : World V) → coroutine_of w who ≡ Some c → Went w who c answer v → (view : V) × Leads p calm (resume w who view) v × Stands v who
-  went_leads w who c answer v e (called word view g l s) = (view, l, s)
+  pub went_leads : (w : World V) (who : ℕ) (c : Coroutine V) (answer : Answer) (v : World V) → coroutine_of w who ≡ Some c → Went w who c answer v → (view : V) × Leads p calm (resume w who view) v
+  went_leads w who c answer v e (called word view g l) = (view, l)
   went_leads w who c answer v e (ended view outcome f g) =
       let over = change (is_coroutine who) (with_mode (modes.Ending outcome)) (resume w who view).coroutines in
       let here = resumed w who view c e in
       let moved : Evolves p calm (resume w who view).coroutines w.last_coroutine over w.last_coroutine = turns who (modes.Ending outcome) (as_running view c) here refl tt in
       let same : Evolves p calm (resume w who view).coroutines w.last_coroutine v.coroutines v.last_coroutine = subst (λ cs. Evolves p calm (resume w who view).coroutines w.last_coroutine cs v.last_coroutine) (sym f) (subst (λ n. Evolves p calm (resume w who view).coroutines w.last_coroutine over n) (sym g) moved) in
-      (view, same, record { one = with_mode (modes.Ending outcome) (as_running view c); found = ap (find (is_coroutine who)) f ∙ found_changed (is_coroutine who) (with_mode (modes.Ending outcome)) (as_running view c) (resume w who view).coroutines (λ d. refl) here; there = refl })
+      (view, same)
 
 module _ {V : Type 0} (who : ℕ) (view : V) where
   below : (P Q : Coroutine V → Type 0) (cs : List (Coroutine V)) (low high : ℕ) → who ≤ low → Numbered low cs high → ((x : Coroutine V) → (x.number == who) ≡ false → P x → Q x) → AllByRecursion P cs → AllByRecursion Q cs

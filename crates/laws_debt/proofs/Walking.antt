@@ -29,9 +29,10 @@ use Rattle.dill_rules.specs.Effects.{make, add_bundle, close_thing, start, give_
 use Rattle.dill_rules.specs.Entering.{keep_for, is_too_late, late_answer, meet_deadline, done, enter}
 use Rattle.laws_sound.specs.Plain.{may_wait}
 use Rattle.laws_queue.proofs.Crew.{SameCrew, crew_then, move_crew, release_crew, give_all_crew}
-use Rattle.laws_debt.proofs.Entering.{by_quiet, refusal_lowers, unrefused_quiet, starts_nobody, is_called_off_at_once, go_known, bundle_go_known}
+use Rattle.laws_debt.proofs.Entering.{by_quiet, refusal_lowers, unrefused_quiet, starts_nobody, is_called_off_at_once}
 use Rattle.laws_debt.proofs.Evolving.{Evolves, stays, turns, begins, goes_on}
 use Rattle.laws_debt.proofs.Lists.{found_changed, find_append}
+use Rattle.laws_queue.proofs.Walking.{unrefused_known}
 
 -- the coroutines of one world evolve to those of the other
 abbrev pub Leads : {V : Type 0} → Program V → (ℕ → Bool) → World V → World V → Type 0
@@ -198,13 +199,13 @@ module _ {V : Type 0} (p : Program V) (law : IsLawful p) (calm : ℕ → Bool) w
       let made = add_bundle k who in
       let given = give_all made (gifts_of args) (made.last_coroutine + 1) in
       bear_reply p calm w given who (p.child view program (told (next_number made) args)) (k.last_bundle + 1) words.Go (Number (next_number k))
-      (crew_then w made given (record { coroutines = refl; last = refl }) (give_all_crew made (gifts_of args) (made.last_coroutine + 1))) (child_begins view program (next_number made) args n.real (go_known p w who view program args f)) n.runs (starter w who view (calls.Go program args) refl n f) n.born
+      (crew_then w made given (record { coroutines = refl; last = refl }) (give_all_crew made (gifts_of args) (made.last_coroutine + 1))) (child_begins view program (next_number made) args n.real (unrefused_known p w who view (calls.Go program args) f)) n.runs (starter w who view (calls.Go program args) refl n f) n.born
   done_leads w who view (calls.BundleGo number program args) e n f =
       let k = keep_for w (calls.BundleGo number program args) in
       let given = give_all k (gifts_of args) (k.last_coroutine + 1) in
       some_leads (bundle_named k number) w k who (λ home. reply (start p k view home program args) who words.BundleGo (Number 0)) (unmoved w k who (kept_crew w (calls.BundleGo number program args)) n.idle)
       (λ home. bear_reply p calm w given who (p.child view program (told (next_number k) args)) home words.BundleGo (Number 0)
-      (crew_then w k given (kept_crew w (calls.BundleGo number program args)) (give_all_crew k (gifts_of args) (k.last_coroutine + 1))) (child_begins view program (next_number k) args n.real (bundle_go_known p w who view number program args f)) n.runs (starter w who view (calls.BundleGo number program args) refl n f) n.born)
+      (crew_then w k given (kept_crew w (calls.BundleGo number program args)) (give_all_crew k (gifts_of args) (k.last_coroutine + 1))) (child_begins view program (next_number k) args n.real (unrefused_known p w who view (calls.BundleGo number program args) f)) n.runs (starter w who view (calls.BundleGo number program args) refl n f) n.born)
   done_leads w who view (calls.BundleWait number deadline) e n f = pends w (keep_for w (calls.BundleWait number deadline)) who view (calls.BundleWait number deadline) e refl (kept_crew w (calls.BundleWait number deadline)) n f
   done_leads w who view (calls.Pass word fault) e n f = quietly w (keep_for w (calls.Pass word fault)) who view (calls.Pass word fault) (passed_answer fault) e (kept_crew w (calls.Pass word fault)) n f
   done_leads w who view _ e n f = cc

@@ -110,11 +110,11 @@ told_length next [] = refl
 told_length next (Show number ∷ args) = ap suc (told_length next args)
 told_length next (Give number ∷ args) = ap suc (told_length (next + 1) args)
 
-picks_none : {A : Type 0} (b : Bool) (x : A) (rest : Option A) → cond b (Some x) rest ≡ None → (b ≡ false) × (rest ≡ None)
+pub picks_none : {A : Type 0} (b : Bool) (x : A) (rest : Option A) → cond b (Some x) rest ≡ None → (b ≡ false) × (rest ≡ None)
 picks_none true x rest e = cc
 picks_none false x rest e = (refl, e)
 
-or_false : (a b : Bool) → (a || b) ≡ false → a ≡ false
+pub or_false : (a b : Bool) → (a || b) ≡ false → a ≡ false
 or_false true b e = cc
 or_false false b e = refl
 

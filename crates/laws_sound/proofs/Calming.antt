@@ -17,29 +17,27 @@ use Rattle.dill_plain.specs.Plain.{MovesPlain, MakesPlain}
 use Rattle.dill_base.specs.Maps.{if_some, first_some}
 use Rattle.dill_rules.specs.declared.coroutine.Coroutine.{Coroutine}
 use Rattle.dill_rules.specs.Answers.{answer_of}
-use Rattle.dill_rules.specs.Expiring.{passed, expire_one}
+use Rattle.dill_rules.specs.Expiring.{passed}
 use Rattle.dill_rules.specs.Hearing.{heat_ready}
 use Rattle.dill_rules.specs.Links.{Links}
 use Rattle.dill_rules.specs.Settling.{can_finish, is_clear, answer_due, settle, IsSettled}
 use Rattle.dill_rules.specs.State.{lined}
 use Rattle.dill_rules.specs.Turning.{go_on, move_of, answer_given}
 use Rattle.dill_rules.specs.World.{World, Place, at_start, begin, pending_call}
-use Rattle.laws_queue.specs.Kept.{Kept, opening_kept, queued, turn_first, kept_turn, kept_expire_next, kept_late, kept_expired, kept_shut, kept_woke, root_closed}
+use Rattle.laws_queue.specs.Kept.{Kept, queued, turn_first, kept_turn, kept_expire_next, kept_late, kept_expired, kept_shut, kept_woke, root_closed}
 use Rattle.laws_queue.specs.Laws.{KeepsWell}
 use Rattle.laws_sound.specs.Plain.{may_wait, waits_plainly, IsPlain}
 use Rattle.laws_queue.specs.Well.{Numbered, IsWell}
 use Rattle.laws_queue.proofs.Keeping.{steps_keep_well}
 use Rattle.laws_sound.proofs.Plainly.{begin_plain}
-use Rattle.laws_sound.specs.PlainLaws.{KeepsPlain}
 use Rattle.laws_sound.proofs.PlainLaws.{settles_plainly, steps_keep_plain}
 use Rattle.laws_sound.proofs.Steps.{settle_plain}
 use Rattle.laws_sound.proofs.Turns.{closed_plain, go_on_plain}
-use Rattle.laws_sound.specs.Laws.{IsAtRest, IsBetweenSteps, StepsKeepRest}
+use Rattle.laws_sound.specs.Laws.{StepsKeepSettled}
 use Rattle.laws_sound.specs.Orderly.{IsOrderly}
 use Rattle.laws_sound.proofs.Going.{or_none}
 use Rattle.laws_sound.proofs.Calling.{go_on_goes, turn_is}
 use Rattle.laws_sound.proofs.Leaving.{lined_ends}
-use Rattle.laws_sound.proofs.Resting.{Still, still_settle, still_expire, still_go_on, still_rests, rests_lined}
 use Rattle.laws_queue.proofs.Lining.{lined_pending}
 
 module _ {V : Type 0} where
@@ -96,81 +94,59 @@ module _ {V : Type 0} where
       }
 
   -- what settles
-  queued_rests : (w : World V) (ready : List ℕ) (early : ℕ) → IsPlain w → Numbered 0 w.coroutines w.last_coroutine → Still w.coroutines → IsBetweenSteps (queued (settle w) ready early).world
-  queued_rests w ready early plain n s = record {
-    rest = rests_lined (settle w).coroutines (still_settle w plain s);
-    settled = settled_lined (settle w) (settle_plain w plain) (settles_plainly V w plain n);
-  }
+  queued_settled : (w : World V) (ready : List ℕ) (early : ℕ) → IsPlain w → Numbered 0 w.coroutines w.last_coroutine → IsSettled (queued (settle w) ready early).world
+  queued_settled w ready early plain n = settled_lined (settle w) (settle_plain w plain) (settles_plainly V w plain n)
 
-  opening_rests : (view : V) → IsBetweenSteps (opening_kept view).world
-  opening_rests view = record { rest = refl; settled = record { endings = refl; answers = refl } }
+  begin_settled : (w : World V) → list_all waits_plainly w.coroutines ≡ true → IsSettled w → IsSettled (begin w)
+  begin_settled w calls s = settled_anyway w w.channels w.links w.place w.wrote w.random w.moment [] calls s
 
-  begin_rests : (w : World V) → list_all waits_plainly w.coroutines ≡ true → IsBetweenSteps w → IsBetweenSteps (begin w)
-  begin_rests w calls r = record { rest = r.rest; settled = settled_anyway w w.channels w.links w.place w.wrote w.random w.moment [] calls r.settled }
+  heated_settled : (ready : List Ready) (w : World V) → list_all waits_plainly w.coroutines ≡ true → IsSettled w → (list_all waits_plainly (fold heat_ready w ready).coroutines ≡ true) × IsSettled (fold heat_ready w ready)
+  heated_settled [] w calls s = (calls, s)
+  heated_settled (x ∷ xs) w calls s = heated_settled xs (heat_ready w x) calls (settled_anyway w w.channels (heat_ready w x).links w.place w.wrote w.random w.moment w.notes calls s)
 
-  heated_rests : (ready : List Ready) (w : World V) → list_all waits_plainly w.coroutines ≡ true → IsBetweenSteps w → (list_all waits_plainly (fold heat_ready w ready).coroutines ≡ true) × IsBetweenSteps (fold heat_ready w ready)
-  heated_rests [] w calls r = (calls, r)
-  heated_rests (x ∷ xs) w calls r = heated_rests xs (heat_ready w x) calls (record { rest = r.rest; settled = settled_anyway w w.channels (heat_ready w x).links w.place w.wrote w.random w.moment w.notes calls r.settled })
-
-  woke_rests : (k : Kept V) (told : ℕ) (ready : List Ready) → list_all waits_plainly k.world.coroutines ≡ true → IsBetweenSteps k.world → IsBetweenSteps (kept_woke k told ready).world
-  woke_rests k told ready calls r =
+  woke_settled : (k : Kept V) (told : ℕ) (ready : List Ready) → list_all waits_plainly k.world.coroutines ≡ true → IsSettled k.world → IsSettled (kept_woke k told ready).world
+  woke_settled k told ready calls s =
       let heated = fold heat_ready (begin k.world) ready in
-      let h = heated_rests ready (begin k.world) calls (begin_rests k.world calls r) in
-      record { rest = h.1.rest; settled = settled_anyway heated heated.channels heated.links at_start [] heated.random (max k.world.moment told) heated.notes h.0 h.1.settled }
+      let h = heated_settled ready (begin k.world) calls (begin_settled k.world calls s) in
+      settled_anyway heated heated.channels heated.links at_start [] heated.random (max k.world.moment told) heated.notes h.0 h.1
 
 module _ {V : Type 0} (p : Program V) (law : IsLawful p) (plainly : MakesPlain p) where
   well : KeepsWell p
   well = steps_keep_well p law
 
-  stays : KeepsPlain p
-  stays = steps_keep_plain p law plainly
-
-  turned : (k : Kept V) (lack : Option LackPlace) → IsWell p k → IsPlain k.world → IsOrderly k.world → IsBetweenSteps k.world → IsBetweenSteps (kept_turn p lack k).world
-  turned k lack w plain o r = at k.ready refl
+  turned : (k : Kept V) (lack : Option LackPlace) → IsWell p k → IsPlain k.world → IsOrderly k.world → IsSettled k.world → IsSettled (kept_turn p lack k).world
+  turned k lack w plain o s = at k.ready refl
     where
-      at : (ready : List ℕ) → k.ready ≡ ready → IsBetweenSteps (turn_first p lack k ready).world
-      at [] e = r
+      at : (ready : List ℕ) → k.ready ≡ ready → IsSettled (turn_first p lack k ready).world
+      at [] e = s
       at (who ∷ rest) e =
           let m = well.first k who rest w e in
           let c = m.one in
           let moves : MovesPlain (move_of p k.world who c.body) = plainly c.body (answer_given k.world who).1 m.real m.some in
-          let moved = go_on p lack (begin k.world) who c.body in
           let order = (go_on_goes p lack k.world who c o m.found m.answered).good.order in
-          let still = still_go_on p lack k.world who c.body plain.things o.order.fits.kinds moves (still_rests k.world r.rest) in
-          subst (λ v. IsBetweenSteps (queued v rest (k.early - 1)).world) (turn_is p lack k.world who c m.found)
-          (queued_rests moved rest (k.early - 1) (go_on_plain p lack (begin k.world) who c.body moves (begin_plain k.world plain)) order.fits.numbered still)
+          subst (λ v. IsSettled (queued v rest (k.early - 1)).world) (turn_is p lack k.world who c m.found)
+          (queued_settled (go_on p lack (begin k.world) who c.body) rest (k.early - 1) (go_on_plain p lack (begin k.world) who c.body moves (begin_plain k.world plain)) order.fits.numbered)
 
-  expires : (k : Kept V) (who : ℕ) → IsWell p k → IsPlain k.world → IsAtRest k.world → IsAtRest (kept_expire_next k who).world
-  expires k who w plain r = rests_lined (expire_one k.world who).coroutines (still_expire k.world who plain (still_rests k.world r))
+  settled : (k : Kept V) → IsWell p k → IsPlain k.world → IsSettled (queued (settle k.world) k.ready k.early).world
+  settled k w plain = queued_settled k.world k.ready k.early plain w.numbered
 
-  settled : (k : Kept V) → IsWell p k → IsPlain k.world → IsAtRest k.world → IsBetweenSteps (queued (settle k.world) k.ready k.early).world
-  settled k w plain r = queued_rests k.world k.ready k.early plain w.numbered (still_rests k.world r)
+  expire_all : (xs : List ℕ) (k : Kept V) → IsWell p k → IsPlain k.world → IsWell p (fold kept_expire_next k xs) × IsPlain (fold kept_expire_next k xs).world
+  expire_all [] k w plain = (w, plain)
+  expire_all (x ∷ xs) k w plain = expire_all xs (kept_expire_next k x) (well.expires k x w) ((steps_keep_plain p law plainly).expires k x plain)
 
-  record Keeps (k : Kept V) : Type 0 where
-    well : IsWell p k
-    plain : IsPlain k.world
-    rest : IsAtRest k.world
+  expired : (k : Kept V) → IsWell p k → IsPlain k.world → IsSettled (kept_expired k).world
+  expired k w plain = let late = expire_all (passed k.world) (record k { world = begin k.world }) (well.started k w) (begin_plain k.world plain) in settled (kept_late k) late.0 late.1
 
-  expire_all : (xs : List ℕ) (k : Kept V) → Keeps k → Keeps (fold kept_expire_next k xs)
-  expire_all [] k h = h
-  expire_all (x ∷ xs) k h = expire_all xs (kept_expire_next k x) (record { well = well.expires k x h.well; plain = stays.expires k x h.plain; rest = expires k x h.well h.plain h.rest })
+  shut : (k : Kept V) → IsWell p k → IsPlain k.world → IsSettled (kept_shut k).world
+  shut k w plain = queued_settled (root_closed k.world) k.ready (length k.ready) (closed_plain k.world plain) w.numbered
 
-  expired : (k : Kept V) → IsWell p k → IsPlain k.world → IsAtRest k.world → IsBetweenSteps (kept_expired k).world
-  expired k w plain r =
-      let late = expire_all (passed k.world) (record k { world = begin k.world }) (record { well = well.started k w; plain = begin_plain k.world plain; rest = r }) in
-      settled (kept_late k) late.well late.plain late.rest
-
-  shut : (k : Kept V) → IsWell p k → IsPlain k.world → IsAtRest k.world → IsBetweenSteps (kept_shut k).world
-  shut k w plain r = queued_rests (root_closed k.world) k.ready (length k.ready) (closed_plain k.world plain) w.numbered (still_rests k.world r)
-
-pub steps_keep_rest : {V : Type 0} (p : Program V) → StepsKeepRest p
-steps_keep_rest p law plainly = record {
-  opening = opening_rests;
+pub steps_keep_settled : {V : Type 0} (p : Program V) → StepsKeepSettled p
+steps_keep_settled p law plainly = record {
+  opening = λ view. record { endings = refl; answers = refl };
   turned = turned p law plainly;
-  started = λ k w plain r. begin_rests k.world plain.calls r;
-  expires = expires p law plainly;
+  started = λ k plain s. begin_settled k.world plain.calls s;
   settled = settled p law plainly;
   expired = expired p law plainly;
   shut = shut p law plainly;
-  woke = λ k told ready w plain r. woke_rests k told ready plain.calls r;
+  woke = λ k told ready plain s. woke_settled k told ready plain.calls s;
 }

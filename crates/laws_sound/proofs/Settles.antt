@@ -67,7 +67,3 @@ module _ {V : Type 0} where
 
   pub close_all_blind : (u : Stream) (w : World V) (who : ℕ) → close_all ((lent u) w) who ≡ (lent u) (close_all w who)
   close_all_blind u w who = (fold_blind u) (close_owned who) (filter (handles.is_owned who) w.handles.entries) w ((close_owned_blind u) who)
-
-  pass_one_plain : (w : World V) (o : Option Call) (f : Call → World V) → if_some o true may_wait ≡ true → ((call : Call) → may_wait call ≡ true → f call ≡ w) → if_some o w f ≡ w
-  pass_one_plain w None f e h = refl
-  pass_one_plain w (Some call) f e h = h call e

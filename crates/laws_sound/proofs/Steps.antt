@@ -86,10 +86,6 @@ module _ {V : Type 0} where
       if_plain (c.number == 1) (from_start (record w { ended = Some (outcome_of c.mode) })) w
       (record { channels = plain.channels; links = plain.links; place = refl; wrote = refl; things = plain.things; calls = plain.calls }) plain
 
-  keep_end_same : (b : Bool) (w v : World V) → v.coroutines ≡ w.coroutines → (if b then v else w).coroutines ≡ w.coroutines
-  keep_end_same true w v e = e
-  keep_end_same false w v e = refl
-
   leave_plain : (w : World V) (c : Coroutine V) → IsPlain w → IsPlain (leave w c)
   leave_plain w c plain =
       let kept = keep_end_plain w c plain in

@@ -40,20 +40,8 @@ use Rattle.laws_sound.proofs.Steps.{some_blind_at, some_plain_at, if_plain, call
 
 -- a deadline from its entry on makes no call another
 pub entered_plain : (moment : ℕ) (call : Call) → is_plain call ≡ true → is_plain (entered moment call) ≡ true
-entered_plain moment (calls.Print text) e = refl
-entered_plain moment calls.Now e = refl
-entered_plain moment calls.Yield e = refl
-entered_plain moment (calls.Msleep deadline) e = refl
-entered_plain moment (calls.Hmake kind value) e = refl
-entered_plain moment (calls.Hquery number kind) e = refl
-entered_plain moment (calls.Hown number) e = refl
-entered_plain moment (calls.Hclose number) e = refl
-entered_plain moment calls.Bundle e = refl
-entered_plain moment (calls.Go program args) e = refl
-entered_plain moment (calls.BundleGo number program args) e = refl
-entered_plain moment (calls.BundleWait number deadline) e = refl
 entered_plain moment (calls.Pass word fault) e = e
-entered_plain moment _ e = cc
+entered_plain moment call e = e
 
 module _ {V : Type 0} (p : Program V) where
   perform_blind : (u : Stream) (w : World V) (who : ℕ) (view : V) (call : Call) → is_plain call ≡ true → perform p ((lent u) w) who view call ≡ (lent u) (perform p w who view call)
@@ -141,9 +129,6 @@ module _ {V : Type 0} (p : Program V) where
       of_refusal : (o : Option Errno) → IsPlain (if_some o (if lacks && takes_memory (word_of call) then reply w who (word_of call) (Fault Enomem) else done p w who view call) (λ e. reply w who (word_of call) (Fault e)))
       of_refusal None = if_plain (lacks && takes_memory (word_of call)) (reply w who (word_of call) (Fault Enomem)) (done p w who view call) (reply_plain w who (word_of call) (Fault Enomem) plain) (done_plain w who view call e plain)
       of_refusal (Some f) = reply_plain w who (word_of call) (Fault f) plain
-
-  refuse_blind : (u : Stream) (w : World V) (who : ℕ) (view : V) (call : Call) → refuse p ((lent u) w) who view call ≡ refuse p w who view call
-  refuse_blind u w who view call = refl
 
   enter_blind : (u : Stream) (lacks : Bool) (w : World V) (who : ℕ) (view : V) (call : Call) → is_plain call ≡ true → IsPlain w → enter p lacks ((lent u) w) who view call ≡ (lent u) (enter p lacks w who view call)
   enter_blind u lacks w who view call e plain = of_refusal (refuse p w who view call)

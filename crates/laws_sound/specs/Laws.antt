@@ -40,11 +40,6 @@ is_resting _ = false
 abbrev pub IsAtRest : {V : Type 0} → World V → Type 0
 IsAtRest w = list_all (λ c. is_resting c.mode) w.coroutines ≡ true
 
--- between two steps all are at rest, and nothing is due
-pub record IsBetweenSteps {V : Type 0} (w : World V) : Type 0 where
-  pub rest : IsAtRest w
-  pub settled : IsSettled w
-
 -- what it is pending in has a deadline, if it is pending
 abbrev pub is_timed : {V : Type 0} → World V → ℕ → Bool
 is_timed w who = if_some (call_of w who) true (λ call. is_some (due_of call))
@@ -71,19 +66,32 @@ pub record NotesNumbers {V : Type 0} (p : Program V) : Type 0 where
   pub expired : (w : World V) (who : ℕ) → IsOrderly w → is_timed w who ≡ true → NotesOnce w (expire_one w who)
   pub settled : (w : World V) → IsOrderly w → NotesOnce w (settle w)
 
--- so each step leads from rest to rest; after an expiry something may be due until the world settles
+-- so each step leads from rest to rest, whatever is called
 pub record KeepsRest {V : Type 0} (p : Program V) : Type 0 where
-  pub opening : (view : V) → IsBetweenSteps (opening_kept view).world
-  pub turned : (k : Kept V) (lack : Option LackPlace) → IsWell p k → IsPlain k.world → IsOrderly k.world → IsBetweenSteps k.world → IsBetweenSteps (kept_turn p lack k).world
-  pub started : (k : Kept V) → IsWell p k → IsPlain k.world → IsBetweenSteps k.world → IsBetweenSteps (begin k.world)
-  pub expires : (k : Kept V) (who : ℕ) → IsWell p k → IsPlain k.world → IsAtRest k.world → IsAtRest (kept_expire_next k who).world
-  pub settled : (k : Kept V) → IsWell p k → IsPlain k.world → IsAtRest k.world → IsBetweenSteps (queued (settle k.world) k.ready k.early).world
-  pub expired : (k : Kept V) → IsWell p k → IsPlain k.world → IsAtRest k.world → IsBetweenSteps (kept_expired k).world
-  pub shut : (k : Kept V) → IsWell p k → IsPlain k.world → IsAtRest k.world → IsBetweenSteps (kept_shut k).world
-  pub woke : (k : Kept V) (told : ℕ) (ready : List Ready) → IsWell p k → IsPlain k.world → IsBetweenSteps k.world → IsBetweenSteps (kept_woke k told ready).world
+  pub opening : (view : V) → IsAtRest (opening_kept view).world
+  pub turned : (k : Kept V) (lack : Option LackPlace) → IsWell p k → IsOrderly k.world → IsAtRest k.world → IsAtRest (kept_turn p lack k).world
+  pub hears : (k : Kept V) (said : Option KernelReply) → IsAtRest k.world → IsAtRest (kept_hear k said).world
+  pub expires : (k : Kept V) (who : ℕ) → IsAtRest k.world → IsAtRest (kept_expire_next k who).world
+  pub settled : (k : Kept V) → IsAtRest k.world → IsAtRest (queued (settle k.world) k.ready k.early).world
+  pub expired : (k : Kept V) → IsAtRest k.world → IsAtRest (kept_expired k).world
+  pub shut : (k : Kept V) → IsAtRest k.world → IsAtRest (kept_shut k).world
+  pub woke : (k : Kept V) (told : ℕ) (ready : List Ready) → IsAtRest k.world → IsAtRest (kept_woke k told ready).world
 
 abbrev pub StepsKeepRest : {V : Type 0} → Program V → Type 0
-StepsKeepRest p = IsLawful p → MakesPlain p → KeepsRest p
+StepsKeepRest p = IsLawful p → KeepsRest p
+
+-- without channels and links nothing is due behind each step; after an expiry something may be due until the world settles
+pub record KeepsSettled {V : Type 0} (p : Program V) : Type 0 where
+  pub opening : (view : V) → IsSettled (opening_kept view).world
+  pub turned : (k : Kept V) (lack : Option LackPlace) → IsWell p k → IsPlain k.world → IsOrderly k.world → IsSettled k.world → IsSettled (kept_turn p lack k).world
+  pub started : (k : Kept V) → IsPlain k.world → IsSettled k.world → IsSettled (begin k.world)
+  pub settled : (k : Kept V) → IsWell p k → IsPlain k.world → IsSettled (queued (settle k.world) k.ready k.early).world
+  pub expired : (k : Kept V) → IsWell p k → IsPlain k.world → IsSettled (kept_expired k).world
+  pub shut : (k : Kept V) → IsWell p k → IsPlain k.world → IsSettled (kept_shut k).world
+  pub woke : (k : Kept V) (told : ℕ) (ready : List Ready) → IsPlain k.world → IsSettled k.world → IsSettled (kept_woke k told ready).world
+
+abbrev pub StepsKeepSettled : {V : Type 0} → Program V → Type 0
+StepsKeepSettled p = IsLawful p → MakesPlain p → KeepsSettled p
 
 -- a world in order is sound
 abbrev pub OrderIsSound : (V : Type 0) → Type 0

@@ -1,5 +1,5 @@
 ghost use Rattle.laws_sound.specs.PlainLaws.{KeepsPlain, FollowsPlainly, SettlesPlainly};
-ghost use Rattle.laws_sound.specs.Laws.{KeepsOrder, NotesNumbers, KeepsRest, OrderIsSound, CancelsAll, GoesOn, RootGoesOn, BundleGoesOn};
+ghost use Rattle.laws_sound.specs.Laws.{KeepsOrder, NotesNumbers, KeepsRest, KeepsSettled, OrderIsSound, CancelsAll, GoesOn, RootGoesOn, BundleGoesOn};
 
 use dill_calls::Body;
 use dill_plain::PlainBody;
@@ -56,8 +56,12 @@ pub fn steps_note_numbers<B: Body>()
     ensures { NotesNumbers B.means }
 {}
 
-/// Each step of programs that make plain calls leads from rest to rest: nobody is making a call, whoever was answered is
-/// queued, and nothing is due. After an expiry something may be due until the world settles.
-pub fn steps_keep_rest<B: PlainBody>()
+/// Each step leads from rest to rest, whatever is called: nobody is making a call, and whoever was answered is queued.
+pub fn steps_keep_rest<B: Body>()
     ensures { KeepsRest B.means }
+{}
+
+/// Without channels and links nothing is due behind each step. After an expiry something may be due until the world settles.
+pub fn steps_keep_settled<B: PlainBody>()
+    ensures { KeepsSettled B.means }
 {}
