@@ -1,5 +1,4 @@
-use crate::values::{lost, octets};
-use dill_base::{MemShelf, MemSink, Status};
+use dill_base::{MemShelf, MemSink, Octets, Status};
 use dill_kernel::IdleKernel;
 use rand::rngs::StdRng;
 use rand_core::SeedableRng;
@@ -46,7 +45,8 @@ pub fn plain(script: &[u8]) -> Case<'_> {
 
 fn shelf(alloc: Global, script: &[u8], fails: u64) -> Result<MemShelf, Fail> {
     let mut files = Vec::new(alloc);
-    files.push((octets(alloc, b"x")?, octets(alloc, script)?))?;
+    let name = Octets::from_slice(alloc, b"x")?;
+    files.push((name, Octets::from_slice(alloc, script)?))?;
     Ok(MemShelf::new(files, vec![in alloc; fails]?))
 }
 
@@ -54,7 +54,7 @@ fn shelf(alloc: Global, script: &[u8], fails: u64) -> Result<MemShelf, Fail> {
 const ROOM: usize = 1_100_000;
 
 fn sink(alloc: Global, fails: u64) -> Result<MemSink, Fail> {
-    MemSink::new(alloc, ROOM, vec![in alloc; fails]?).map_err(lost)
+    Ok(MemSink::new(alloc, ROOM, vec![in alloc; fails]?)?)
 }
 
 /// Runs the file of a name, and compares what it came to.
