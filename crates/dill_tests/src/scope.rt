@@ -6,7 +6,7 @@ use std::test::Fail;
 /// Coroutine 1 owns the bundles 1 and 2. In 1 live the coroutines 2 and 3, and in 2 lives 4. Coroutine 2 owns
 /// bundle 3, in which 5 lives.
 fn family(alloc: Global) -> Result<Scopes, Fail> {
-    let mut scopes = Scopes::new(alloc).map_err(|_| Fail::from("memory"))?;
+    let mut scopes = Scopes::new(alloc)?;
     let made = scopes.open(1, 1, 2).is_ok()
         && scopes.enter(1, 3).is_ok()
         && scopes.bundle(2, 1).is_ok()

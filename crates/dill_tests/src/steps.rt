@@ -10,7 +10,7 @@ use std::test::Fail;
 
 /// `main` owns bundle 1 by number 1, in which coroutine 2 lives.
 fn two(rt: &impl Abort, alloc: Global) -> Result<World<Brief>, Fail> {
-    let mut world = World::new(alloc, Brief { name: 1 }).map_err(|_| Fail::from("memory"))?;
+    let mut world = World::new(alloc, Brief { name: 1 })?;
     let call = Call::Go(0, Args::new(alloc));
     assert!(rt; !enter(alloc, &mut world, 1, &call, true));
     assert!(rt; is_answered(&world, 1, Word::Go, None));

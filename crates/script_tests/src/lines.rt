@@ -17,14 +17,14 @@ enum Fate {
 }
 
 fn fate_of(alloc: Global, line: &[u8]) -> Result<Fate, Fail> {
-    let Some(tokens) = tokens(alloc, line).map_err(|_| Fail::from("memory"))? else {
+    let Some(tokens) = tokens(alloc, line)? else {
         return Ok(Fate::BadText);
     };
-    let heading = heading_of(alloc, tokens.as_slice()).map_err(|_| Fail::from("memory"))?;
+    let heading = heading_of(alloc, tokens.as_slice())?;
     if heading.keyword().is_none() {
         return Ok(Fate::UnknownWord);
     }
-    match line_of(alloc, &heading).map_err(|_| Fail::from("memory"))? {
+    match line_of(alloc, &heading)? {
         Some(Line::Opens(_, _)) => Ok(Fate::Opens),
         Some(Line::Ends) => Ok(Fate::Ends),
         Some(Line::Says(_)) => Ok(Fate::Says),
@@ -168,7 +168,7 @@ fn bytes_and_comments_of_lines(rt: HostRuntime) {
 #[test]
 fn a_line_has_its_parts(rt: HostRuntime) -> Result<(), Fail> {
     let line = b" try b0\tb1 = http_recvfield n0 \"#\\x7A\" # more";
-    let tokens = tokens(rt.alloc(), line).map_err(|_| Fail::from("memory"))?;
+    let tokens = tokens(rt.alloc(), line)?;
     let Some(tokens) = tokens else {
         return Err(Fail::from("no tokens"));
     };
@@ -178,7 +178,7 @@ fn a_line_has_its_parts(rt: HostRuntime) -> Result<(), Fail> {
     assert_eq!(rt; all[4].plain(), Some(b"http_recvfield".as_slice()));
     assert_eq!(rt; all[6].plain(), None);
     assert_eq!(rt; all[6].text(), Some(b"#z".as_slice()));
-    let heading = heading_of(rt.alloc(), all).map_err(|_| Fail::from("memory"))?;
+    let heading = heading_of(rt.alloc(), all)?;
     assert_eq!(rt; heading.tried(), true);
     assert_eq!(rt; heading.targets().len(), 2);
     assert_eq!(rt; heading.operands().len(), 2);
@@ -192,12 +192,12 @@ fn a_line_has_its_parts(rt: HostRuntime) -> Result<(), Fail> {
 #[test]
 fn a_call_has_its_operands(rt: HostRuntime) -> Result<(), Fail> {
     let line = b"n3 = prefix_attach n1 2 big";
-    let tokens = tokens(rt.alloc(), line).map_err(|_| Fail::from("memory"))?;
+    let tokens = tokens(rt.alloc(), line)?;
     let Some(tokens) = tokens else {
         return Err(Fail::from("no tokens"));
     };
-    let heading = heading_of(rt.alloc(), tokens.as_slice()).map_err(|_| Fail::from("memory"))?;
-    let line = line_of(rt.alloc(), &heading).map_err(|_| Fail::from("memory"))?;
+    let heading = heading_of(rt.alloc(), tokens.as_slice())?;
+    let line = line_of(rt.alloc(), &heading)?;
     let Some(Line::Says(Statement::Call { tried, dest, form })) = line else {
         return Err(Fail::from("no call"));
     };
