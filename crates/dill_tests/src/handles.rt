@@ -30,7 +30,7 @@ fn names(rt: &impl Abort, handles: &Handles<u32>, number: u64, thing: u32, owner
 
 #[test]
 fn handles_are_made_and_looked_up(rt: HostRuntime) -> Result<(), Fail> {
-    let mut handles = three(rt.alloc())?;
+    let handles = three(rt.alloc())?;
     assert_eq!(rt; (handles.len(), handles.kept(), handles.last()), (3, 1, 3));
     names(&rt, &handles, 2, 20, 8);
     assert!(rt; handles.look(4).is_none());
@@ -43,7 +43,8 @@ fn handles_are_made_and_looked_up(rt: HostRuntime) -> Result<(), Fail> {
 #[test]
 fn a_moved_handle_has_another_number(rt: HostRuntime) -> Result<(), Fail> {
     let mut handles = three(rt.alloc())?;
-    assert!(rt; handles.renumber(1, 9) == 4);
+    assert_eq!(rt; handles.kept(), 1);
+    assert_eq!(rt; handles.renumber(1, 9), 4);
     assert!(rt; handles.entry(1).is_none());
     names(&rt, &handles, 4, 10, 9);
     handles.set_owner(3, 9);
