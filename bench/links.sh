@@ -1,0 +1,13 @@
+#!/bin/sh
+# Times the parts of links, each called by hand: the least link that is due of many, and connects with an echo over the
+# network in memory and over real sockets.
+top=$(CDPATH='' cd -- "$(dirname -- "$0")/.." && pwd) || exit 1
+(cd "$top/crates/link_bench" && rt run) >/dev/null || exit 1
+program=$top/crates/link_bench/out/link_bench
+for case in "due 64 1000000" "due 4096 20000" "loop 16 200000" "loop 65536 20000" "mio 16 2000" "mio 65536 500"; do
+    set -- $case
+    begin=$(date +%s%N)
+    "$program" "$@" || exit 1
+    end=$(date +%s%N)
+    echo "$1 $2: $(($3 * 1000000000 / (end - begin))) per second"
+done
