@@ -1,5 +1,5 @@
 -- What is done before an answer, and what is answered, keep a world in order, whatever is released, moved or given up; so do settling and expiries.
-use Rattle.std.proofs.Common.{◌≡◌, ◌∙◌, ℕ, zero, suc, ◌+◌, ◌==◌, List, [], ◌∷◌, length, map, find, fold, Bool, true, false, not, ◌||◌, Option, Some, None, if◌then◌else◌, refl, sym, ap, subst, arith}
+use Rattle.std.proofs.Common.{◌≡◌, ◌∙◌, ℕ, zero, suc, ◌+◌, ◌==◌, List, [], ◌∷◌, length, map, find, fold, Bool, true, false, not, ◌&&◌, ◌||◌, ◌≤◌, Option, Some, None, if◌then◌else◌, refl, sym, ap, subst, arith, lit≤}
 use Rattle.std.specs.Prelude.{is_some, filter, reverse}
 use Rattle.std.specs.List.{list_all}
 use Rattle.std.specs.Option.{option_or}
@@ -15,6 +15,7 @@ use Rattle.dill_calls.specs.declared.word.Word.TheVariants as words
 use Rattle.dill_calls.specs.CallTable.{word_of, named_by, gives_up}
 use Rattle.dill_handles.specs.Handles as handles
 use Rattle.dill_handles.specs.Handles.{Handles}
+use Rattle.dill_handles.specs.declared.entry.Entry.{Entry}
 use Rattle.dill_scope.specs.Scopes.{is_empty}
 use Rattle.dill_base.specs.Maps.{if_some, first_some, change, without}
 use Rattle.dill_rules.specs.declared.coroutine.Closing.{Closing}
@@ -23,7 +24,7 @@ use Rattle.dill_rules.specs.declared.coroutine.Mode.{Mode}
 use Rattle.dill_rules.specs.declared.coroutine.Mode.TheVariants as modes
 use Rattle.dill_rules.specs.declared.thing.Thing.{Thing}
 use Rattle.dill_rules.specs.declared.thing.Thing.TheVariants as things
-use Rattle.dill_rules.specs.World.{World, is_coroutine, coroutine_of, call_of, with_mode, reply, note, pending_call, is_ending, from_start}
+use Rattle.dill_rules.specs.World.{World, is_coroutine, coroutine_of, call_of, with_mode, set_mode, reply, note, pending_call, is_ending, from_start}
 use Rattle.dill_rules.specs.Links.{with_stack, as_closing}
 use Rattle.dill_rules.specs.Links as link
 use Rattle.dill_rules.specs.Naming.{links, draws_of}
@@ -38,16 +39,16 @@ use Rattle.dill_rules.specs.Effects.{next_number}
 use Rattle.dill_rules.specs.Entering.{late_answer}
 use Rattle.dill_rules.specs.Expiring.{expire_one, due_of}
 use Rattle.dill_rules.specs.Answers.{when_empty, bundle_dead_as, answer_of}
-use Rattle.dill_rules.specs.Settling.{highest_first, is_owned_by, can_finish, is_clear, free_all, release_all, outcome_of, finish, answer_due, give_first, settle_one, settle_within, settle, pass_all}
-use Rattle.laws_queue.specs.Well.{is_at, occurs}
+use Rattle.dill_rules.specs.Settling.{highest_first, is_owned_by, can_finish, is_clear, free_all, release_all, outcome_of, keep_end, finish, answer_due, give_first, settle_one, settle_within, settle, pass_all}
+use Rattle.laws_queue.specs.Well.{bit, is_at, occurs}
 use Rattle.laws_queue.proofs.Besides.{Besides, as_was, with_links, some_besides, if_besides, on_link_besides, on_named_besides, look_besides, pass_all_besides}
 use Rattle.laws_queue.proofs.Crew.{move_crew, release_crew, bare_crew, free_dead_crew}
 use Rattle.laws_sound.proofs.Lists.{all_found, all_without, all_change}
 use Rattle.laws_queue.proofs.Stepping.{by_number, passes, due_first}
 use Rattle.laws_sound.specs.Laws.{is_timed}
 use Rattle.laws_sound.specs.Order.{times_used, is_there, IsInOrder}
-use Rattle.laws_sound.specs.Orderly.{is_meeting, waits_well, dead_by, NotesOnce, is_no_bundle, is_socketed, IsOrderly}
-use Rattle.laws_sound.proofs.Counting.{weigh_map, only_found}
+use Rattle.laws_sound.specs.Orderly.{is_meeting, waits_well, dead_by, NotesOnce, is_no_bundle, is_socketed, gives_number, kept_by, weigh, IsOrderly}
+use Rattle.laws_sound.proofs.Counting.{weigh_map, weigh_change, weigh_without, only_found}
 use Rattle.laws_sound.proofs.Fitting.{closes_it, used_is}
 use Rattle.laws_sound.proofs.Sorting.{picked_all}
 use Rattle.laws_sound.proofs.Handing.{equal, unequal, same_number}
@@ -61,25 +62,60 @@ use Rattle.laws_sound.proofs.Nearly.{is_free}
 use Rattle.laws_sound.proofs.Ordering.{order_anyway, order_reply, order_move, order_release}
 use Rattle.laws_sound.proofs.Noting.{Stays, stays_retired, stays_renumbered, names_none, counted, ending_meets, less_kept, itself, no_name, when_some, close_on_stack, timed_open, sockets_stay, Counts, counts_then, counts_same, drop_handles, take_handles, release_counts, move_counts, free_counts, release_each_counts, once_closed, free_all_counts}
 
+-- a handshake or a detach has a number kept, and so has a call that makes a link
+attaches_one : (a b c : Bool) → b ≡ true → c ≡ false → bit (a || (b && not c)) ≡ 1
+attaches_one true b c e f = refl
+attaches_one false true false e f = refl
+attaches_one false true true e f = cc
+attaches_one false false c e f = cc
+
+pub links_one : (a b : Bool) → a ≡ true → bit (a || b) ≡ 1
+links_one true b e = refl
+links_one false b e = cc
+
+draws_one : (call : Call) → (is_handshake (word_of call) || gives_up (word_of call)) ≡ true → draws_of call ≤ 1
+draws_one (calls.Go program args) e = cc
+draws_one (calls.BundleGo number program args) e = cc
+draws_one calls.Chmake e = cc
+draws_one call e = lit≤ tt
+
 module _ {V : Type 0} where
-  -- An effect that leaves the coroutines, keeps a world in order, and leaves the numbers that name no bundle.
-  pub record Does (w v : World V) : Type 0 where
+  -- An effect that leaves the coroutines, keeps a world in order, leaves the numbers that name no bundle, and uses at most so many of the numbers that are kept.
+  pub record Does (w v : World V) (count : ℕ) : Type 0 where
     pub order : IsInOrder v
     pub coroutines : v.coroutines ≡ w.coroutines
     pub stays : Stays w.handles v.handles
     pub noted : Counts w v
     pub waits : v.channels.waits ≡ w.channels.waits
+    pub spent : w.handles.kept ≤ v.handles.kept + count
 
-  pub nothing : (w : World V) → IsInOrder w → Does w w
-  nothing w o = record { order = o; coroutines = refl; stays = λ n e. e; noted = λ n. refl; waits = refl }
+  pub nothing : (w : World V) → IsInOrder w → Does w w 0
+  nothing w o = record { order = o; coroutines = refl; stays = λ n e. e; noted = λ n. refl; waits = refl; spent = omega arith }
 
-  pub does_then : (w v u : World V) → Does w v → Does v u → Does w u
-  does_then w v u a b = record { order = b.order; coroutines = b.coroutines ∙ a.coroutines; stays = λ n e. b.stays n (a.stays n e); noted = counts_then w v u a.noted b.noted; waits = b.waits ∙ a.waits }
+  pub does_more : (w v : World V) {m n : ℕ} → m ≤ n → Does w v m → Does w v n
+  does_more w v l d = record { order = d.order; coroutines = d.coroutines; stays = d.stays; noted = d.noted; waits = d.waits; spent = let s = d.spent in omega (arith, l, s) }
 
-  pub besides : (w v : World V) → Besides w v → IsInOrder w → Does w v
-  besides w v b o = subst (Does w) (sym b.same) (record { order = order_anyway w w.channels b.links w.place w.wrote b.random w.moment w.notes o; coroutines = refl; stays = λ n e. e; noted = λ n. refl; waits = refl })
+  pub does_both : (w v u : World V) {m n k : ℕ} → m + n ≤ k → Does w v m → Does v u n → Does w u k
+  does_both w v u l a b = record {
+    order = b.order;
+    coroutines = b.coroutines ∙ a.coroutines;
+    stays = λ n e. b.stays n (a.stays n e);
+    noted = counts_then w v u a.noted b.noted;
+    waits = b.waits ∙ a.waits;
+    spent = let s = a.spent in let t = b.spent in omega (arith, l, s, t);
+  }
 
-  pub unkept : (w : World V) (count : ℕ) → IsInOrder w → Does w (record w { handles = handles.unkeep w.handles count })
+  -- the first uses none, or the second
+  pub does_then : (w v u : World V) {n : ℕ} → Does w v 0 → Does v u n → Does w u n
+  does_then w v u a b = does_both w v u (omega arith) a b
+
+  pub does_last : (w v u : World V) {n : ℕ} → Does w v n → Does v u 0 → Does w u n
+  does_last w v u a b = does_both w v u (omega arith) a b
+
+  pub besides : (w v : World V) → Besides w v → IsInOrder w → Does w v 0
+  besides w v b o = subst (λ u. Does w u 0) (sym b.same) (record { order = order_anyway w w.channels b.links w.place w.wrote b.random w.moment w.notes o; coroutines = refl; stays = λ n e. e; noted = λ n. refl; waits = refl; spent = omega arith })
+
+  pub unkept : (w : World V) (count : ℕ) → IsInOrder w → Does w (record w { handles = handles.unkeep w.handles count }) count
   unkept w count o =
       let f = o.fits in
       record {
@@ -93,6 +129,7 @@ module _ {V : Type 0} where
         stays = λ n e. e;
         noted = λ n. refl;
         waits = refl;
+        spent = omega arith;
       }
 
   some_stays : {A : Type 0} (h : Handles Thing) (o : Option A) (w : World V) (f : A → World V) → Stays h w.handles → ((a : A) → Stays h (f a).handles) → Stays h (if_some o w f).handles
@@ -109,9 +146,10 @@ module _ {V : Type 0} where
       some_stays w.handles (entry_of w number) w (λ x. note (take_thing (record w { handles = handles.renumber w.handles number x.thing owner }) x.thing owner) (Moved number (handles.next_number w.handles))) (itself w.handles)
       (λ x. subst (Stays w.handles) (sym (take_handles (record w { handles = handles.renumber w.handles number x.thing owner }) x.thing owner)) (stays_renumbered w.handles number owner x.thing))
 
-  some_waits : {A : Type 0} (xs : List Wait) (o : Option A) (w : World V) (f : A → World V) → w.channels.waits ≡ xs → ((a : A) → (f a).channels.waits ≡ xs) → (if_some o w f).channels.waits ≡ xs
-  some_waits xs None w f e g = e
-  some_waits xs (Some a) w f e g = g a
+  -- a part of a world stays, whatever is there
+  some_same : {A X : Type 0} (part : World V → X) (x : X) (o : Option A) (w : World V) (f : A → World V) → part w ≡ x → ((a : A) → part (f a) ≡ x) → part (if_some o w f) ≡ x
+  some_same part x None w f e g = e
+  some_same part x (Some a) w f e g = g a
 
   drop_waits : (w : World V) (thing : Thing) → (drop w thing).channels.waits ≡ w.channels.waits
   drop_waits w (things.Bundle name) = refl
@@ -129,12 +167,24 @@ module _ {V : Type 0} where
 
   release_waits : (w : World V) (number : ℕ) → (release w number).channels.waits ≡ w.channels.waits
   release_waits w number =
-      some_waits w.channels.waits (entry_of w number) w (λ x. note (drop (record w { handles = handles.retire w.handles number }) x.thing) (Freed number)) refl (λ x. drop_waits (record w { handles = handles.retire w.handles number }) x.thing)
+      some_same (λ v. v.channels.waits) w.channels.waits (entry_of w number) w (λ x. note (drop (record w { handles = handles.retire w.handles number }) x.thing) (Freed number)) refl (λ x. drop_waits (record w { handles = handles.retire w.handles number }) x.thing)
 
   pub move_waits : (w : World V) (number owner : ℕ) → (move w number owner).channels.waits ≡ w.channels.waits
   move_waits w number owner =
-      some_waits w.channels.waits (entry_of w number) w (λ x. note (take_thing (record w { handles = handles.renumber w.handles number x.thing owner }) x.thing owner) (Moved number (handles.next_number w.handles))) refl
+      some_same (λ v. v.channels.waits) w.channels.waits (entry_of w number) w (λ x. note (take_thing (record w { handles = handles.renumber w.handles number x.thing owner }) x.thing owner) (Moved number (handles.next_number w.handles))) refl
       (λ x. take_waits (record w { handles = handles.renumber w.handles number x.thing owner }) x.thing owner)
+
+  release_kept : (w : World V) (number : ℕ) → (release w number).handles.kept ≡ w.handles.kept
+  release_kept w number =
+      some_same (λ v. v.handles.kept) w.handles.kept (entry_of w number) w (λ x. note (drop (record w { handles = handles.retire w.handles number }) x.thing) (Freed number)) refl
+      (λ x. ap (λ (h : Handles Thing). h.kept) (drop_handles (record w { handles = handles.retire w.handles number }) x.thing))
+
+  pub move_spent : (w : World V) (number owner : ℕ) → w.handles.kept ≤ (move w number owner).handles.kept + 1
+  move_spent w number owner = at (entry_of w number)
+    where
+      at : (o : Option (Entry Thing)) → w.handles.kept ≤ (if_some o w (λ x. note (take_thing (record w { handles = handles.renumber w.handles number x.thing owner }) x.thing owner) (Moved number (handles.next_number w.handles)))).handles.kept + 1
+      at None = omega arith
+      at (Some x) = subst (λ (h : Handles Thing). w.handles.kept ≤ h.kept + 1) (sym (take_handles (record w { handles = handles.renumber w.handles number x.thing owner }) x.thing owner)) (omega arith)
 
   -- whoever has its answer waits under no clause, and the others as before
   pub left_waits : (cs : List (Coroutine V)) (who : ℕ) (mode : Mode) (xs : List Wait) → list_all (waits_well cs) xs ≡ true → list_all (waits_well (change (is_coroutine who) (with_mode mode) cs)) (filter (λ x. not (x.who == who)) xs) ≡ true
@@ -147,17 +197,18 @@ module _ {V : Type 0} where
       at x false f g = ap (λ o. if_some o false (λ d. is_meeting d.mode)) (change_other (with_mode mode) (λ d. refl) who x.who cs (unequal x.who who f)) ∙ g
 
   -- a stack is released
-  pub releases : (w : World V) (number : ℕ) → IsInOrder w → is_no_bundle w.handles number ≡ true → Does w (release w number)
-  releases w number o e = record { order = order_release w number o (λ x f. names_none w number x e f); coroutines = (release_crew w number).coroutines; stays = release_stays w number; noted = release_counts w number; waits = release_waits w number }
+  pub releases : (w : World V) (number : ℕ) → IsInOrder w → is_no_bundle w.handles number ≡ true → Does w (release w number) 0
+  releases w number o e = record { order = order_release w number o (λ x f. names_none w number x e f); coroutines = (release_crew w number).coroutines; stays = release_stays w number; noted = release_counts w number; waits = release_waits w number; spent = let s = release_kept w number in omega (arith, s) }
 
   -- a stack has a new number, and an owner
-  pub moves : (w : World V) (number owner : ℕ) → IsInOrder w → is_no_bundle w.handles number ≡ true → is_there w owner ≡ true → is_at is_ending w.coroutines owner ≡ false → Does w (move w number owner)
+  pub moves : (w : World V) (number owner : ℕ) → IsInOrder w → is_no_bundle w.handles number ≡ true → is_there w owner ≡ true → is_at is_ending w.coroutines owner ≡ false → Does w (move w number owner) 1
   moves w number owner o e there going = record {
     order = order_move w number owner o there going (λ x name f t i. no_name (bundle_of x.thing) name (names_none w number x e f) (ap bundle_of t));
     coroutines = (move_crew w number owner).coroutines;
     stays = move_stays w number owner;
     noted = move_counts w number owner;
     waits = move_waits w number owner;
+    spent = move_spent w number owner;
   }
 
   -- ---- answers
@@ -172,6 +223,21 @@ module _ {V : Type 0} where
 
   pub goes_then : (w v u : World V) → Goes w v → Goes v u → Goes w u
   goes_then w v u a b = record { good = b.good; noted = counts_then w v u a.noted b.noted }
+
+  -- no more are kept for all than before, where nobody is pending anew
+  pub set_kept : (v : World V) (who : ℕ) (mode : Mode) (c : Coroutine V) → coroutine_of v who ≡ Some c → weigh kept_by (set_mode v who mode).coroutines + kept_by c ≡ weigh kept_by v.coroutines + kept_by (with_mode mode c)
+  set_kept v who mode c e = weigh_change kept_by (is_coroutine who) (with_mode mode) v.coroutines c e
+
+  pub does_good : (w v : World V) → IsOrderly w → Does w v 0 → IsOrderly v
+  does_good w v g d = record {
+    order = d.order;
+    sockets = subst (λ cs. list_all (is_socketed v.handles) cs ≡ true) (sym d.coroutines) (sockets_stay w.handles v.handles w.coroutines d.stays g.sockets);
+    waits = subst (λ cs. list_all (waits_well cs) v.channels.waits ≡ true) (sym d.coroutines) (subst (λ xs. list_all (waits_well w.coroutines) xs ≡ true) (sym d.waits) g.waits);
+    kept = subst (λ cs. weigh kept_by cs ≤ v.handles.kept) (sym d.coroutines) (let k = g.kept in let s = d.spent in omega (arith, k, s));
+  }
+
+  pub does_goes : (w v : World V) → IsOrderly w → Does w v 0 → Goes w v
+  does_goes w v g d = record { good = does_good w v g d; noted = d.noted }
 
   -- who is pending in a call that closes nothing, on a number that names no bundle if it is on a stack
   record Waits (w : World V) (who : ℕ) (call : Call) : Type 0 where
@@ -188,18 +254,26 @@ module _ {V : Type 0} where
   going w who call h = ap (λ o. if_some o false (λ c. is_ending c.mode)) h.found ∙ ap is_ending h.mode
 
   -- an effect, and then the answer of one that waits for no bundle to close
-  pub answers_free : (w v : World V) (who : ℕ) (word : Word) (answer : Answer) (c : Coroutine V) → IsOrderly w → coroutine_of w who ≡ Some c → is_free c.mode ≡ true → Does w v → Goes w (reply v who word answer)
-  answers_free w v who word answer c g e free d = record {
+  pub answers_free : (w v : World V) (who : ℕ) (word : Word) (answer : Answer) (c : Coroutine V) {n : ℕ} → IsOrderly w → coroutine_of w who ≡ Some c → is_free c.mode ≡ true → weigh kept_by w.coroutines + n ≤ w.handles.kept + kept_by c → Does w v n → Goes w (reply v who word answer)
+  answers_free w v who word answer c g e free l d = record {
     noted = d.noted;
     good = record {
       order = order_reply v who c word answer d.order (ap (find (is_coroutine who)) d.coroutines ∙ e) free;
       sockets = all_change (is_socketed v.handles) (is_coroutine who) (with_mode (modes.Fresh word answer)) v.coroutines (λ x f. refl) (subst (λ cs. list_all (is_socketed v.handles) cs ≡ true) (sym d.coroutines) (sockets_stay w.handles v.handles w.coroutines d.stays g.sockets));
       waits = left_waits v.coroutines who (modes.Fresh word answer) v.channels.waits (subst (λ cs. list_all (waits_well cs) v.channels.waits ≡ true) (sym d.coroutines) (subst (λ xs. list_all (waits_well w.coroutines) xs ≡ true) (sym d.waits) g.waits));
+      kept =
+          let same = ap (weigh kept_by) d.coroutines in
+          let set = set_kept v who (modes.Fresh word answer) c (ap (find (is_coroutine who)) d.coroutines ∙ e) in
+          let s = d.spent in
+          omega (arith, l, same, set, s);
     };
   }
 
-  answers : (w v : World V) (who : ℕ) (call : Call) (word : Word) (answer : Answer) → Waits w who call → Does w v → Goes w (reply v who word answer)
-  answers w v who call word answer h d = answers_free w v who word answer h.one h.good h.found (ap (λ m. is_free m) h.mode ∙ h.free) d
+  answers : (w v : World V) (who : ℕ) (call : Call) (word : Word) (answer : Answer) {n : ℕ} → Waits w who call → n ≤ bit (gives_number (word_of call)) → Does w v n → Goes w (reply v who word answer)
+  answers w v who call word answer h l d =
+      let own : kept_by h.one ≡ bit (gives_number (word_of call)) = ap (λ m. if_some (pending_call m) 0 (λ k. bit (gives_number (word_of k)))) h.mode in
+      let k = h.good.kept in
+      answers_free w v who word answer h.one h.good h.found (ap (λ m. is_free m) h.mode ∙ h.free) (omega (arith, own, k, l)) d
 
   pub some_good : {A : Type 0} (o : Option A) (w : World V) (f : A → World V) → IsOrderly w → ((a : A) → o ≡ Some a → Goes w (f a)) → Goes w (if_some o w f)
   some_good None w f e h = goes_not w e
@@ -214,7 +288,7 @@ module _ {V : Type 0} where
   if_good true w v u e f = e refl
   if_good false w v u e f = f refl
 
-  pub some_does : {A : Type 0} (o : Option A) (w : World V) (f : A → World V) → Does w w → ((a : A) → o ≡ Some a → Does w (f a)) → Does w (if_some o w f)
+  pub some_does : {A : Type 0} (o : Option A) (w : World V) (f : A → World V) {n : ℕ} → Does w w n → ((a : A) → o ≡ Some a → Does w (f a) n) → Does w (if_some o w f) n
   some_does None w f e h = e
   some_does (Some a) w f e h = h a refl
 
@@ -228,56 +302,59 @@ module _ {V : Type 0} where
       ap (λ o. if_some o true (is_no_bundle w.handles)) (sym f) ∙ sym on ∙ here
 
   -- the whole stack is given up
-  stack_up : (w v : World V) (who : ℕ) (call : Call) (e : Errno) (kept : ℕ) → Waits w who call → is_on_stack (word_of call) ≡ true → Does w v → Goes w (give_stack_up v who call e kept)
-  stack_up w v who call e kept h on d =
+  stack_up : (w v : World V) (who : ℕ) (call : Call) (e : Errno) (kept : ℕ) → Waits w who call → is_on_stack (word_of call) ≡ true → kept ≤ bit (gives_number (word_of call)) → Does w v 0 → Goes w (give_stack_up v who call e kept)
+  stack_up w v who call e kept h on l d =
       let less : World V = record v { handles = handles.unkeep v.handles kept } in
       let u = does_then w v less d (unkept v kept d.order) in
-      answers w (if_some (named_by call) v (λ number. release less number)) who call (word_of call) (Fault e) h (at (named_by call) refl u)
+      answers w (if_some (named_by call) v (λ number. release less number)) who call (word_of call) (Fault e) h l (at (named_by call) refl u)
     where
-      at : (o : Option ℕ) → named_by call ≡ o → Does w (record v { handles = handles.unkeep v.handles kept }) → Does w (if_some o v (λ number. release (record v { handles = handles.unkeep v.handles kept }) number))
-      at None f u = d
+      at : (o : Option ℕ) → named_by call ≡ o → Does w (record v { handles = handles.unkeep v.handles kept }) kept → Does w (if_some o v (λ number. release (record v { handles = handles.unkeep v.handles kept }) number)) kept
+      at None f u = does_more w v (omega arith) d
       at (Some number) f u =
           let less : World V = record v { handles = handles.unkeep v.handles kept } in
-          does_then w less (release less number) u (releases less number u.order (d.stays number (named_socket w who call number h on f)))
+          does_last w less (release less number) u (releases less number u.order (d.stays number (named_socket w who call number h on f)))
 
-  attached : (w : World V) (who : ℕ) (call : Call) (answer : Answer) → Waits w who call → is_on_stack (word_of call) ≡ true → Goes w (give_attached w who call answer)
-  attached w who call (Fault e) h on =
-      stack_up w (if is_read (Fault e) then look_on w call else w) who call e (draws_of call) h on
+  attached : (w : World V) (who : ℕ) (call : Call) (answer : Answer) → Waits w who call → is_on_stack (word_of call) ≡ true → draws_of call ≤ bit (gives_number (word_of call)) → 1 ≤ bit (gives_number (word_of call)) → Goes w (give_attached w who call answer)
+  attached w who call (Fault e) h on drawn one =
+      stack_up w (if is_read (Fault e) then look_on w call else w) who call e (draws_of call) h on drawn
       (besides w (if is_read (Fault e) then look_on w call else w) (if_besides (is_read (Fault e)) w (look_on w call) w (look_besides w call) (as_was w)) h.good.order)
-  attached w who call answer h on =
-      either_good (named_by call) w (reply w who (word_of call) answer) (give_number w who call) (answers w w who call (word_of call) answer h (nothing w h.good.order))
+  attached w who call answer h on drawn one =
+      either_good (named_by call) w (reply w who (word_of call) answer) (give_number w who call) (answers w w who call (word_of call) answer h (omega arith) (nothing w h.good.order))
       (λ number f.
       let looked = besides w (look_on w call) (look_besides w call) h.good.order in
-      answers w (move (look_on w call) number who) who call (word_of call) (Number (next_number w)) h
+      answers w (move (look_on w call) number who) who call (word_of call) (Number (next_number w)) h one
       (does_then w (look_on w call) (move (look_on w call) number who) looked
       (moves (look_on w call) number who looked.order (looked.stays number (named_socket w who call number h on f)) (ap (λ cs. is_some (find (is_coroutine who) cs)) looked.coroutines ∙ there w who call h) (ap (λ cs. is_at is_ending cs who) looked.coroutines ∙ going w who call h))))
 
   closed : (w : World V) (who : ℕ) (call : Call) (answer : Answer) → Waits w who call → is_on_stack (word_of call) ≡ true → Goes w (give_closed w who call answer)
-  closed w who call (Fault e) h on = stack_up w w who call e 0 h on (nothing w h.good.order)
+  closed w who call (Fault e) h on = stack_up w w who call e 0 h on (omega arith) (nothing w h.good.order)
   closed w who call answer h on =
-      answers w (if_some (named_by call) w (release w)) who call (word_of call) answer h (some_does (named_by call) w (release w) (nothing w h.good.order) (λ number f. releases w number h.good.order (named_socket w who call number h on f)))
+      answers w (if_some (named_by call) w (release w)) who call (word_of call) answer h (omega arith) (some_does (named_by call) w (release w) (nothing w h.good.order) (λ number f. releases w number h.good.order (named_socket w who call number h on f)))
 
-  forgone : (w : World V) (who : ℕ) → IsInOrder w → Does w (forgo w who)
+  forgone : (w : World V) (who : ℕ) → IsInOrder w → Does w (forgo w who) 1
   forgone w who o =
       let less : World V = record w { handles = handles.unkeep w.handles 1 } in
       let u = unkept w 1 o in
-      does_then w less (forgo w who) u (besides less (forgo w who) (some_besides (find (is_connecting_for who) w.links.all) less (record less { links = link.unkeep w.links }) (λ x. on_link less x.number as_closing) (with_links less (link.unkeep w.links) w.random) (λ x. on_link_besides less x.number as_closing)) u.order)
+      does_last w less (forgo w who) u (besides less (forgo w who) (some_besides (find (is_connecting_for who) w.links.all) less (record less { links = link.unkeep w.links }) (λ x. on_link less x.number as_closing) (with_links less (link.unkeep w.links) w.random) (λ x. on_link_besides less x.number as_closing)) u.order)
 
   give_class_good : (w : World V) (who : ℕ) (call : Call) (answer : Answer) → Waits w who call → Goes w (give_class w who call answer)
   give_class_good w who call answer h =
       let word = word_of call in
       if_good (is_send word) w (give_send w who call answer) _
-      (λ e. answers w (if_some (named_by call) w (λ number. on_named w number (with_stack (after_send word answer)))) who call word answer h
+      (λ e. answers w (if_some (named_by call) w (λ number. on_named w number (with_stack (after_send word answer)))) who call word answer h (omega arith)
       (besides w _ (some_besides (named_by call) w w (λ number. on_named w number (with_stack (after_send word answer))) (as_was w) (λ number. on_named_besides w number (with_stack (after_send word answer)))) h.good.order))
       (λ e. if_good (is_receive word) w (give_receive w who call answer) _
-      (λ f. answers w (if is_read answer then look_on w call else w) who call word answer h (besides w _ (if_besides (is_read answer) w (look_on w call) w (look_besides w call) (as_was w)) h.good.order))
+      (λ f. answers w (if is_read answer then look_on w call else w) who call word answer h (omega arith) (besides w _ (if_besides (is_read answer) w (look_on w call) w (look_besides w call) (as_was w)) h.good.order))
       (λ f. if_good (is_tcp_close word) w (give_closed w who call answer) _
       (λ g. closed w who call answer h (close_on_stack word g))
       (λ g. if_good (is_handshake word || gives_up word) w (give_attached w who call answer) _
-      (λ i. attached w who call answer h (or_right (is_send word) (is_receive word || (is_handshake word || gives_up word)) (or_right (is_receive word) (is_handshake word || gives_up word) i)))
+      (λ i.
+      let one = attaches_one (links word) (is_handshake word || gives_up word) (is_tcp_close word) i g in
+      let few = draws_one call i in
+      attached w who call answer h (or_right (is_send word) (is_receive word || (is_handshake word || gives_up word)) (or_right (is_receive word) (is_handshake word || gives_up word) i)) (omega (arith, one, few)) (omega (arith, one)))
       (λ i. if_good (links word) w (give_forgone w who call answer) (reply w who word answer)
-      (λ j. answers w (forgo w who) who call word answer h (forgone w who h.good.order))
-      (λ j. answers w w who call word answer h (nothing w h.good.order))))))
+      (λ j. answers w (forgo w who) who call word answer h (let one = links_one (links word) ((is_handshake word || gives_up word) && not (is_tcp_close word)) j in omega (arith, one)) (forgone w who h.good.order))
+      (λ j. answers w w who call word answer h (omega arith) (nothing w h.good.order))))))
 
   -- whatever is answered
   pub give_good : (w : World V) (who : ℕ) (call : Call) (answer : Answer) (c : Coroutine V) → IsOrderly w → coroutine_of w who ≡ Some c → c.mode ≡ modes.Pending call → ((number : ℕ) → call ≡ calls.Hclose number → (x : Closing) → find (is_dead_as number) w.closings ≡ Some x → is_empty w.scopes x.bundle ≡ true) → Goes w (give w who call answer)
@@ -289,7 +366,14 @@ module _ {V : Type 0} where
         good = record {
           order = order_give_close w who number c answer g.order e f (empty number refl);
           sockets = all_change (is_socketed v.handles) (is_coroutine who) (with_mode (modes.Fresh words.Hclose answer)) v.coroutines (λ d i. refl) (subst (λ h. list_all (is_socketed h) v.coroutines ≡ true) (sym same) (subst (λ cs. list_all (is_socketed w.handles) cs ≡ true) (sym (free_dead_crew w number).coroutines) g.sockets));
-          waits = left_waits v.coroutines who (modes.Fresh words.Hclose answer) v.channels.waits (subst (λ cs. list_all (waits_well cs) v.channels.waits ≡ true) (sym (free_dead_crew w number).coroutines) (subst (λ xs. list_all (waits_well w.coroutines) xs ≡ true) (sym (some_waits w.channels.waits (find (is_dead_as number) w.closings) w (free_bundle w) refl (λ x. refl))) g.waits));
+          kept =
+              let crew = (free_dead_crew w number).coroutines in
+              let alike = ap (weigh kept_by) crew in
+              let set = set_kept v who (modes.Fresh words.Hclose answer) c (ap (find (is_coroutine who)) crew ∙ e) in
+              let k = g.kept in
+              let h = ap (λ (t : Handles Thing). t.kept) same in
+              omega (arith, alike, set, k, h);
+          waits = left_waits v.coroutines who (modes.Fresh words.Hclose answer) v.channels.waits (subst (λ cs. list_all (waits_well cs) v.channels.waits ≡ true) (sym (free_dead_crew w number).coroutines) (subst (λ xs. list_all (waits_well w.coroutines) xs ≡ true) (sym (some_same (λ v. v.channels.waits) w.channels.waits (find (is_dead_as number) w.closings) w (free_bundle w) refl (λ x. refl))) g.waits));
         };
       }
     where
@@ -349,13 +433,14 @@ module _ {V : Type 0} where
   kept_stays true w v s = subst (Stays w.handles) (sym s) (itself w.handles)
   kept_stays false w v s = λ n e. e
 
-  pub fold_waits : {A : Type 0} (f : World V → A → World V) (xs : List A) (w : World V) → ((v : World V) (a : A) → (f v a).channels.waits ≡ v.channels.waits) → (fold f w xs).channels.waits ≡ w.channels.waits
-  fold_waits f [] w h = refl
-  fold_waits f (x ∷ xs) w h = fold_waits f xs (f w x) h ∙ h w x
+  -- a part of a world stays
+  pub fold_same : {A X : Type 0} (part : World V → X) (f : World V → A → World V) (xs : List A) (w : World V) → ((v : World V) (a : A) → part (f v a) ≡ part v) → part (fold f w xs) ≡ part w
+  fold_same part f [] w h = refl
+  fold_same part f (x ∷ xs) w h = fold_same part f xs (f w x) h ∙ h w x
 
-  end_waits : (b : Bool) (w v : World V) → v.channels.waits ≡ w.channels.waits → (if b then v else w).channels.waits ≡ w.channels.waits
-  end_waits true w v e = e
-  end_waits false w v e = refl
+  if_same : {X : Type 0} (part : World V → X) (b : Bool) (w v : World V) → part v ≡ part w → part (if b then v else w) ≡ part w
+  if_same part true w v e = e
+  if_same part false w v e = refl
 
   -- who is ending waits under no clause
   gone_waits : (w : World V) (c : Coroutine V) → coroutine_of w c.number ≡ Some c → is_ending c.mode ≡ true → (xs : List Wait) → list_all (waits_well w.coroutines) xs ≡ true → list_all (waits_well (without (is_coroutine c.number) w.coroutines)) xs ≡ true
@@ -369,6 +454,14 @@ module _ {V : Type 0} where
   end_counts true w v e f g = counts_same w v e f g
   end_counts false w v e f g = λ n. refl
 
+  finish_same : {X : Type 0} (part : World V → X) (w : World V) (c : Coroutine V) → ((v : World V) (number : ℕ) → part (release v number) ≡ part v) → ((v : World V) (x : Closing) → part (free_bundle v x) ≡ part v) → ((v : World V) (o : Option (Option Errno)) → part (from_start (record v { ended = o })) ≡ part v) → part (keep_end (release_all (free_all w c.number) c.number) c) ≡ part w
+  finish_same part w c released freed ended =
+      let free = free_all w c.number in
+      let bare = release_all free c.number in
+      if_same part (c.number == 1) bare (from_start (record bare { ended = Some (outcome_of c.mode) })) (ended bare (Some (outcome_of c.mode)))
+      ∙ fold_same part release (reverse (handles.numbers_of free.handles c.number)) free released
+      ∙ fold_same part free_bundle (highest_first (filter (is_owned_by w c.number) w.closings)) w freed
+
   finish_good : (w : World V) (c : Coroutine V) → IsOrderly w → find (can_finish w) w.coroutines ≡ Some c → Goes w (finish w c)
   finish_good w c g e =
       let b = and_parts (is_ending c.mode) (is_clear w c.number) (passes (can_finish w) w.coroutines c e) in
@@ -377,7 +470,8 @@ module _ {V : Type 0} where
       let one = fold_handles free_bundle (highest_first (filter (is_owned_by w c.number) w.closings)) w freed_stays in
       let two = fold_handles release (reverse (handles.numbers_of freed.handles c.number)) freed release_stays in
       let here = by_number 0 w.last_coroutine (can_finish w) w.coroutines c e g.order.fits.numbered in
-      let same_waits : (finish w c).channels.waits ≡ w.channels.waits = end_waits (c.number == 1) bare (from_start (record bare { ended = Some (outcome_of c.mode) })) refl ∙ fold_waits release (reverse (handles.numbers_of freed.handles c.number)) freed release_waits ∙ fold_waits free_bundle (highest_first (filter (is_owned_by w c.number) w.closings)) w (λ v x. refl) in
+      let same_waits : (finish w c).channels.waits ≡ w.channels.waits = finish_same (λ v. v.channels.waits) w c release_waits (λ v x. refl) (λ v o. refl) in
+      let same_kept : (finish w c).handles.kept ≡ w.handles.kept = finish_same (λ v. v.handles.kept) w c release_kept (λ v x. refl) (λ v o. refl) in
       let three = kept_stays (c.number == 1) bare (from_start (record bare { ended = Some (outcome_of c.mode) })) refl in
       record {
         noted = counts_then w freed (finish w c) (free_all_counts w c.number g.order.fits) (counts_then freed bare (finish w c) (release_each_counts (reverse (handles.numbers_of freed.handles c.number)) freed) (end_counts (c.number == 1) bare (from_start (record bare { ended = Some (outcome_of c.mode) })) refl refl refl));
@@ -386,6 +480,11 @@ module _ {V : Type 0} where
           sockets = all_without (is_socketed (finish w c).handles) (is_coroutine c.number) bare.coroutines
               (subst (λ cs. list_all (is_socketed (finish w c).handles) cs ≡ true) (sym (bare_crew w c.number).coroutines)
               (sockets_stay w.handles (finish w c).handles w.coroutines (λ n f. three n (two n (one n f))) g.sockets));
+          kept =
+              let crew = ap (λ cs. weigh kept_by (without (is_coroutine c.number) cs)) (bare_crew w c.number).coroutines in
+              let less = weigh_without kept_by (is_coroutine c.number) w.coroutines in
+              let k = g.kept in
+              omega (arith, crew, less, k, same_kept);
           waits = subst (λ xs. list_all (waits_well (finish w c).coroutines) xs ≡ true) (sym same_waits) (subst (λ cs. list_all (waits_well (without (is_coroutine c.number) cs)) w.channels.waits ≡ true) (sym (bare_crew w c.number).coroutines) (gone_waits w c here b.0 w.channels.waits g.waits));
         };
       }
@@ -406,7 +505,7 @@ module _ {V : Type 0} where
       let done = settle_within (length w.coroutines) w in
       let kept = within_good (length w.coroutines) w g in
       let d = besides done (pass_all done) (pass_all_besides done) kept.good.order in
-      goes_then w done (settle w) kept (record { noted = d.noted; good = record { order = d.order; sockets = subst (λ cs. list_all (is_socketed (pass_all done).handles) cs ≡ true) (sym d.coroutines) (sockets_stay done.handles (pass_all done).handles done.coroutines d.stays kept.good.sockets); waits = subst (λ cs. list_all (waits_well cs) (pass_all done).channels.waits ≡ true) (sym d.coroutines) (subst (λ xs. list_all (waits_well done.coroutines) xs ≡ true) (sym d.waits) kept.good.waits) } })
+      goes_then w done (settle w) kept (does_goes done (pass_all done) kept.good d)
 
   -- ---- expiries
 

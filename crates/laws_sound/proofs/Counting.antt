@@ -4,13 +4,9 @@ use Rattle.std.proofs.lemmas.Bool.{and_parts, and_from}
 use Rattle.std.specs.Prelude.{filter, nat_le}
 use Rattle.std.specs.List.{list_all}
 use Rattle.std.proofs.lemmas.Bool.Decides.{nat_tests}
-use Rattle.dill_base.specs.Maps.{if_some, without}
+use Rattle.dill_base.specs.Maps.{if_some, change, without}
 use Rattle.laws_queue.specs.Well.{bit, occurs}
-
--- the sum of what each weighs
-abbrev pub weigh : {X : Type 0} → (X → ℕ) → List X → ℕ
-weigh f [] = 0
-weigh f (x ∷ xs) = f x + weigh f xs
+use Rattle.laws_sound.specs.Orderly.{weigh}
 
 -- it is this number
 abbrev pub holds : Option ℕ → ℕ → Bool
@@ -59,6 +55,23 @@ module _ {X : Type 0} where
       at : (t : Bool) → weigh f (without test xs) ≤ weigh f xs → weigh f (cond t xs (x ∷ without test xs)) ≤ f x + weigh f xs
       at true r = omega arith
       at false r = omega (arith, r)
+
+  -- who is changed weighs as it stands then
+  pub weigh_change : (f : X → ℕ) (test : X → Bool) (g : X → X) (xs : List X) (y : X) → find test xs ≡ Some y → weigh f (change test g xs) + f y ≡ weigh f xs + f (g y)
+  weigh_change f test g [] y e = cc
+  weigh_change f test g (x ∷ xs) y e = at (test x) e (weigh_change f test g xs y)
+    where
+      at : (t : Bool) → cond t (Some x) (find test xs) ≡ Some y → (find test xs ≡ Some y → weigh f (change test g xs) + f y ≡ weigh f xs + f (g y)) → weigh f (cond t (g x ∷ xs) (x ∷ change test g xs)) + f y ≡ f x + weigh f xs + f (g y)
+      at true h rest =
+          let it : x ≡ y = cc in
+          let one : f x ≡ f y = ap f it in
+          let two : f (g x) ≡ f (g y) = ap (λ z. f (g z)) it in
+          omega (arith, one, two)
+      at false h rest = let r = rest h in omega (arith, r)
+
+  pub weigh_alike : (f : X → ℕ) (g : X → X) (xs : List X) → ((x : X) → f (g x) ≡ f x) → weigh f (map g xs) ≡ weigh f xs
+  weigh_alike f g [] h = refl
+  weigh_alike f g (x ∷ xs) h = let one = h x in let r = weigh_alike f g xs h in omega (arith, one, r)
 
   pub none_without : (test : X → Bool) (xs : List X) → find test xs ≡ None → without test xs ≡ xs
   none_without test [] e = refl

@@ -27,7 +27,8 @@ use Rattle.dill_rules.specs.World.{World, is_coroutine, coroutine_of, with_mode,
 use Rattle.laws_queue.specs.Well.{bit, is_at}
 use Rattle.laws_sound.proofs.Lists.{all_found, all_without, all_follow, all_both, all_from}
 use Rattle.laws_sound.specs.Order.{closes, waits_for, is_there, has_bundle, is_held, is_kept_open, has_waiter, has_closing, FitsTogether, IsInOrder}
-use Rattle.laws_sound.proofs.Counting.{weigh, weightless, weighs_found, heavy_found, weigh_found, none_left, only_found, small_bit}
+use Rattle.laws_sound.specs.Orderly.{weigh}
+use Rattle.laws_sound.proofs.Counting.{weightless, weighs_found, heavy_found, weigh_found, none_left, only_found, small_bit}
 use Rattle.laws_sound.proofs.Crews.{change_here}
 use Rattle.laws_sound.proofs.Fitting.{names_it, closes_it, died_as, used_is, named, named_is}
 use Rattle.laws_sound.proofs.Going.{its_number}

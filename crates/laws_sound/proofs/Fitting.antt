@@ -25,7 +25,8 @@ use Rattle.dill_rules.specs.Taking.{bundle_of}
 use Rattle.dill_rules.specs.World.{World, Place, is_coroutine, with_mode, set_mode}
 use Rattle.laws_queue.specs.Well.{Numbered, bit, occurs}
 use Rattle.laws_sound.specs.Order.{is_there, has_bundle, is_held, FitsTogether}
-use Rattle.laws_sound.proofs.Counting.{weigh, holds, weigh_map, weigh_filter}
+use Rattle.laws_sound.specs.Orderly.{weigh}
+use Rattle.laws_sound.proofs.Counting.{holds, weigh_map, weigh_filter}
 use Rattle.laws_sound.proofs.Crews.{change_numbers, change_numbered, change_length}
 use Rattle.laws_sound.proofs.Lists.{all_follow, all_from}
 use Rattle.laws_sound.proofs.Sound.{same_there, there_home}

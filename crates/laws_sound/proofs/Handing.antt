@@ -22,7 +22,8 @@ use Rattle.dill_rules.specs.Effects.{make, add_bundle}
 use Rattle.laws_queue.specs.Well.{bit}
 use Rattle.laws_sound.proofs.Lists.{all_found}
 use Rattle.laws_sound.specs.Order.{is_there, has_bundle, is_held, is_proper_thing, is_proper, FitsTogether}
-use Rattle.laws_sound.proofs.Counting.{weigh, holds, weigh_push, weigh_found, weigh_without, length_push, weightless, used_more, all_push}
+use Rattle.laws_sound.specs.Orderly.{weigh}
+use Rattle.laws_sound.proofs.Counting.{holds, weigh_push, weigh_found, weigh_without, length_push, weightless, used_more, all_push}
 use Rattle.laws_sound.proofs.Fitting.{names_it, closes_it, has_number, used, named, used_is, named_is, held_follow, there_is}
 use Rattle.laws_sound.proofs.Owners.{owns_is, new_is_free, bundle_other, bundle_new}
 use Rattle.laws_sound.proofs.Sound.{owner_is}

@@ -27,7 +27,8 @@ use Rattle.laws_queue.specs.Well.{bit, is_at}
 use Rattle.laws_sound.proofs.Lists.{all_map, all_found, all_without, all_follow, all_from}
 use Rattle.laws_sound.specs.Order.{closes, waits_for, has_bundle, is_kept_open, has_waiter, has_closing, FitsTogether, IsInOrder}
 use Rattle.laws_sound.proofs.Coming.{newborn, fits_born, fits_left}
-use Rattle.laws_sound.proofs.Counting.{weigh, weightless, weightless_none, none_left, none_without, all_push, all_unique}
+use Rattle.laws_sound.specs.Orderly.{weigh}
+use Rattle.laws_sound.proofs.Counting.{weightless, weightless_none, none_left, none_without, all_push, all_unique}
 use Rattle.laws_sound.proofs.Crews.{other_without, map_numbers, map_numbered, map_length, map_at}
 use Rattle.laws_sound.proofs.Finishing.{free_bare}
 use Rattle.laws_sound.proofs.Fitting.{has_number, fits_crew}

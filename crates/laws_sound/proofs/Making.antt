@@ -25,7 +25,7 @@ use Rattle.dill_rules.specs.declared.coroutine.Mode.{Mode}
 use Rattle.dill_rules.specs.declared.coroutine.Mode.TheVariants as modes
 use Rattle.dill_rules.specs.declared.thing.Thing.{Thing}
 use Rattle.dill_rules.specs.declared.thing.Thing.TheVariants as things
-use Rattle.dill_rules.specs.World.{World, is_coroutine, coroutine_of, with_mode, reply, pend, begin, is_ending}
+use Rattle.dill_rules.specs.World.{World, is_coroutine, coroutine_of, with_mode, reply, pend, begin, pending_call, is_ending}
 use Rattle.dill_rules.specs.Naming.{gifts, chosen}
 use Rattle.std.specs.Option.{option_to_list}
 use Rattle.dill_rules.specs.Kinds.{kind_needed, kind_of, is_of_kind, is_dead, names_dead, has_top, is_other_kind, is_other_top}
@@ -39,8 +39,8 @@ use Rattle.laws_queue.specs.Well.{bit, is_at}
 use Rattle.laws_queue.proofs.Crew.{move_crew}
 use Rattle.laws_sound.proofs.Lists.{all_change}
 use Rattle.laws_sound.specs.Order.{is_there, is_held, has_bundle, is_kept_open, is_proper, is_proper_thing, FitsTogether, IsInOrder}
-use Rattle.laws_sound.specs.Orderly.{dead_by, is_channel, is_meeting, waits_well, is_no_bundle, is_socketed, IsOrderly}
-use Rattle.laws_sound.proofs.Counting.{weigh, weigh_push, weigh_found, weighs_found, all_push, all_unique}
+use Rattle.laws_sound.specs.Orderly.{weigh, dead_by, is_channel, is_meeting, waits_well, is_no_bundle, is_socketed, gives_number, kept_by, IsOrderly}
+use Rattle.laws_sound.proofs.Counting.{weigh_push, weigh_found, weighs_found, all_push, all_unique}
 use Rattle.laws_sound.proofs.Crews.{change_other}
 use Rattle.laws_sound.proofs.Entering.{May, Caller}
 use Rattle.laws_sound.proofs.Fitting.{names_it, closes_it, has_number, died_as, used, used_is, named, named_is, fits_keep}
@@ -49,8 +49,8 @@ use Rattle.laws_sound.proofs.Lists.{all_follow, all_both}
 use Rattle.laws_sound.proofs.Nearly.{is_free}
 use Rattle.laws_sound.proofs.Ordering.{apart, all_true, order_anyway, order_set, order_keep, order_make, order_move, order_add_bundle, order_with}
 use Rattle.laws_sound.proofs.Shutting.{once}
-use Rattle.laws_sound.proofs.Answering.{move_stays, Does, nothing, move_waits, Goes, answers_free}
-use Rattle.laws_sound.proofs.Noting.{Stays, apart_or, counted, next_bit, below_next, names_none, sockets_stay, move_counts}
+use Rattle.laws_sound.proofs.Answering.{move_stays, move_spent, Does, nothing, move_waits, Goes, set_kept, does_good, answers_free}
+use Rattle.laws_sound.proofs.Noting.{Stays, apart_or, counted, next_bit, below_next, names_none, move_counts}
 
 pub running_free : (mode : Mode) → mode ≡ modes.Running → is_free mode ≡ true
 running_free mode e = ap (λ m. is_free m) e
@@ -217,42 +217,42 @@ module _ {V : Type 0} where
           let it : x ≡ y = cc in
           ap (λ (z : Entry Thing). is_none (bundle_of z.thing)) (sym it) ∙ ap is_none none
 
-  -- ---- who makes its call
+  -- ---- who makes its call, for which so many numbers are kept
 
-  pub record Makes (w : World V) (who : ℕ) : Type 0 where
+  pub record Makes (w : World V) (who count : ℕ) : Type 0 where
     pub good : IsOrderly w
     pub one : Coroutine V
     pub found : coroutine_of w who ≡ Some one
     pub mode : one.mode ≡ modes.Running
-
-  pub does_good : (w v : World V) → IsOrderly w → Does w v → IsOrderly v
-  does_good w v g d = record {
-    order = d.order;
-    sockets = subst (λ cs. list_all (is_socketed v.handles) cs ≡ true) (sym d.coroutines) (sockets_stay w.handles v.handles w.coroutines d.stays g.sockets);
-    waits = subst (λ cs. list_all (waits_well cs) v.channels.waits ≡ true) (sym d.coroutines) (subst (λ xs. list_all (waits_well w.coroutines) xs ≡ true) (sym d.waits) g.waits);
-  }
+    pub spare : weigh kept_by w.coroutines + count ≤ w.handles.kept
 
   -- a step begins
   pub begins : (w : World V) → IsOrderly w → IsOrderly (begin w)
-  begins w g = record { order = order_anyway w w.channels w.links w.place w.wrote w.random w.moment [] g.order; sockets = g.sockets; waits = g.waits }
+  begins w g = record { order = order_anyway w w.channels w.links w.place w.wrote w.random w.moment [] g.order; sockets = g.sockets; waits = g.waits; kept = g.kept }
 
-  pub does_goes : (w v : World V) → IsOrderly w → Does w v → Goes w v
-  does_goes w v g d = record { good = does_good w v g d; noted = d.noted }
+  pub makes_after : (w v : World V) (who : ℕ) {n : ℕ} → Makes w who n → Does w v 0 → Makes v who n
+  makes_after w v who h d = record {
+    good = does_good w v h.good d;
+    one = h.one;
+    found = ap (find (is_coroutine who)) d.coroutines ∙ h.found;
+    mode = h.mode;
+    spare = let same = ap (weigh kept_by) d.coroutines in let l = h.spare in let s = d.spent in omega (arith, same, l, s);
+  }
 
-  pub makes_after : (w v : World V) (who : ℕ) → Makes w who → Does w v → Makes v who
-  makes_after w v who h d = record { good = does_good w v h.good d; one = h.one; found = ap (find (is_coroutine who)) d.coroutines ∙ h.found; mode = h.mode }
+  running_kept : (c : Coroutine V) → c.mode ≡ modes.Running → kept_by c ≡ 0
+  running_kept c e = ap (λ m. if_some (pending_call m) 0 (λ k. bit (gives_number (word_of k)))) e
 
-  pub there : (w : World V) (who : ℕ) → Makes w who → is_there w who ≡ true
+  pub there : (w : World V) (who : ℕ) {n : ℕ} → Makes w who n → is_there w who ≡ true
   there w who h = ap is_some h.found
 
-  pub going : (w : World V) (who : ℕ) → Makes w who → is_at is_ending w.coroutines who ≡ false
+  pub going : (w : World V) (who : ℕ) {n : ℕ} → Makes w who n → is_at is_ending w.coroutines who ≡ false
   going w who h = ap (λ o. if_some o false (λ c. is_ending c.mode)) h.found ∙ ap is_ending h.mode
 
-  pub caller : (w : World V) (who : ℕ) → Makes w who → Caller w who
+  pub caller : (w : World V) (who : ℕ) {n : ℕ} → Makes w who n → Caller w who
   caller w who h = record { order = h.good.order; one = h.one; found = h.found; free = running_free h.one.mode h.mode }
 
-  pub replied : (w v : World V) (who : ℕ) (word : Word) (answer : Answer) → Makes w who → Does w v → Goes w (reply v who word answer)
-  replied w v who word answer h d = answers_free w v who word answer h.one h.good h.found (running_free h.one.mode h.mode) d
+  pub replied : (w v : World V) (who : ℕ) (word : Word) (answer : Answer) {n : ℕ} → Makes w who n → Does w v n → Goes w (reply v who word answer)
+  replied w v who word answer h d = answers_free w v who word answer h.one h.good h.found (running_free h.one.mode h.mode) (let l = h.spare in omega (arith, l)) d
 
   -- who makes its call waits under no clause yet
   pub kept_waits : (cs : List (Coroutine V)) (who : ℕ) (c : Coroutine V) (mode : Mode) (xs : List Wait) → find (is_coroutine who) cs ≡ Some c → c.mode ≡ modes.Running → list_all (waits_well cs) xs ≡ true → list_all (waits_well (change (is_coroutine who) (with_mode mode) cs)) xs ≡ true
@@ -262,8 +262,8 @@ module _ {V : Type 0} where
       at x true f g = absurd (running_meets c.mode m (ap (λ o. if_some o false (λ d. is_meeting d.mode)) (sym e) ∙ ap (is_at is_meeting cs) (sym (equal x.who who f)) ∙ g))
       at x false f g = ap (λ o. if_some o false (λ d. is_meeting d.mode)) (change_other (with_mode mode) (λ d. refl) who x.who cs (unequal x.who who f)) ∙ g
 
-  pub pended : (w v : World V) (who : ℕ) (call : Call) → Makes w who → Does w v → is_free (modes.Pending call) ≡ true → fits_socket v.handles call ≡ true → Goes w (pend v who call)
-  pended w v who call h d free socket =
+  pub pended : (w v : World V) (who : ℕ) (call : Call) {n : ℕ} → Makes w who n → Does w v 0 → bit (gives_number (word_of call)) ≤ n → is_free (modes.Pending call) ≡ true → fits_socket v.handles call ≡ true → Goes w (pend v who call)
+  pended w v who call h d enough free socket =
       let now = makes_after w v who h d in
       record {
         noted = d.noted;
@@ -271,6 +271,7 @@ module _ {V : Type 0} where
           order = order_set v who now.one (modes.Pending call) d.order now.found (running_free now.one.mode now.mode) free;
           sockets = all_change (is_socketed v.handles) (is_coroutine who) (with_mode (modes.Pending call)) v.coroutines (λ x f. socket) now.good.sockets;
           waits = kept_waits v.coroutines who now.one (modes.Pending call) v.channels.waits now.found now.mode now.good.waits;
+          kept = let set = set_kept v who (modes.Pending call) now.one now.found in let l = now.spare in omega (arith, set, l, enough);
         };
       }
 
@@ -303,33 +304,39 @@ module _ {V : Type 0} where
 module _ {V : Type 0} where
   -- ---- effects of calls
 
-  pub kept : (w : World V) (count : ℕ) → length w.handles.entries + w.handles.kept + count ≤ 65536 → IsInOrder w → Does w (record w { handles = handles.keep w.handles count })
-  kept w count l o = record { order = order_keep w count (fits_keep w count l o.fits) o; coroutines = refl; stays = λ n e. e; noted = λ n. refl; waits = refl }
+  pub kept : (w : World V) (count : ℕ) → length w.handles.entries + w.handles.kept + count ≤ 65536 → IsInOrder w → Does w (record w { handles = handles.keep w.handles count }) 0
+  kept w count l o = record { order = order_keep w count (fits_keep w count l o.fits) o; coroutines = refl; stays = λ n e. e; noted = λ n. refl; waits = refl; spent = omega arith }
 
-  pub makes_handle : (w : World V) (thing : Thing) (who : ℕ) → bundle_of thing ≡ None → is_proper_thing thing ≡ true → is_there w who ≡ true → 1 ≤ w.handles.kept → IsInOrder w → Does w (make w thing who)
+  -- the call keeps the numbers that its answer draws
+  pub makes_kept : (w : World V) (who count : ℕ) → length w.handles.entries + w.handles.kept + count ≤ 65536 → Makes w who 0 → Makes (record w { handles = handles.keep w.handles count }) who count
+  makes_kept w who count l h = record { good = does_good w (record w { handles = handles.keep w.handles count }) h.good (kept w count l h.good.order); one = h.one; found = h.found; mode = h.mode; spare = let s = h.spare in omega (arith, s) }
+
+  pub makes_handle : (w : World V) (thing : Thing) (who : ℕ) → bundle_of thing ≡ None → is_proper_thing thing ≡ true → is_there w who ≡ true → 1 ≤ w.handles.kept → IsInOrder w → Does w (make w thing who) 1
   makes_handle w thing who none proper here k o = record {
     order = order_make w thing who none proper here k o;
     coroutines = refl;
     stays = stays_made w.handles thing who;
     noted = λ n. made_count w.notes w.handles w.closings thing who n;
     waits = refl;
+    spent = omega arith;
   }
 
-  pub makes_bundle : (w : World V) (who : ℕ) → is_there w who ≡ true → is_at is_ending w.coroutines who ≡ false → 1 ≤ w.handles.kept → IsInOrder w → Does w (add_bundle w who)
+  pub makes_bundle : (w : World V) (who : ℕ) → is_there w who ≡ true → is_at is_ending w.coroutines who ≡ false → 1 ≤ w.handles.kept → IsInOrder w → Does w (add_bundle w who) 1
   makes_bundle w who here on k o = record {
     order = order_add_bundle w who here on k o;
     coroutines = refl;
     stays = stays_made w.handles (things.Bundle (w.last_bundle + 1)) who;
     noted = λ n. made_count w.notes w.handles w.closings (things.Bundle (w.last_bundle + 1)) who n;
     waits = refl;
+    spent = omega arith;
   }
 
   -- a handle moves, which may be of a bundle
-  pub moves_any : (w : World V) (number owner : ℕ) → IsInOrder w → is_there w owner ≡ true → is_at is_ending w.coroutines owner ≡ false → ((x : Entry Thing) (name : ℕ) → entry_of w number ≡ Some x → x.thing ≡ things.Bundle name → Inside w.scopes name owner → ⊥) → Does w (move w number owner)
-  moves_any w number owner o here on out = record { order = order_move w number owner o here on out; coroutines = (move_crew w number owner).coroutines; stays = move_stays w number owner; noted = move_counts w number owner; waits = move_waits w number owner }
+  pub moves_any : (w : World V) (number owner : ℕ) → IsInOrder w → is_there w owner ≡ true → is_at is_ending w.coroutines owner ≡ false → ((x : Entry Thing) (name : ℕ) → entry_of w number ≡ Some x → x.thing ≡ things.Bundle name → Inside w.scopes name owner → ⊥) → Does w (move w number owner) 1
+  moves_any w number owner o here on out = record { order = order_move w number owner o here on out; coroutines = (move_crew w number owner).coroutines; stays = move_stays w number owner; noted = move_counts w number owner; waits = move_waits w number owner; spent = move_spent w number owner }
 
-  pub other_channels : (w : World V) (c : Channels) → c.waits ≡ w.channels.waits → IsInOrder w → Does w (record w { channels = c })
-  other_channels w c e o = record { order = order_anyway w c w.links w.place w.wrote w.random w.moment w.notes o; coroutines = refl; stays = λ n f. f; noted = λ n. refl; waits = e }
+  pub other_channels : (w : World V) (c : Channels) → c.waits ≡ w.channels.waits → IsInOrder w → Does w (record w { channels = c }) 0
+  other_channels w c e o = record { order = order_anyway w c w.links w.place w.wrote w.random w.moment w.notes o; coroutines = refl; stays = λ n f. f; noted = λ n. refl; waits = e; spent = omega arith }
 
   -- ---- an owner is taken
 
@@ -377,28 +384,29 @@ module _ {V : Type 0} where
       opens x g h = at (x.number == number) (bundle_of x.thing) (is_at is_ending w.coroutines owner) h g
 
   -- the caller becomes the owner of a stack
-  pub takes_stack : (w : World V) (number owner : ℕ) → IsInOrder w → is_no_bundle w.handles number ≡ true → is_there w owner ≡ true → Does w (take w number owner)
+  pub takes_stack : (w : World V) (number owner : ℕ) → IsInOrder w → is_no_bundle w.handles number ≡ true → is_there w owner ≡ true → Does w (take w number owner) 0
   takes_stack w number owner o e here = at (entry_of w number) refl
     where
       apart : list_all (apart_or number) w.handles.entries ≡ true
       apart = (and_parts (nat_le number w.handles.last) (list_all (apart_or number) w.handles.entries) e).1
 
-      owned : Does w (record w { handles = handles.set_owner w.handles number owner })
+      owned : Does w (record w { handles = handles.set_owner w.handles number owner }) 0
       owned = record {
         order = order_with w (handles.set_owner w.handles number owner) w.scopes w.last_bundle (λ y. true) o (taken_held w number owner o.fits apart here) (all_true w.closings) (λ y f. refl) (taken_open w number owner apart o.endings);
         coroutines = refl;
         stays = taken_stays w.handles number owner;
         noted = λ n. ap (λ k. weigh (λ x. bit (dead_by x == n)) w.notes + (k + weigh (λ x. bit (died_as n x)) w.closings) + bit (nat_le n w.handles.last)) (weigh_changed (λ x. bit (has_number n x)) (has_number number) (handles.with_owner owner) w.handles.entries (λ x. refl));
         waits = refl;
+        spent = omega arith;
       }
 
-      plain : (thing : Thing) → bundle_of thing ≡ None → Does w (take_thing (record w { handles = handles.set_owner w.handles number owner }) thing owner)
+      plain : (thing : Thing) → bundle_of thing ≡ None → Does w (take_thing (record w { handles = handles.set_owner w.handles number owner }) thing owner) 0
       plain (things.Bundle name) f = cc
       plain (things.End end) f = owned
       plain (things.Listener l) f = owned
       plain (things.Socket l) f = owned
       plain (things.Value kind value) f = owned
 
-      at : (q : Option (Entry Thing)) → entry_of w number ≡ q → Does w (if_some q w (λ x. take_thing (record w { handles = handles.set_owner w.handles number owner }) x.thing owner))
+      at : (q : Option (Entry Thing)) → entry_of w number ≡ q → Does w (if_some q w (λ x. take_thing (record w { handles = handles.set_owner w.handles number owner }) x.thing owner)) 0
       at None f = nothing w o
       at (Some x) f = plain x.thing (names_none w number x e f)

@@ -24,7 +24,8 @@ use Rattle.dill_rules.specs.World.{World}
 use Rattle.laws_queue.specs.Well.{bit, occurs}
 use Rattle.laws_sound.proofs.Lists.{all_found, all_without, all_follow}
 use Rattle.laws_sound.specs.Order.{is_there, has_bundle, is_held, is_proper, FitsTogether}
-use Rattle.laws_sound.proofs.Counting.{weigh, holds, weigh_push, weigh_found, weigh_without, length_without, length_push, none_left, others_left, small_bit, weightless, all_push}
+use Rattle.laws_sound.specs.Orderly.{weigh}
+use Rattle.laws_sound.proofs.Counting.{holds, weigh_push, weigh_found, weigh_without, length_without, length_push, none_left, others_left, small_bit, weightless, all_push}
 use Rattle.laws_sound.proofs.Fitting.{names_it, closes_it, has_number, died_as, named, used_is, named_is, held_by, held_follow, there_is}
 use Rattle.laws_sound.proofs.Handing.{unequal, equal, tell, renumber_used, renumber_named, live}
 use Rattle.laws_sound.proofs.Owners.{owns_is, take_other, take_here, close_same, drop_other, drop_here, shut_other, shut_here, owned_same}

@@ -34,8 +34,8 @@ use Rattle.dill_rules.specs.Settling.{highest_first, is_owned_by, free_all}
 use Rattle.laws_queue.specs.Well.{bit}
 use Rattle.laws_sound.proofs.Lists.{all_found, all_without}
 use Rattle.laws_sound.specs.Order.{FitsTogether}
-use Rattle.laws_sound.specs.Orderly.{is_meeting, dead_by, is_no_bundle, is_socketed}
-use Rattle.laws_sound.proofs.Counting.{weigh, weigh_push, weigh_found, weightless, small_bit, all_push, all_unique}
+use Rattle.laws_sound.specs.Orderly.{weigh, is_meeting, dead_by, is_no_bundle, is_socketed}
+use Rattle.laws_sound.proofs.Counting.{weigh_push, weigh_found, weightless, small_bit, all_push, all_unique}
 use Rattle.laws_sound.proofs.Fitting.{has_number, closes_it, died_as, used, named_is}
 use Rattle.laws_sound.proofs.Sorting.{sorted_all, sorted_weight, picked_all, picked_less}
 use Rattle.laws_sound.proofs.Handing.{equal, same_number}

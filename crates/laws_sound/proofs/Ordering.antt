@@ -31,7 +31,8 @@ use Rattle.dill_rules.specs.Effects.{make, add_bundle}
 use Rattle.laws_queue.specs.Well.{bit, is_at}
 use Rattle.laws_sound.proofs.Lists.{all_found, all_without, all_follow, all_from}
 use Rattle.laws_sound.specs.Order.{closes, waits_for, is_there, has_bundle, is_kept_open, has_waiter, has_closing, FitsTogether, IsInOrder, is_proper_thing}
-use Rattle.laws_sound.proofs.Counting.{weigh, weightless, all_push}
+use Rattle.laws_sound.specs.Orderly.{weigh}
+use Rattle.laws_sound.proofs.Counting.{weightless, all_push}
 use Rattle.laws_sound.proofs.Crews.{change_here}
 use Rattle.laws_sound.proofs.Fitting.{closes_it, has_number, named, named_is, fits_anyway}
 use Rattle.laws_sound.proofs.Handing.{equal, live, live_there, fits_make, fits_add_bundle}

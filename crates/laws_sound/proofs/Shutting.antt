@@ -24,7 +24,8 @@ use Rattle.dill_rules.specs.World.{World, coroutine_of, with_mode, set_mode, pen
 use Rattle.laws_queue.specs.Well.{bit, is_at}
 use Rattle.laws_sound.proofs.Lists.{all_found, all_without, all_follow, all_from}
 use Rattle.laws_sound.specs.Order.{closes, waits_for, is_there, has_bundle, is_kept_open, has_closing, FitsTogether, IsInOrder}
-use Rattle.laws_sound.proofs.Counting.{weigh, weightless, weightless_none, weighs_found, found_push, pushed_found, found_without, none_left, small_bit, all_push, filter_first, filter_none, filter_both}
+use Rattle.laws_sound.specs.Orderly.{weigh}
+use Rattle.laws_sound.proofs.Counting.{weightless, weightless_none, weighs_found, found_push, pushed_found, found_without, none_left, small_bit, all_push, filter_first, filter_none, filter_both}
 use Rattle.laws_sound.proofs.Crews.{change_here}
 use Rattle.laws_sound.proofs.Fitting.{names_it, closes_it, has_number, died_as, used_is, named, named_is, fits_anyway}
 use Rattle.laws_sound.proofs.Going.{its_number, found_there}

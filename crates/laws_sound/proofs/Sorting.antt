@@ -8,7 +8,7 @@ use Rattle.std.proofs.lemmas.List.Folds.{list_all-append, list_any-append}
 use Rattle.dill_rules.specs.declared.coroutine.Closing.{Closing}
 use Rattle.dill_rules.specs.Settling.{placed, highest_first}
 use Rattle.laws_queue.specs.Well.{bit}
-use Rattle.laws_sound.proofs.Counting.{weigh}
+use Rattle.laws_sound.specs.Orderly.{weigh}
 
 module _ (f : Closing → ℕ) where
   placed_weight : (x : Closing) (xs : List Closing) → weigh f (placed x xs) ≡ f x + weigh f xs

@@ -42,9 +42,10 @@ use Rattle.laws_queue.proofs.Besides.{heat_all_besides}
 use Rattle.laws_queue.proofs.Lining.{lined_pending}
 use Rattle.laws_queue.proofs.Settling.{give_gives}
 use Rattle.laws_sound.specs.Laws.{is_timed, StepsKeepOrder, NotesNumbers}
-use Rattle.laws_sound.specs.Orderly.{is_channel, is_meeting, waits_well, is_no_bundle, is_socketed, IsOrderly, heard_of, HasKept}
-use Rattle.laws_sound.proofs.Answering.{besides, settle_goes, expire_good, notes_each}
-use Rattle.laws_sound.proofs.Making.{does_good, begins}
+use Rattle.laws_sound.specs.Orderly.{is_channel, is_meeting, waits_well, is_no_bundle, is_socketed, gives_number, kept_by, IsOrderly}
+use Rattle.laws_sound.proofs.Counting.{weigh_alike}
+use Rattle.laws_sound.proofs.Answering.{besides, does_good, settle_goes, expire_good, notes_each}
+use Rattle.laws_sound.proofs.Making.{begins}
 use Rattle.laws_sound.proofs.Calling.{turn_goes}
 use Rattle.laws_sound.proofs.Crews.{change_here, change_other, map_at}
 use Rattle.laws_sound.proofs.Hearing.{hear_goes}
@@ -142,6 +143,7 @@ module _ {V : Type 0} where
     sockets = all_map (is_socketed w.handles) lined w.coroutines (λ c f. ap (λ o. if_some o true (λ call. if is_on_stack (word_of call) then if_some (named_by call) true (is_no_bundle w.handles) else true)) (lined_pending c.mode) ∙ f) g.sockets;
     waits = all_follow (waits_well w.coroutines) (waits_well (map lined w.coroutines)) w.channels.waits
         (λ x f. map_at lined (λ c. refl) is_meeting (λ c. ap (λ o. if_some o false (λ call. is_channel (word_of call))) (lined_pending c.mode)) w.coroutines x.who ∙ f) g.waits;
+    kept = let same = weigh_alike kept_by lined w.coroutines (λ c. ap (λ o. if_some o 0 (λ call. bit (gives_number (word_of call)))) (lined_pending c.mode)) in let k = g.kept in omega (arith, same, k);
   }
 
   pub order_root_closed : (w : World V) → IsOrderly w → IsOrderly (root_closed w)
@@ -149,6 +151,7 @@ module _ {V : Type 0} where
     order = order_anyway (record w { scopes = scopes.close w.scopes 0 }) w.channels w.links at_start [] w.random w.moment [] (order_closed w 0 g.order);
     sockets = g.sockets;
     waits = g.waits;
+    kept = g.kept;
   }
 
   order_woke : (k : Kept V) (told : ℕ) (ready : List Ready) → IsOrderly k.world → IsOrderly (kept_woke k told ready).world
@@ -156,7 +159,7 @@ module _ {V : Type 0} where
       let begun = begins k.world g in
       let heated = fold heat_ready (begin k.world) ready in
       let h = does_good (begin k.world) heated begun (besides (begin k.world) heated (heat_all_besides ready (begin k.world)) begun.order) in
-      record { order = order_anyway heated heated.channels heated.links at_start [] heated.random (max k.world.moment told) heated.notes h.order; sockets = h.sockets; waits = h.waits }
+      record { order = order_anyway heated heated.channels heated.links at_start [] heated.random (max k.world.moment told) heated.notes h.order; sockets = h.sockets; waits = h.waits; kept = h.kept }
 
   order_opening : (view : V) → IsInOrder (opening_kept view).world
   order_opening view = record {
@@ -190,12 +193,12 @@ module _ {V : Type 0} (p : Program V) (law : IsLawful p) where
           order_queued (turn p lack k.world who) rest (k.early - 1) (turn_goes p lack k.world who m.one g m.found m.answered).good
 
 module _ {V : Type 0} where
-  hears : (k : Kept V) (said : Option KernelReply) → IsOrderly k.world → ((x : Try) (who : ℕ) → next_try k.world ≡ Some x → heard_of k.world x.number x.ask ≡ Some who → HasKept k.world who) → IsOrderly (kept_hear k said).world
-  hears k said g m = at (next_try k.world) refl
+  hears : (k : Kept V) (said : Option KernelReply) → IsOrderly k.world → IsOrderly (kept_hear k said).world
+  hears k said g = at (next_try k.world)
     where
-      at : (o : Option Try) → next_try k.world ≡ o → IsOrderly (if_some o k (λ x. queued (settle (heard (begin k.world) x said)) k.ready k.early)).world
-      at None e = g
-      at (Some x) e = order_queued (settle (heard (begin k.world) x said)) k.ready k.early (hear_goes (begin k.world) x said (begins k.world g) (λ who f. m x who e f)).good
+      at : (o : Option Try) → IsOrderly (if_some o k (λ x. queued (settle (heard (begin k.world) x said)) k.ready k.early)).world
+      at None = g
+      at (Some x) = order_queued (settle (heard (begin k.world) x said)) k.ready k.early (hear_goes (begin k.world) x said (begins k.world g)).good
 
   expires : (k : Kept V) (who : ℕ) → IsOrderly k.world → is_timed k.world who ≡ true → IsOrderly (kept_expire_next k who).world
   expires k who g d = order_queued (expire_one k.world who) k.ready k.early (expire_good k.world who g d).good
@@ -219,7 +222,7 @@ module _ {V : Type 0} where
 
 pub steps_keep_order : {V : Type 0} (p : Program V) → StepsKeepOrder p
 steps_keep_order p law = record {
-  opening = λ view. record { order = order_opening view; sockets = refl; waits = refl };
+  opening = λ view. record { order = order_opening view; sockets = refl; waits = refl; kept = lit≤ tt };
   turned = turned p law;
   hears = hears;
   started = λ k g. begins k.world g;
@@ -233,7 +236,8 @@ steps_keep_order p law = record {
 pub steps_note_numbers : {V : Type 0} (p : Program V) → NotesNumbers p
 steps_note_numbers p = record {
   turned = λ lack w who c g e a. notes_each (begin w) (turn p lack w who) (turn_goes p lack w who c g e a);
-  heard = λ w x said g m. notes_each w (settle (heard w x said)) (hear_goes w x said g m);
+  heard = λ w x said g. notes_each w (settle (heard w x said)) (hear_goes w x said g);
   expired = λ w who g d. notes_each w (expire_one w who) (expire_good w who g d);
   settled = λ w g. notes_each w (settle w) (settle_goes w g);
+  shut = λ w g. notes_each (root_closed w) (settle (root_closed w)) (settle_goes (root_closed w) (order_root_closed w g));
 }

@@ -17,14 +17,14 @@ use Rattle.dill_rules.specs.Settling.{settle, IsSettled}
 use Rattle.dill_rules.specs.Taking.{is_cancelled}
 use Rattle.dill_rules.specs.Expiring.{due_of, expire_one}
 use Rattle.dill_rules.specs.Hearing.{heard}
-use Rattle.dill_rules.specs.Trying.{Try, next_try}
+use Rattle.dill_rules.specs.Trying.{Try}
 use Rattle.dill_rules.specs.Turning.{turn}
 use Rattle.dill_rules.specs.World.{World, begin, call_of, coroutine_of, is_answered}
-use Rattle.laws_queue.specs.Kept.{Kept, has_answer, opening_kept, queued, kept_turn, kept_hear, kept_expire_next, kept_expired, kept_shut, kept_woke}
+use Rattle.laws_queue.specs.Kept.{Kept, has_answer, opening_kept, queued, kept_turn, kept_hear, kept_expire_next, kept_expired, root_closed, kept_shut, kept_woke}
 use Rattle.laws_sound.specs.Plain.{IsPlain}
 use Rattle.laws_queue.specs.Well.{occurs, is_at, IsWell}
 use Rattle.laws_sound.specs.Order.{is_there, IsInOrder}
-use Rattle.laws_sound.specs.Orderly.{IsOrderly, heard_of, HasKept, NotesOnce}
+use Rattle.laws_sound.specs.Orderly.{IsOrderly, NotesOnce}
 
 -- the closing of a bundle has begun
 abbrev pub is_closing : Scopes → ℕ → Bool
@@ -44,11 +44,11 @@ IsAtRest w = list_all (λ c. is_resting c.mode) w.coroutines ≡ true
 abbrev pub is_timed : {V : Type 0} → World V → ℕ → Bool
 is_timed w who = if_some (call_of w who) true (λ call. is_some (due_of call))
 
--- so it is of programs that keep their law, whatever they call; a reply of the kernel gives a handle only where a number is kept for it
+-- so it is of programs that keep their law, whatever they call and whatever the kernel replies
 pub record KeepsOrder {V : Type 0} (p : Program V) : Type 0 where
   pub opening : (view : V) → IsOrderly (opening_kept view).world
   pub turned : (k : Kept V) (lack : Option LackPlace) → IsWell p k → IsOrderly k.world → IsOrderly (kept_turn p lack k).world
-  pub hears : (k : Kept V) (said : Option KernelReply) → IsOrderly k.world → ((x : Try) (who : ℕ) → next_try k.world ≡ Some x → heard_of k.world x.number x.ask ≡ Some who → HasKept k.world who) → IsOrderly (kept_hear k said).world
+  pub hears : (k : Kept V) (said : Option KernelReply) → IsOrderly k.world → IsOrderly (kept_hear k said).world
   pub started : (k : Kept V) → IsOrderly k.world → IsOrderly (begin k.world)
   pub expires : (k : Kept V) (who : ℕ) → IsOrderly k.world → is_timed k.world who ≡ true → IsOrderly (kept_expire_next k who).world
   pub settled : (k : Kept V) → IsOrderly k.world → IsOrderly (queued (settle k.world) k.ready k.early).world
@@ -59,12 +59,13 @@ pub record KeepsOrder {V : Type 0} (p : Program V) : Type 0 where
 abbrev pub StepsKeepOrder : {V : Type 0} → Program V → Type 0
 StepsKeepOrder p = IsLawful p → KeepsOrder p
 
--- so each step leaves each number that was given live, of a closing, or noted as dead, once
+-- so each number that a step gives is live, of a closing or noted as dead once more than before, and every other number as often as before
 pub record NotesNumbers {V : Type 0} (p : Program V) : Type 0 where
   pub turned : (lack : Option LackPlace) (w : World V) (who : ℕ) (c : Coroutine V) → IsOrderly w → coroutine_of w who ≡ Some c → is_answered c.mode ≡ true → NotesOnce (begin w) (turn p lack w who)
-  pub heard : (w : World V) (x : Try) (said : Option KernelReply) → IsOrderly w → ((who : ℕ) → heard_of w x.number x.ask ≡ Some who → HasKept w who) → NotesOnce w (settle (heard w x said))
+  pub heard : (w : World V) (x : Try) (said : Option KernelReply) → IsOrderly w → NotesOnce w (settle (heard w x said))
   pub expired : (w : World V) (who : ℕ) → IsOrderly w → is_timed w who ≡ true → NotesOnce w (expire_one w who)
   pub settled : (w : World V) → IsOrderly w → NotesOnce w (settle w)
+  pub shut : (w : World V) → IsOrderly w → NotesOnce (begin w) (settle (root_closed w))
 
 -- so each step leads from rest to rest, whatever is called
 pub record KeepsRest {V : Type 0} (p : Program V) : Type 0 where

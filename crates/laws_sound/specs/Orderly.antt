@@ -1,5 +1,5 @@
--- Worlds in order whose pending calls on stacks and channels are where they may be, as every step keeps them.
-use Rattle.std.specs.Prelude.{◌≡◌, ℕ, ◌+◌, ◌==◌, map, List, Bool, true, false, not, ◌&&◌, ◌||◌, if◌then◌else◌, is_none, nat_le, Option, Some, None, ◌≤◌}
+-- Worlds in order whose pending calls on stacks and channels are where they may be and have their numbers kept, as every step keeps them.
+use Rattle.std.specs.Prelude.{◌≡◌, ℕ, ◌+◌, ◌==◌, ◌≤◌, List, [], ◌∷◌, map, Bool, true, false, not, ◌&&◌, ◌||◌, if◌then◌else◌, is_none, nat_le}
 use Rattle.std.specs.List.{list_all}
 use Rattle.dill_calls.specs.declared.ran.Note.{Note}
 use Rattle.dill_calls.specs.declared.ran.Note.TheVariants.{Moved, Freed}
@@ -7,19 +7,15 @@ use Rattle.dill_calls.specs.declared.word.Word.{Word}
 use Rattle.dill_calls.specs.declared.word.Word.TheVariants as words
 use Rattle.dill_chan.specs.declared.end.Wait.{Wait}
 use Rattle.dill_rules.specs.declared.coroutine.Mode.{Mode}
-use Rattle.dill_calls.specs.CallTable.{word_of, named_by}
+use Rattle.dill_calls.specs.CallTable.{word_of, gives_up, named_by}
 use Rattle.dill_handles.specs.Handles.{Handles}
 use Rattle.dill_base.specs.Maps.{if_some}
 use Rattle.dill_rules.specs.declared.coroutine.Coroutine.{Coroutine}
 use Rattle.dill_rules.specs.declared.thing.Thing.{Thing}
 use Rattle.dill_rules.specs.World.{World, pending_call}
-use Rattle.dill_calls.specs.declared.call.Call.{Call}
-use Rattle.dill_kernel.specs.declared.replies.KernelAsk.{KernelAsk}
-use Rattle.dill_kernel.specs.declared.replies.KernelAsk.TheVariants as asks
-use Rattle.dill_rules.specs.Hearing.{connector_of, linking_call}
-use Rattle.dill_rules.specs.Refusals.{is_accept}
-use Rattle.dill_rules.specs.Trying.{pending_on}
-use Rattle.dill_rules.specs.LinkAnswers.{is_on_stack}
+use Rattle.dill_rules.specs.Naming.{links}
+use Rattle.dill_rules.specs.Directions.{is_handshake}
+use Rattle.dill_rules.specs.LinkAnswers.{is_on_stack, is_tcp_close}
 use Rattle.dill_rules.specs.Taking.{bundle_of}
 use Rattle.laws_queue.specs.Well.{bit, is_at, occurs}
 use Rattle.laws_sound.specs.Order.{times_used, IsInOrder}
@@ -46,11 +42,25 @@ is_meeting mode = if_some (pending_call mode) false (λ call. is_channel (word_o
 abbrev pub waits_well : {V : Type 0} → List (Coroutine V) → Wait → Bool
 waits_well cs x = is_at is_meeting cs x.who
 
--- in order; each pending call on a stack is on a number that names no bundle, and who has a clause that waits is pending in a call of channels
+-- the calls whose answer, while they are pending, may be a new number: those that make a link, handshakes and detaches
+abbrev pub gives_number : Word → Bool
+gives_number word = links word || ((is_handshake word || gives_up word) && not (is_tcp_close word))
+
+-- how many numbers are kept for it, as it stands
+abbrev pub kept_by : {V : Type 0} → Coroutine V → ℕ
+kept_by c = if_some (pending_call c.mode) 0 (λ call. bit (gives_number (word_of call)))
+
+-- how much all of a list weigh together
+abbrev pub weigh : {X : Type 0} → (X → ℕ) → List X → ℕ
+weigh f [] = 0
+weigh f (x ∷ xs) = f x + weigh f xs
+
+-- In order; each pending call on a stack is on a number that names no bundle, who has a clause that waits is pending in a call of channels, and a number is kept for each pending call that may be answered by a new one.
 pub record IsOrderly {V : Type 0} (w : World V) : Type 0 where
   pub order : IsInOrder w
   pub sockets : list_all (is_socketed w.handles) w.coroutines ≡ true
   pub waits : list_all (waits_well w.coroutines) w.channels.waits ≡ true
+  pub kept : weigh kept_by w.coroutines ≤ w.handles.kept
 
 -- the number that a note tells as dead
 abbrev pub dead_by : Note → ℕ
@@ -60,16 +70,3 @@ dead_by (Freed number) = number
 -- Each number that was given between the two worlds is live, of a closing or noted as dead once more than before, and no other number is more or less often one of these.
 abbrev pub NotesOnce : {V : Type 0} → World V → World V → Type 0
 NotesOnce w v = (n : ℕ) → (occurs n (map dead_by v.notes) + times_used v n) + bit (nat_le n w.handles.last) ≡ (occurs n (map dead_by w.notes) + times_used w n) + bit (nat_le n v.handles.last)
-
-module _ {V : Type 0} where
-  -- whom the reply to an ask may answer
-  abbrev pub heard_of : World V → ℕ → KernelAsk → Option ℕ
-  heard_of w number (asks.Listen n address backlog) = Some number
-  heard_of w number (asks.Connect n address) = Some number
-  heard_of w number (asks.Finish n) = connector_of w n
-  heard_of w number (asks.Accept listener n) = pending_on w is_accept listener
-  heard_of w number ask = None
-
-  -- a number is kept for the listen, accept or connect that it is pending in
-  abbrev pub HasKept : World V → ℕ → Type 0
-  HasKept w who = (call : Call) → linking_call w who ≡ Some call → 1 ≤ w.handles.kept

@@ -45,13 +45,13 @@ pub fn bundle_goes_on<B: PlainBody>()
     ensures { BundleGoesOn B.means }
 {}
 
-/// Each step keeps what a core keeps in order, whatever is called; a reply of the kernel does so where a number is kept for
-/// whom it gives a handle.
+/// Each step keeps what a core keeps in order, whatever is called and whatever the kernel replies.
 pub fn steps_keep_order<B: Body>()
     ensures { KeepsOrder B.means }
 {}
 
-/// In each step each number that was given is live, of a closing, or noted as dead, exactly one of these and once.
+/// Each number that a step gives is live, of a closing or noted as dead once more than before, and every other number as
+/// often as before.
 pub fn steps_note_numbers<B: Body>()
     ensures { NotesNumbers B.means }
 {}
