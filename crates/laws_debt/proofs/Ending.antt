@@ -37,13 +37,13 @@ use Rattle.laws_sound.proofs.Plainly.{begin_plain}
 use Rattle.laws_sound.proofs.Steps.{settle_one_plain}
 use Rattle.laws_sound.proofs.Turns.{closed_plain, go_on_plain}
 use Rattle.laws_debt.proofs.Bounded.{owes_few, all_early}
-use Rattle.laws_debt.proofs.Keeping.{root_flags, good_stable, settle_holds, sits_resumed, turn_is}
+use Rattle.laws_debt.proofs.Keeping.{root_flags, good_stable, sits_resumed, turn_is}
 use Rattle.laws_queue.proofs.Lining.{lined_pending}
 use Rattle.laws_sound.proofs.Leaving.{lined_ends}
 use Rattle.laws_debt.proofs.Lists.{total, is_total, all_found, all_to, found_passes, equal_number, found_changed}
 use Rattle.laws_debt.proofs.Lowering.{all_calm, owed_evolves, lowers_evolves, owed_lined, all_lower_lined, others_lower, share_falls, answered_owes, called_falls, ended_falls, first_gone, others_same}
 use Rattle.laws_debt.proofs.Settling.{AllSit, leads_sits, settle_one_leads, settle_leads}
-use Rattle.laws_debt.proofs.Shutting.{AllHold, Lasts, settle_one_shut, go_on_shut}
+use Rattle.laws_debt.proofs.Shutting.{settle_shut, AllHold, Lasts, settle_one_shut, go_on_shut}
 use Rattle.laws_debt.proofs.Turning.{given_is, Went, called, ended, go_on_went, went_leads, found_number, all_resumed}
 use Rattle.laws_debt.proofs.Walking.{Leads, unlike}
 
@@ -190,14 +190,14 @@ module _ {V : Type 0} (p : Program V) (law : IsLawful p) (plainly : MakesPlain p
     plain = settle_one_plain w i.plain;
     order = within.one w i.order;
     sits = leads_sits p all_calm w (settle_one w) (one_leads w i) i.sits;
-    holds = settle_one_shut (IsShutAs 0) 0 (shut_lasts 0) p w i.sits i.order.order.fits.numbered i.holds;
+    holds = settle_one_shut (IsShutAs 0) 0 (shut_lasts 0) w i.holds;
   }
 
   settling : (w : World V) → InClosing w → Leads p all_calm w (settle w)
   settling w i = settle_leads p all_calm InClosing off settles w i i.sits i.order.order.fits.numbered
 
   settling_holds : (w : World V) → InClosing w → AllHold (IsShutAs 0) 0 (settle w)
-  settling_holds w i = settle_holds p (IsShutAs 0) 0 (shut_lasts 0) w i.sits i.order.order.fits.numbered i.holds
+  settling_holds w i = settle_shut (IsShutAs 0) 0 (shut_lasts 0) w i.holds
 
   -- those of a queue of whom is counted
   abbrev early_of : ℕ → List ℕ → ℕ → Bool
@@ -260,7 +260,7 @@ module _ {V : Type 0} (p : Program V) (law : IsLawful p) (plainly : MakesPlain p
         let moved = go_on p lack b who c.body in
         let good = good_stable p k s.stable in
         let sits = good.sits in
-        let shut : AllHold (IsShutAs 0) 0 w = record { given = omega arith; bundles = of_closing w s.stable.order.order.fits.forest.ordered.bundles (find (scopes.is_bundle 0) w.scopes.bundles) refl s.closing; things = s.stable.things; flags = s.stable.flags } in
+        let shut : AllHold (IsShutAs 0) 0 w = record { given = omega arith; bundles = of_closing w s.stable.order.order.fits.forest.ordered.bundles (find (scopes.is_bundle 0) w.scopes.bundles) refl s.closing; flags = s.stable.flags } in
         let before : InClosing w = record { plain = s.stable.plain; order = s.stable.order; sits = sits; holds = shut } in
         let once = (subst (λ q. IsQueue q w.coroutines) e s.stable.well.queue).once who in
         let gone = first_gone who rest k.early (absent_rest who rest _ once) in
@@ -268,7 +268,7 @@ module _ {V : Type 0} (p : Program V) (law : IsLawful p) (plainly : MakesPlain p
         let says = all_found (Says p) (is_coroutine who) c w.coroutines may.found s.stable.says in
         let lowering = all_found (IsLowering (early_of k.early (who ∷ rest))) (is_coroutine who) c w.coroutines may.found lowers in
         let plain_move = plainly c.body (answer_given b who).1 may.real may.some in
-        let went : Went p law all_calm b who c (answer_given b who).1 moved = go_on_went p law all_calm lack b who c plainly may.some (record { found = may.found; real = may.real; cancelled = λ q. off w who c before may.found q; born = λ q. cc; things = s.stable.things }) in
+        let went : Went p law all_calm b who c (answer_given b who).1 moved = go_on_went p law all_calm lack b who c plainly may.some (record { found = may.found; real = may.real; cancelled = λ q. off w who c before may.found q; born = λ q. cc }) in
         let from = went_leads p law all_calm b who c (answer_given b who).1 moved may.found went in
         let view = from.0 in
         let sits_moved = leads_sits p all_calm (resume b who view) moved from.1 (sits_resumed p law plainly b who view c may.found sits) in
@@ -279,7 +279,7 @@ module _ {V : Type 0} (p : Program V) (law : IsLawful p) (plainly : MakesPlain p
             plain = go_on_plain p lack b who c.body plain_move (begin_plain w s.stable.plain);
             order = within.moved k lack who rest c s.stable.well s.stable.order e may.found;
             sits = sits_moved;
-            holds = go_on_shut (IsShutAs 0) 0 (shut_lasts 0) p lack b who c.body plain_move (record { given = shut.given; bundles = shut.bundles; things = shut.things; flags = record { ranked = shut.flags.ranked; flagged = shut.flags.flagged } });
+            holds = go_on_shut (IsShutAs 0) 0 (shut_lasts 0) p lack b who c.body (record { given = shut.given; bundles = shut.bundles; flags = shut.flags });
           };
           lowers_moved = lowers_evolves p (early_of (k.early - 1) rest) (resume b who view).coroutines moved.coroutines w.last_coroutine moved.last_coroutine from.1 resumed;
           falls_moved = went_falls w k.early who rest c moved may.found may.answered may.some says lowering s.stable.well.numbered gone (subst (λ a. Went p law all_calm b who c a.1 moved) (given_is w who c may.found) went);
@@ -315,7 +315,7 @@ module _ {V : Type 0} (p : Program V) (law : IsLawful p) (plainly : MakesPlain p
           plain = closed_plain k.world s.plain;
           order = within.closed k.world s.order;
           sits = good.sits;
-          holds = record { given = omega arith; bundles = root_shuts k.world.scopes.bundles s.order.order.fits.forest.ordered.bundles; things = s.things; flags = root_flags k.world s.flags };
+          holds = record { given = omega arith; bundles = root_shuts k.world.scopes.bundles s.order.order.fits.forest.ordered.bundles; flags = root_flags k.world s.flags };
         } in
         let over = settles_to settling_ends w before in
         let all : ℕ → Bool = λ n. list_any (λ m. m == n) k.ready in
@@ -325,7 +325,7 @@ module _ {V : Type 0} (p : Program V) (law : IsLawful p) (plainly : MakesPlain p
         let kept = stable.shut k s in
         record {
           stable = kept;
-          closing = root_shut after.world kept.order.order (record { given = over.holds_then.given; bundles = over.holds_then.bundles; things = over.holds_then.things; flags = kept.flags });
+          closing = root_shut after.world kept.order.order (record { given = over.holds_then.given; bundles = over.holds_then.bundles; flags = kept.flags });
           settled = settled_queued p (settle w) k.ready (length k.ready) over.sits_then over.settled_then;
           early = length_more k.ready (fresh (settle w));
           lowers = subst (λ q. AllLower (λ n. list_any (λ m. m == n) q) after.world.coroutines) (sym (take_all k.ready (fresh (settle w)))) lined_lower;
@@ -346,7 +346,7 @@ module _ {V : Type 0} (p : Program V) (law : IsLawful p) (plainly : MakesPlain p
         let same : is_early after ≡ early_of (k.early - 1) rest = ap (λ q. λ n. list_any (λ m. m == n) q) front in
         let closing : IsClosing p after = record {
           stable = kept;
-          closing = root_shut after.world kept.order.order (record { given = off.holds.given; bundles = off.holds.bundles; things = off.holds.things; flags = kept.flags });
+          closing = root_shut after.world kept.order.order (record { given = off.holds.given; bundles = off.holds.bundles; flags = kept.flags });
           settled = settled_queued p v rest (k.early - 1) off.sits off.settled;
           early = let m = length_more rest (fresh v) in omega (arith, less, m);
           lowers = subst (λ f. AllLower f after.world.coroutines) (sym same) (all_lower_lined (early_of (k.early - 1) rest) v.coroutines off.lowers);

@@ -1,5 +1,5 @@
 -- What the cancelled are answered: ECANCELED of a call that blocks, and of no other call anything but what lowers.
-use Rattle.std.proofs.Common.{◌≡◌, ◌∙◌, ◌⊎◌, inl, inr, ℕ, Bool, true, false, Option, Some, None, nat_lt, refl, sym, ap}
+use Rattle.std.proofs.Common.{◌≡◌, ◌∙◌, ◌⊎◌, inl, inr, ℕ, Bool, true, false, Option, Some, None, refl, sym, ap}
 use Rattle.std.specs.Option.{option_or}
 use Rattle.dill_base.specs.declared.errno.Errno.{Errno}
 use Rattle.dill_base.specs.declared.errno.Errno.TheVariants.{Ecanceled}
@@ -18,8 +18,6 @@ use Rattle.dill_rules.specs.Answers.{when, answer_of}
 use Rattle.dill_rules.specs.Refusals.{refuse}
 use Rattle.dill_rules.specs.Entering.{entered, lack_fault}
 use Rattle.laws_sound.specs.Plain.{may_wait}
-use Rattle.std.proofs.lemmas.Bool.{or_parts}
-use Rattle.laws_sound.proofs.Entering.{may}
 
 -- a quiet call lowers, whatever is answered
 pub by_quiet : (word : Word) (answer : Answer) → is_quiet word ≡ true → Lowers word answer
@@ -134,13 +132,3 @@ module _ {V : Type 0} (w : World V) (who : ℕ) where
   answer_lowers (calls.BundleWait number deadline) answer f c r = by_cancel words.BundleWait answer (cancel_first (is_cancelled w who) _ answer c r)
   answer_lowers (calls.Hclose number) answer f c r = by_quiet words.Hclose answer refl
   answer_lowers _ answer f c r = cc
-
--- an application's handle has one of its kinds
-abbrev pub MakesProper : Call → Type 0
-MakesProper (calls.Hmake kind value) = nat_lt kind 256 ≡ false
-MakesProper call = Unit {0}
-
-module _ {V : Type 0} (p : Program V) where
-  pub unrefused_proper : (w : World V) (who : ℕ) (view : V) (call : Call) → is_plain call ≡ true → refuse p w who view call ≡ None → MakesProper call
-  unrefused_proper w who view (calls.Hmake kind value) e f = (or_parts (nat_lt kind 256) (nat_lt 4294967295 kind) (may p w who view (calls.Hmake kind value) f).valid).0
-  unrefused_proper w who view call e f = tt

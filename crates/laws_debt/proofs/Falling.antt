@@ -110,7 +110,7 @@ module _ {V : Type 0} (p : Program V) (law : IsLawful p) (plainly : MakesPlain p
         plain = s.plain;
         order = s.order;
         sits = (good_stable p k s).sits;
-        holds = record { given = subst (λ n. n ≤ w.last_bundle) name (ranked_bound w.scopes.bundles 0 w.last_bundle b x.0 s.flags.ranked x.1); bundles = closing_shut w b s.order.order c; things = s.things; flags = s.flags };
+        holds = record { given = subst (λ n. n ≤ w.last_bundle) name (ranked_bound w.scopes.bundles 0 w.last_bundle b x.0 s.flags.ranked x.1); bundles = closing_shut w b s.order.order c; flags = s.flags };
         tracks = tracks_self w.scopes b s.order.order.fits.forest;
       }
 
@@ -210,7 +210,7 @@ module _ {V : Type 0} (p : Program V) (law : IsLawful p) (plainly : MakesPlain p
         let lowering = all_found (LowersAt p tree early) (is_coroutine who) c w.coroutines may.found lowers in
         let plain_move = plainly c.body (answer_given now who).1 may.real may.some in
         let born : tree (w.last_coroutine + 1) ≡ false = new_outside k b s closing in
-        let went : Went p law tree now who c (answer_given now who).1 moved = go_on_went p law tree lack now who c plainly may.some (record { found = may.found; real = may.real; cancelled = λ q. tree_off p w.scopes b forest w who c self may.found q; born = λ q. born; things = s.things }) in
+        let went : Went p law tree now who c (answer_given now who).1 moved = go_on_went p law tree lack now who c plainly may.some (record { found = may.found; real = may.real; cancelled = λ q. tree_off p w.scopes b forest w who c self may.found q; born = λ q. born }) in
         let from = went_leads p law tree now who c (answer_given now who).1 moved may.found went in
         let view = from.0 in
         let sits = leads_sits p tree (resume now who view) moved from.1 (sits_resumed p law plainly now who view c may.found self.sits) in
@@ -220,7 +220,7 @@ module _ {V : Type 0} (p : Program V) (law : IsLawful p) (plainly : MakesPlain p
           plain = go_on_plain p lack now who c.body plain_move (begin_plain w s.plain);
           order = within.moved k lack who rest c s.well s.order e may.found;
           sits = sits;
-          holds = go_on_shut (IsShutAs b) b (shut_lasts b) p lack now who c.body plain_move (record { given = self.holds.given; bundles = self.holds.bundles; things = self.holds.things; flags = record { ranked = self.holds.flags.ranked; flagged = self.holds.flags.flagged } });
+          holds = go_on_shut (IsShutAs b) b (shut_lasts b) p lack now who c.body (record { given = self.holds.given; bundles = self.holds.bundles; flags = self.holds.flags });
           tracks = go_on_tracks p lack now who c.body b (record { off = facts.off; owned = facts.owned; each = facts.each; dead = facts.dead; known = facts.known; new_bundle = facts.new_bundle; new_home = facts.new_home }) self.tracks plain_move;
         } in
         let lower = lowers_tree p tree less (resume now who view).coroutines moved.coroutines w.last_coroutine moved.last_coroutine from.1 resumed in

@@ -68,7 +68,7 @@ flagged_less xs name x i f e = at (f e)
 beyond : (a b c : ℕ) → a + 1 ≤ b → (a == c) ≡ true → (b == c) ≡ false
 beyond a b c h e = grind (arith, nat_tests)
 
-ranked_others : (name : ℕ) (bs : List Bundle) (low high : ℕ) → name + 1 ≤ low → Ranked low bs high → AllByRecursion (λ x. (x.name == name) ≡ false) bs
+pub ranked_others : (name : ℕ) (bs : List Bundle) (low high : ℕ) → name + 1 ≤ low → Ranked low bs high → AllByRecursion (λ x. (x.name == name) ≡ false) bs
 ranked_others name [] low high l r = tt
 ranked_others name (x ∷ bs) low high l r =
     let m = r.0 in

@@ -1,5 +1,5 @@
 -- Each step keeps what holds between steps.
-use Rattle.std.proofs.Common.{◌≡◌, ◌∙◌, inl, ◌-◌, ◌≤◌, ℕ, zero, suc, List, [], ◌∷◌, length, fold, Bool, true, false, Option, Some, refl, sym, ap, subst, arith}
+use Rattle.std.proofs.Common.{◌≡◌, ◌∙◌, inl, ◌-◌, ◌≤◌, ℕ, List, [], ◌∷◌, length, fold, Bool, true, false, Option, Some, refl, sym, ap, subst, arith}
 use Rattle.std.proofs.lemmas.Bool.{and_parts}
 use Rattle.std.specs.List.{AllByRecursion, list_all}
 use Rattle.dill_calls.specs.declared.ran.LackPlace.{LackPlace}
@@ -16,7 +16,7 @@ use Rattle.dill_rules.specs.declared.coroutine.Mode.TheVariants as modes
 use Rattle.dill_rules.specs.World.{World, is_coroutine, coroutine_of, begin}
 use Rattle.dill_rules.specs.Expiring.{expire_one, passed}
 use Rattle.dill_rules.specs.Hearing.{heat_ready}
-use Rattle.dill_rules.specs.Settling.{settle_one, settle_within, settle}
+use Rattle.dill_rules.specs.Settling.{settle}
 use Rattle.dill_rules.specs.State.{lined_mode, lined}
 use Rattle.dill_rules.specs.Turning.{as_running, resume, answer_given, go_on, turn}
 use Rattle.laws_queue.specs.Kept.{Kept, opening_kept, queued, turn_first, kept_turn, kept_expire_next, kept_late, kept_expired, kept_shut, kept_woke, root_closed}
@@ -32,13 +32,13 @@ use Rattle.laws_sound.specs.Orderly.{IsOrderly}
 use Rattle.laws_debt.specs.Closing.{IsStable}
 use Rattle.laws_debt.specs.Flags.{IsFlagged, HasFlags}
 use Rattle.laws_debt.specs.Laws.{KeepsStable}
-use Rattle.laws_debt.specs.Says.{SaysIn, Says, AllSay, IsProper}
+use Rattle.laws_debt.specs.Says.{SaysIn, Says, AllSay}
 use Rattle.laws_debt.proofs.Entering.{start_only}
 use Rattle.laws_debt.proofs.Flagging.{all_picked, ranked_change}
 use Rattle.laws_queue.proofs.Lining.{lined_pending, numbered_lined}
 use Rattle.laws_debt.proofs.Lists.{all_change, all_map, all_to, numbered_change, number_of}
-use Rattle.laws_debt.proofs.Settling.{Sits, AllSit, leads_sits, leads_numbered, settle_one_leads, settle_within_leads, settle_leads, pass_nothing, expire_leads}
-use Rattle.laws_debt.proofs.Shutting.{AllHold, Lasts, settle_one_shut, expire_one_shut, go_on_shut}
+use Rattle.laws_debt.proofs.Settling.{Sits, AllSit, leads_sits, leads_numbered, settle_leads, expire_leads}
+use Rattle.laws_debt.proofs.Shutting.{AllHold, Lasts, settle_shut, expire_one_shut, go_on_shut}
 use Rattle.laws_debt.proofs.Turning.{go_on_went, went_leads}
 use Rattle.laws_debt.proofs.Walking.{Leads}
 
@@ -57,13 +57,6 @@ all_any : (xs : List Bundle) → AllByRecursion AnyBundle xs
 all_any [] = tt
 all_any (x ∷ xs) = (tt, all_any xs)
 
-module _ {V : Type 0} (P : Bundle → Type 0) (low : ℕ) (lasts : Lasts P low) (p : Program V) where
-  within_holds : (k : ℕ) (w : World V) → AllSit p w.coroutines → Numbered 0 w.coroutines w.last_coroutine → AllHold P low w → AllHold P low (settle_within k w)
-  within_holds zero w a n h = h
-  within_holds (suc k) w a n h =
-      let one = settle_one_leads p nobody_calm (λ v. Unit {0}) (λ v who c i e f. cc) w tt a n in
-      within_holds k (settle_one w) (leads_sits p nobody_calm w (settle_one w) one a) (leads_numbered p nobody_calm w (settle_one w) one n) (settle_one_shut P low lasts p w a n h)
-
 module _ {V : Type 0} (p : Program V) where
   -- a world in which nobody's program disagrees with what it waits for, and handles are proper
   pub record IsGood (w : World V) : Type 0 where
@@ -74,20 +67,13 @@ module _ {V : Type 0} (p : Program V) where
   pub settles : (w : World V) → AllSit p w.coroutines → Numbered 0 w.coroutines w.last_coroutine → Leads p nobody_calm w (settle w)
   settles w a n = settle_leads p nobody_calm (λ v. Unit {0}) (λ v who c i e f. cc) (λ v i. tt) w tt a n
 
-  pub settle_holds : (P : Bundle → Type 0) (low : ℕ) (lasts : Lasts P low) (w : World V) → AllSit p w.coroutines → Numbered 0 w.coroutines w.last_coroutine → AllHold P low w → AllHold P low (settle w)
-  settle_holds P low lasts w a n h =
-      let done = settle_within (length w.coroutines) w in
-      let leads = settle_within_leads p nobody_calm (λ v. Unit {0}) (λ v who c i e f. cc) (λ v i. tt) (length w.coroutines) w tt a n in
-      let same : settle w ≡ done = pass_nothing p done (leads_sits p nobody_calm w done leads a) in
-      subst (AllHold P low) (sym same) (within_holds P low lasts p (length w.coroutines) w a n h)
-
   pub good_settle : (w : World V) → IsGood w → IsGood (settle w)
   good_settle w g =
       let e = settles w g.sits g.numbered in
       record {
         numbered = leads_numbered p nobody_calm w (settle w) e g.numbered;
         sits = leads_sits p nobody_calm w (settle w) e g.sits;
-        holds = settle_holds AnyBundle 0 any_lasts w g.sits g.numbered g.holds;
+        holds = settle_shut AnyBundle 0 any_lasts w g.holds;
       }
 
   pub good_expire : (w : World V) (who : ℕ) → IsGood w → IsGood (expire_one w who)
@@ -96,7 +82,7 @@ module _ {V : Type 0} (p : Program V) where
       record {
         numbered = leads_numbered p nobody_calm w (expire_one w who) e g.numbered;
         sits = leads_sits p nobody_calm w (expire_one w who) e g.sits;
-        holds = expire_one_shut AnyBundle 0 any_lasts p w who g.sits g.holds;
+        holds = expire_one_shut AnyBundle 0 any_lasts w who g.holds;
       }
 
   all_sit : (cs : List (Coroutine V)) → list_all waits_plainly cs ≡ true → AllSay p cs → AllSit p cs
@@ -107,7 +93,7 @@ module _ {V : Type 0} (p : Program V) where
   good_stable k s = record {
     numbered = s.well.numbered;
     sits = all_sit k.world.coroutines s.plain.calls s.says;
-    holds = record { given = omega arith; bundles = all_any k.world.scopes.bundles; things = s.things; flags = s.flags };
+    holds = record { given = omega arith; bundles = all_any k.world.scopes.bundles; flags = s.flags };
   }
 
   says_lined : (said : Word) (mode : Mode) → SaysIn said mode → SaysIn said (lined_mode mode)
@@ -124,9 +110,8 @@ module _ {V : Type 0} (p : Program V) where
     plain = plain;
     order = order;
     says = all_map (Says p) lined v.coroutines (λ c s. says_lined (p.said c.body) c.mode s) (all_to (Sits p) (Says p) v.coroutines (λ c s. s.1) g.sits);
-    things = g.holds.things;
     rest = rest;
-    flags = record { ranked = g.holds.flags.ranked; flagged = g.holds.flags.flagged };
+    flags = g.holds.flags;
   }
 
 module _ {V : Type 0} (p : Program V) where
@@ -138,7 +123,7 @@ module _ {V : Type 0} (p : Program V) where
   good_queued v ready early g = record {
     numbered = numbered_lined v.coroutines 0 v.last_coroutine g.numbered;
     sits = all_map (Sits p) lined v.coroutines (λ c s. lined_sits c c.mode refl s) g.sits;
-    holds = record { given = g.holds.given; bundles = g.holds.bundles; things = g.holds.things; flags = record { ranked = g.holds.flags.ranked; flagged = g.holds.flags.flagged } };
+    holds = record { given = g.holds.given; bundles = g.holds.bundles; flags = g.holds.flags };
   }
 
 -- the turn of the first of the queue
@@ -152,7 +137,7 @@ module _ {V : Type 0} (p : Program V) (law : IsLawful p) (plainly : MakesPlain p
       let b = begin w in
       let answer = (answer_given b who).1 in
       let moved = go_on p lack b who one.body in
-      let went = go_on_went p law nobody_calm lack b who one plainly some (record { found = found; real = real; cancelled = λ e. cc; born = λ e. refl; things = g.holds.things }) in
+      let went = go_on_went p law nobody_calm lack b who one plainly some (record { found = found; real = real; cancelled = λ e. cc; born = λ e. refl }) in
       let from = went_leads p law nobody_calm b who one answer moved found went in
       let view = from.0 in
       let before = resume b who view in
@@ -162,7 +147,7 @@ module _ {V : Type 0} (p : Program V) (law : IsLawful p) (plainly : MakesPlain p
       record {
         numbered = numbered_then;
         sits = leads_sits p nobody_calm before moved from.1 sits;
-        holds = go_on_shut AnyBundle 0 any_lasts p lack b who one.body (plainly one.body answer real some) (record { given = omega arith; bundles = g.holds.bundles; things = g.holds.things; flags = record { ranked = g.holds.flags.ranked; flagged = g.holds.flags.flagged } });
+        holds = go_on_shut AnyBundle 0 any_lasts p lack b who one.body g.holds;
       }
 
   pub turn_is : (lack : Option LackPlace) (w : World V) (who : ℕ) (c : Coroutine V) → coroutine_of w who ≡ Some c → turn p lack w who ≡ settle (go_on p lack (begin w) who c.body)
@@ -200,7 +185,6 @@ module _ {V : Type 0} (p : Program V) (law : IsLawful p) (plainly : MakesPlain p
     plain = stays.opening view;
     order = ordered.opening view;
     says = (start_only (p.said view) b.start, tt);
-    things = tt;
     rest = refl;
     flags = record { ranked = (omega arith, omega arith); flagged = (λ e. cc, tt) };
   }
@@ -216,7 +200,7 @@ module _ {V : Type 0} (p : Program V) (law : IsLawful p) (plainly : MakesPlain p
           stable_queued p (turn p lack k.world who) rest (k.early - 1) (subst (IsWell p) is (keeps.turned k lack s.well)) (subst (λ (l : Kept V). IsPlain l.world) is (stays.turned k lack s.well s.plain)) (subst (λ (l : Kept V). IsOrderly l.world) is (ordered.turned k lack s.well s.order)) (subst (λ (l : Kept V). IsAtRest l.world) is (rests.turned k lack s.well s.order s.rest)) (good_turn p law plainly lack k.world who may (good_stable p k s))
 
   started : (k : Kept V) → IsStable p k → IsStable p (record k { world = begin k.world })
-  started k s = record { well = keeps.started k s.well; plain = begin_plain k.world s.plain; order = ordered.started k s.order; says = s.says; things = s.things; rest = s.rest; flags = record { ranked = s.flags.ranked; flagged = s.flags.flagged } }
+  started k s = record { well = keeps.started k s.well; plain = begin_plain k.world s.plain; order = ordered.started k s.order; says = s.says; rest = s.rest; flags = s.flags }
 
   expires : (k : Kept V) (who : ℕ) → IsStable p k → is_timed k.world who ≡ true → IsStable p (kept_expire_next k who)
   expires k who s e = stable_queued p (expire_one k.world who) k.ready k.early (keeps.expires k who s.well) (stays.expires k who s.plain) (ordered.expires k who s.order e) (rests.expires k who s.rest) (good_expire p k.world who (good_stable p k s))
@@ -228,7 +212,7 @@ module _ {V : Type 0} (p : Program V) (law : IsLawful p) (plainly : MakesPlain p
   expired : (k : Kept V) → IsStable p k → IsStable p (kept_expired k)
   expired k s =
       let g = good_stable p k s in
-      let begun : IsGood p (begin k.world) = record { numbered = g.numbered; sits = g.sits; holds = record { given = omega arith; bundles = g.holds.bundles; things = g.holds.things; flags = record { ranked = g.holds.flags.ranked; flagged = g.holds.flags.flagged } } } in
+      let begun : IsGood p (begin k.world) = record { numbered = g.numbered; sits = g.sits; holds = record { given = omega arith; bundles = g.holds.bundles; flags = g.holds.flags } } in
       let late = good_late (passed k.world) (record k { world = begin k.world }) begun in
       stable_queued p (settle (kept_late k).world) (kept_late k).ready (kept_late k).early (keeps.expired k s.well) (stays.expired k s.plain) (ordered.expired k s.order) (rests.expired k s.rest) (good_settle p (kept_late k).world late)
 
@@ -236,7 +220,7 @@ module _ {V : Type 0} (p : Program V) (law : IsLawful p) (plainly : MakesPlain p
   settled k s = stable_queued p (settle k.world) k.ready k.early (keeps.settled k s.well) (stays.settled k s.plain) (ordered.settled k s.order) (rests.settled k s.rest) (good_settle p k.world (good_stable p k s))
 
   pub good_closed : (w : World V) → IsGood p w → IsGood p (root_closed w)
-  good_closed w g = record { numbered = g.numbered; sits = g.sits; holds = record { given = omega arith; bundles = all_any (root_closed w).scopes.bundles; things = g.holds.things; flags = root_flags w g.holds.flags } }
+  good_closed w g = record { numbered = g.numbered; sits = g.sits; holds = record { given = omega arith; bundles = all_any (root_closed w).scopes.bundles; flags = root_flags w g.holds.flags } }
 
   shut : (k : Kept V) → IsStable p k → IsStable p (kept_shut k)
   shut k s = stable_queued p (settle (root_closed k.world)) k.ready (length k.ready) (keeps.shut k s.well) (stays.shut k s.plain) (ordered.shut k s.order) (rests.shut k s.rest) (good_settle p (root_closed k.world) (good_closed k.world (good_stable p k s)))
@@ -249,7 +233,6 @@ module _ {V : Type 0} (p : Program V) (law : IsLawful p) (plainly : MakesPlain p
         plain = stays.woke k told ready s.plain;
         order = ordered.woke k told ready s.order;
         says = subst (AllSay p) (sym h.0) s.says;
-        things = subst (AllByRecursion IsProper) (sym h.1) s.things;
         rest = subst (λ cs. list_all (λ c. is_resting c.mode) cs ≡ true) (sym h.0) s.rest;
         flags = let f = heat_flags ready (begin k.world) (record { ranked = s.flags.ranked; flagged = s.flags.flagged }) in record { ranked = f.ranked; flagged = f.flagged };
       }

@@ -1,4 +1,5 @@
 pub mod Lists
+pub mod Lasting
 pub mod Lining
 pub mod Evolving
 pub mod Entering

@@ -1,5 +1,5 @@
 -- Coroutines by number: what holds of all of them, and sums over them, as one changes or is gone.
-use Rattle.std.proofs.Common.{◌≡◌, ◌∙◌, ◌+◌, ◌<◌, ◌≤◌, ◌==◌, ℕ, List, [], ◌∷◌, ◌++◌, map, find, sum_by, Bool, true, false, cond, Option, Some, refl, sym, ap, subst, arith, eq-eqb}
+use Rattle.std.proofs.Common.{◌≡◌, ◌∙◌, ◌+◌, ◌<◌, ◌≤◌, ◌==◌, ℕ, List, [], ◌∷◌, ◌++◌, map, filter, find, sum_by, Bool, true, false, cond, Option, Some, refl, sym, ap, subst, arith, eq-eqb}
 use Rattle.std.specs.List.{AllByRecursion}
 use Rattle.std.proofs.lemmas.Bool.Decides.{nat_tests}
 use Rattle.std.proofs.lemmas.List.Sums.{sum_by-cons}
@@ -55,6 +55,14 @@ module _ {X : Type 0} (P : X → Type 0) where
   pub all_map : (f : X → X) (xs : List X) → ((x : X) → P x → P (f x)) → AllByRecursion P xs → AllByRecursion P (map f xs)
   all_map f [] h a = tt
   all_map f (x ∷ xs) h a = (h x a.0, all_map f xs h a.1)
+
+pub all_filter : {X : Type 0} (P : X → Type 0) (test : X → Bool) (xs : List X) → AllByRecursion P xs → AllByRecursion P (filter test xs)
+all_filter P test [] a = tt
+all_filter P test (x ∷ xs) a = at (test x) (all_filter P test xs a.1)
+  where
+    at : (b : Bool) → AllByRecursion P (filter test xs) → AllByRecursion P (cond b (x ∷ filter test xs) (filter test xs))
+    at true rest = (a.0, rest)
+    at false rest = rest
 
 pub all_to : {X : Type 0} (P Q : X → Type 0) (xs : List X) → ((x : X) → P x → Q x) → AllByRecursion P xs → AllByRecursion Q xs
 all_to P Q [] h a = tt

@@ -34,10 +34,10 @@ use Rattle.laws_debt.proofs.Ending.{KeepsWithin}
 use Rattle.laws_debt.proofs.Evolving.{Suits, evolves_all}
 use Rattle.laws_debt.proofs.Falling.{LowersAt, closing_shut, ranked_bound, turn_falls}
 use Rattle.laws_debt.proofs.Flagging.{both_all}
-use Rattle.laws_debt.proofs.Keeping.{nobody_calm, AnyBundle, IsGood, good_stable, good_moved, settles, settle_holds, turn_is}
+use Rattle.laws_debt.proofs.Keeping.{nobody_calm, AnyBundle, IsGood, good_stable, good_moved, settles, turn_is}
 use Rattle.laws_debt.proofs.Lists.{all_found, all_to, all_without, found_passes, number_of, equal_number}
 use Rattle.laws_debt.proofs.Settling.{AllSit, leads_sits, leads_numbered, settle_one_leads, settle_within_leads, pass_nothing}
-use Rattle.laws_debt.proofs.Shutting.{AllHold, go_on_shut}
+use Rattle.laws_debt.proofs.Shutting.{settle_shut, AllHold, go_on_shut}
 use Rattle.laws_debt.proofs.Stamping.{others_stay, taken_gone}
 use Rattle.laws_debt.proofs.Stepwise.{LowersFresh, StampOk, stamp_lasts, stamps_self, all_there, Stepped, less_early}
 use Rattle.laws_debt.proofs.Tracking.{tracks_self}
@@ -114,7 +114,7 @@ module _ {V : Type 0} (p : Program V) where
         plain = plain;
         order = order;
         sits = sits;
-        holds = record { given = subst (λ n. n ≤ moved.last_bundle) name (ranked_bound moved.scopes.bundles 0 moved.last_bundle b x.0 holds.flags.ranked x.1); bundles = closing_shut moved b order.order was; things = holds.things; flags = holds.flags };
+        holds = record { given = subst (λ n. n ≤ moved.last_bundle) name (ranked_bound moved.scopes.bundles 0 moved.last_bundle b x.0 holds.flags.ranked x.1); bundles = closing_shut moved b order.order was; flags = holds.flags };
         tracks = tracks_self moved.scopes b order.order.fits.forest;
       } in
       let leads = tree_leads p moved.scopes b forest moved self in
@@ -144,9 +144,9 @@ module _ {V : Type 0} (p : Program V) (law : IsLawful p) (plainly : MakesPlain p
       let lasts = stamp_lasts w closings next s.flags low in
       let good = good_moved p law plainly lack w who may may.one may.found may.some may.real (good_stable p k s) in
       let moved = go_on p lack (begin w) who may.one.body in
-      let first = go_on_shut P w.last_bundle lasts p lack (begin w) who may.one.body (plainly may.one.body (answer_given (begin w) who).1 may.real may.some)
-      (record { given = omega arith; bundles = stamps_self w closings s.order.order each; things = s.things; flags = record { ranked = s.flags.ranked; flagged = s.flags.flagged } }) in
-      subst (AllHold P w.last_bundle) (sym (turn_is p law plainly lack w who may.one may.found)) (settle_holds p P w.last_bundle lasts moved good.sits good.numbered first)
+      let first = go_on_shut P w.last_bundle lasts p lack (begin w) who may.one.body
+      (record { given = omega arith; bundles = stamps_self w closings s.order.order each; flags = s.flags }) in
+      subst (AllHold P w.last_bundle) (sym (turn_is p law plainly lack w who may.one may.found)) (settle_shut P w.last_bundle lasts moved first)
 
   turned_answered : (k : Kept V) (lack : Option LackPlace) (who : ℕ) → (s : IsStable p k) → MayTurn p k.world who → AllByRecursion (HadAnswer who k.ready) (turn p lack k.world who).coroutines
   turned_answered k lack who s may =
@@ -155,7 +155,7 @@ module _ {V : Type 0} (p : Program V) (law : IsLawful p) (plainly : MakesPlain p
       let b = begin w in
       let moved = go_on p lack b who c.body in
       let good = good_moved p law plainly lack w who may c may.found may.some may.real (good_stable p k s) in
-      let went = go_on_went p law nobody_calm lack b who c plainly may.some (record { found = may.found; real = may.real; cancelled = λ e. cc; born = λ e. refl; things = s.things }) in
+      let went = go_on_went p law nobody_calm lack b who c plainly may.some (record { found = may.found; real = may.real; cancelled = λ e. cc; born = λ e. refl }) in
       let from = went_leads p law nobody_calm b who c (answer_given b who).1 moved may.found went in
       let found = each_found w.coroutines 0 w.last_coroutine s.well.numbered in
       let before = all_to (λ d. find (is_coroutine d.number) w.coroutines ≡ Some d) (λ d. is_answered d.mode ≡ true → list_any (λ m. m == d.number) k.ready ≡ true) w.coroutines (λ d e a. queued_early k.ready w.coroutines s.well.queue d e a) found in

@@ -37,12 +37,12 @@ use Rattle.laws_debt.proofs.Evolving.{Suits, evolves_all}
 use Rattle.laws_debt.proofs.Falling.{LowersAt, owed_tree, lowers_tree, tree_self, settle_falls}
 use Rattle.laws_debt.proofs.Flagging.{all_picked}
 use Rattle.laws_debt.proofs.Holding.{tracks_close}
-use Rattle.laws_debt.proofs.Keeping.{nobody_calm, AnyBundle, good_stable, root_flags, settles, settle_holds}
+use Rattle.laws_debt.proofs.Keeping.{nobody_calm, AnyBundle, good_stable, root_flags, settles}
 use Rattle.laws_queue.proofs.Lining.{lined_pending}
 use Rattle.laws_debt.proofs.Lists.{all_found, all_to, found_passes, number_of}
 use Rattle.laws_debt.proofs.Moving.{unfresh_all as all_unfresh_of, begun_settles, flag_was, flags_dropped, settle_scopes}
 use Rattle.laws_debt.proofs.Settling.{AllSit, call_pends, pending_runs, expire_leads}
-use Rattle.laws_debt.proofs.Shutting.{AllHold, Lasts, expire_one_shut}
+use Rattle.laws_debt.proofs.Shutting.{settle_shut, AllHold, Lasts, expire_one_shut}
 use Rattle.laws_debt.proofs.Stepwise.{StampOk, stamp_lasts, stamps_self, Stepped, less_early}
 use Rattle.laws_debt.proofs.Tree.{InTree, tree_off}
 use Rattle.laws_debt.proofs.Walking.{Leads, unlike}
@@ -81,7 +81,7 @@ module _ {V : Type 0} (p : Program V) (law : IsLawful p) (plainly : MakesPlain p
   here_lowers k s b stands lowers c = subst (λ (w : World V). AllByRecursion (λ d. is_inside w.scopes b d.number ≡ true → IsLowering (is_early s b) d) w.coroutines) (sym stands.world) (lowers b (subst (λ (w : World V). is_closing w.scopes b ≡ true) stands.world c))
 
   start_holds : (k : Kept V) (s : State V) → IsStable p k → StandsFor k s → HasStamps s → AllHold (StampOk k.world.scopes s.closings) k.world.last_bundle k.world
-  start_holds k s stable stands stamps = record { given = omega arith; bundles = stamps_self k.world s.closings stable.order.order (here_each k s stands stamps); things = stable.things; flags = stable.flags }
+  start_holds k s stable stands stamps = record { given = omega arith; bundles = stamps_self k.world s.closings stable.order.order (here_each k s stands stamps); flags = stable.flags }
 
   lasts_of : (k : Kept V) (s : State V) → IsStable p k → StandsFor k s → HasStamps s → Lasts (StampOk k.world.scopes s.closings) k.world.last_bundle
   lasts_of k s stable stands stamps = stamp_lasts k.world s.closings s.next stable.flags (here_low k s stands stamps)
@@ -93,7 +93,7 @@ module _ {V : Type 0} (p : Program V) (law : IsLawful p) (plainly : MakesPlain p
       let w = k.world in
       let good = good_stable p k stable in
       record {
-        holds = settle_holds p (StampOk w.scopes s.closings) w.last_bundle (lasts_of k s stable stands stamps) w good.sits good.numbered (start_holds k s stable stands stamps);
+        holds = settle_shut (StampOk w.scopes s.closings) w.last_bundle (lasts_of k s stable stands stamps) w (start_holds k s stable stands stamps);
         falls = λ b c. settle_falls p law plainly w w b stable.order.order.fits.forest.forest (is_early s b) (less_early p law plainly s b none_gone) (tree_self p law plainly k b stable c) (here_lowers k s b stands lowers c) (omega arith);
         begun = λ b c d.
             let flags = settle_scopes (λ t. AllByRecursion (OldFlag w.scopes) t.bundles) (λ t name h. flags_dropped w.scopes t name h) (λ t who h. h) p w good.sits good.numbered (old_flags w.scopes stable.order.order.fits.forest) in
@@ -116,7 +116,6 @@ module _ {V : Type 0} (p : Program V) (law : IsLawful p) (plainly : MakesPlain p
         holds = record {
           given = self.holds.given;
           bundles = all_picked (IsShutAs b) (IsShutAs b) (is_bundle 0) scopes.as_closing w.scopes.bundles (λ x i f e. refl) (λ x f. f) self.holds.bundles;
-          things = self.holds.things;
           flags = root_flags w stable.flags;
         };
         tracks = tracks_close w.scopes b w.scopes 0 self.tracks;
@@ -132,12 +131,11 @@ module _ {V : Type 0} (p : Program V) (law : IsLawful p) (plainly : MakesPlain p
       let closed : AllHold (StampOk w.scopes s.closings) w.last_bundle r = record {
         given = start.given;
         bundles = all_picked (StampOk w.scopes s.closings) (StampOk w.scopes s.closings) (is_bundle 0) scopes.as_closing w.scopes.bundles (λ x i f. lasts.closed x f) (λ x f. f) start.bundles;
-        things = start.things;
         flags = root_flags w stable.flags;
       } in
-      let any : AllHold AnyBundle 0 r = record { given = omega arith; bundles = all_to (StampOk w.scopes s.closings) AnyBundle r.scopes.bundles (λ x f. tt) closed.bundles; things = closed.things; flags = closed.flags } in
+      let any : AllHold AnyBundle 0 r = record { given = omega arith; bundles = all_to (StampOk w.scopes s.closings) AnyBundle r.scopes.bundles (λ x f. tt) closed.bundles; flags = closed.flags } in
       record {
-        holds = settle_holds p (StampOk w.scopes s.closings) w.last_bundle lasts r good.sits good.numbered closed;
+        holds = settle_shut (StampOk w.scopes s.closings) w.last_bundle lasts r closed;
         falls = λ b c. settle_falls p law plainly w r b stable.order.order.fits.forest.forest (is_early s b) (less_early p law plainly s b none_gone) (shut_tree k b stable c) (here_lowers k s b stands lowers c) (omega arith);
         begun = λ b c d. begun_settles p r b (closed_plain w stable.plain) (order_root_closed w stable.order) good.sits any (all_unfresh_of w.coroutines stable.rest) d;
         answered = had_before k (settle r) stable (settles p r good.sits good.numbered);
@@ -252,7 +250,7 @@ module _ {V : Type 0} (p : Program V) (law : IsLawful p) (plainly : MakesPlain p
       let leaves = expire_leaves w x good.sits timed in
       let v = expire_one w x in
       record {
-        holds = expire_one_shut (StampOk w.scopes s.closings) w.last_bundle (lasts_of k s stable stands stamps) p w x good.sits (start_holds k s stable stands stamps);
+        holds = expire_one_shut (StampOk w.scopes s.closings) w.last_bundle (lasts_of k s stable stands stamps) w x (start_holds k s stable stands stamps);
         falls = λ b c.
             let tree = is_inside w.scopes b in
             let less = less_early p law plainly s b none_gone in

@@ -276,7 +276,7 @@ module _ {V : Type 0} (p : Program V) (s : Scopes) (b : ℕ) (forest : IsForest 
     plain = settle_one_plain w i.plain;
     order = (settle_one_good w i.order).good;
     sits = leads_sits p in_tree w (settle_one w) (one_leads w i) i.sits;
-    holds = settle_one_shut (IsShutAs b) b (shut_lasts b) p w i.sits i.order.order.fits.numbered i.holds;
+    holds = settle_one_shut (IsShutAs b) b (shut_lasts b) w i.holds;
     tracks = settle_one_tracks (Tracks s b) (λ t name h. tracks_drop s b t name h) (λ t who h. tracks_ended s b t who h) p w i.sits i.order.order.fits.numbered i.tracks;
   }
 

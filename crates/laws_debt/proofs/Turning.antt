@@ -19,7 +19,6 @@ use Rattle.dill_rules.specs.Entering.{entered, lack_fault}
 use Rattle.dill_rules.specs.Settling.{end}
 use Rattle.dill_rules.specs.Turning.{given_of, is_build, is_entry, as_running, may_lack_build, resume, answer_given, make_move, lack_move, go_on}
 use Rattle.laws_queue.specs.Well.{Numbered}
-use Rattle.laws_debt.specs.Says.{IsProper}
 use Rattle.laws_queue.proofs.Crew.{close_all_crew}
 use Rattle.laws_sound.proofs.Turns.{entered_plain}
 use Rattle.laws_debt.proofs.Entering.{word_entered, entered_passes, lack_lowers}
@@ -49,7 +48,6 @@ module _ {V : Type 0} (p : Program V) (law : IsLawful p) (calm : ℕ → Bool) w
     pub real : p.real c.body ≡ true
     pub cancelled : calm who ≡ true → is_cancelled w who ≡ true
     pub born : calm who ≡ false → calm (w.last_coroutine + 1) ≡ false
-    pub things : AllByRecursion IsProper w.handles.entries
 
   resumed : (w : World V) (who : ℕ) (view : V) (c : Coroutine V) → coroutine_of w who ≡ Some c → coroutine_of (resume w who view) who ≡ Some (as_running view c)
   resumed w who view c e = found_changed (is_coroutine who) (as_running view) c w.coroutines (λ d. refl) e

@@ -1,7 +1,6 @@
 -- What holds between two steps of all that a core keeps, and what holds besides once the root has begun to close.
 use Rattle.dill_rules.specs.Settling.{IsSettled}
 use Rattle.std.specs.Prelude.{◌≡◌, ◌≤◌, length, true}
-use Rattle.std.specs.List.{AllByRecursion}
 use Rattle.dill_calls.specs.Program.{Program}
 use Rattle.laws_queue.specs.Kept.{Kept}
 use Rattle.laws_queue.specs.Well.{IsWell}
@@ -10,15 +9,14 @@ use Rattle.laws_sound.specs.Plain.{IsPlain}
 use Rattle.laws_sound.specs.Orderly.{IsOrderly}
 use Rattle.laws_debt.specs.Flags.{HasFlags}
 use Rattle.laws_debt.specs.Owed.{is_early}
-use Rattle.laws_debt.specs.Says.{AllSay, AllLower, IsProper}
+use Rattle.laws_debt.specs.Says.{AllSay, AllLower}
 
--- Well and in order, and neither channels nor links are there. What each waits for or has the answer of is its program's last call, handles are those of plain programs, nobody is running, and each closing is noted.
+-- Well and in order, and neither channels nor links are there. What each waits for or has the answer of is its program's last call, nobody is running, and each closing is noted.
 pub record IsStable {V : Type 0} (p : Program V) (k : Kept V) : Type 0 where
   pub well : IsWell p k
   pub plain : IsPlain k.world
   pub order : IsOrderly k.world
   pub says : AllSay p k.world.coroutines
-  pub things : AllByRecursion IsProper k.world.handles.entries
   pub rest : IsAtRest k.world
   pub flags : HasFlags k.world
 

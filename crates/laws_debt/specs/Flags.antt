@@ -15,6 +15,10 @@ Ranked low (x ∷ xs) high = (low ≤ x.name) × Ranked (x.name + 1) xs high
 abbrev pub IsFlagged : List Closing → Bundle → Type 0
 IsFlagged closings x = x.closing ≡ true → (x.name ≡ 0) ⊎ (1 ≤ occurs x.name (map (λ c. c.bundle) closings))
 
-pub record HasFlags {V : Type 0} (w : World V) : Type 0 where
-  pub ranked : Ranked 0 w.scopes.bundles w.last_bundle
-  pub flagged : AllByRecursion (IsFlagged w.closings) w.scopes.bundles
+-- of these bundles, with these closings noted, and up to this last name
+pub record AreNoted (bundles : List Bundle) (closings : List Closing) (last : ℕ) : Type 0 where
+  pub ranked : Ranked 0 bundles last
+  pub flagged : AllByRecursion (IsFlagged closings) bundles
+
+abbrev pub HasFlags : {V : Type 0} → World V → Type 0
+HasFlags w = AreNoted w.scopes.bundles w.closings w.last_bundle

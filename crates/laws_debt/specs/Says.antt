@@ -1,15 +1,12 @@
 -- What the mode of a coroutine and its program say of each other: the call that is pending, or whose answer it has, is the one that its program made last.
-use Rattle.std.specs.Prelude.{◌≡◌, ℕ, List, Bool, false, nat_lt}
+use Rattle.std.specs.Prelude.{◌≡◌, ℕ, List, Bool, false}
 use Rattle.std.specs.List.{AllByRecursion}
 use Rattle.dill_calls.specs.declared.word.Word.{Word}
 use Rattle.dill_calls.specs.CallTable.{word_of}
 use Rattle.dill_calls.specs.Program.{Program, Lowers}
-use Rattle.dill_handles.specs.declared.entry.Entry.{Entry}
 use Rattle.dill_rules.specs.declared.coroutine.Coroutine.{Coroutine}
 use Rattle.dill_rules.specs.declared.coroutine.Mode.{Mode}
 use Rattle.dill_rules.specs.declared.coroutine.Mode.TheVariants as modes
-use Rattle.dill_rules.specs.declared.thing.Thing.{Thing}
-use Rattle.dill_rules.specs.declared.thing.Thing.TheVariants as things
 
 -- the word of a program's last call is that of the mode
 abbrev pub SaysIn : Word → Mode → Type 0
@@ -23,15 +20,6 @@ abbrev pub LowersIn : Mode → Type 0
 LowersIn (modes.Fresh word answer) = Lowers word answer
 LowersIn (modes.Answered word answer) = Lowers word answer
 LowersIn _ = Unit {0}
-
--- a bundle, or an application's value of one of its kinds
-abbrev pub IsProperThing : Thing → Type 0
-IsProperThing (things.Bundle name) = Unit {0}
-IsProperThing (things.Value kind value) = nat_lt kind 256 ≡ false
-IsProperThing _ = ⊥
-
-abbrev pub IsProper : Entry Thing → Type 0
-IsProper x = IsProperThing x.thing
 
 module _ {V : Type 0} where
   abbrev pub Says : Program V → Coroutine V → Type 0

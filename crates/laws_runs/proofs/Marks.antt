@@ -1,5 +1,5 @@
 -- Each state of a run is steady and marked: the bundle of each noted closing is closing.
-use Rattle.std.proofs.Common.{◌≡◌, ◌∙◌, ℕ, zero, suc, ◌+◌, ◌≤◌, ◌<◌, ◌==◌, List, [], ◌∷◌, length, map, fold, find, Bool, true, false, cond, if◌then◌else◌, Option, Some, None, is_some, nat_le, refl, sym, ap, subst, arith}
+use Rattle.std.proofs.Common.{◌≡◌, ◌∙◌, ℕ, ◌+◌, ◌≤◌, ◌<◌, ◌==◌, List, [], ◌∷◌, map, fold, find, Bool, true, false, cond, if◌then◌else◌, Option, Some, None, is_some, nat_le, refl, sym, ap, subst, arith}
 use Rattle.std.proofs.lemmas.Bool.Decides.{nat_tests}
 use Rattle.std.specs.List.{AllByRecursion}
 use Rattle.std.specs.Prelude.{option_and_then}
@@ -18,14 +18,15 @@ use Rattle.dill_rules.specs.declared.coroutine.Closing.{Closing}
 use Rattle.dill_rules.specs.declared.thing.Thing.{Thing}
 use Rattle.dill_rules.specs.Answers.{bundle_dead_as}
 use Rattle.dill_rules.specs.Debts.{debt}
-use Rattle.dill_rules.specs.Expiring.{expire_one, passed}
+use Rattle.dill_rules.specs.Expiring.{passed}
 use Rattle.dill_rules.specs.Hearing.{heat_ready}
 use Rattle.dill_rules.specs.Owning.{is_dead_as}
 use Rattle.dill_rules.specs.Seen.{lend, turn_seen}
-use Rattle.dill_rules.specs.Settling.{settle, settle_one, settle_within}
+use Rattle.dill_rules.specs.Settling.{settle}
 use Rattle.dill_rules.specs.State.{State, expired, opening_state, shut, woke}
-use Rattle.dill_rules.specs.Turning.{answer_given, go_on}
-use Rattle.dill_rules.specs.World.{World, begin, call_of}
+use Rattle.dill_rules.specs.Turning.{go_on}
+use Rattle.dill_rules.specs.declared.coroutine.Coroutine.{Coroutine}
+use Rattle.dill_rules.specs.World.{World, begin, call_of, coroutine_of}
 use Rattle.dill_drive.specs.ByRules.{machine_of}
 use Rattle.dill_drive.specs.Play.{opening, play}
 use Rattle.laws_sound.specs.PlainLaws.{FollowsPlainly}
@@ -33,33 +34,28 @@ use Rattle.laws_queue.specs.Kept.{Kept, kept_expire_next, kept_expired, kept_lat
 use Rattle.laws_queue.specs.Laws.{KeepsWell}
 use Rattle.laws_queue.specs.Lending.{wordless}
 use Rattle.laws_queue.specs.Stands.{StandsFor}
-use Rattle.laws_queue.specs.Well.{Numbered, bit, occurs}
+use Rattle.laws_queue.specs.Well.{bit, occurs}
 use Rattle.laws_sound.specs.Laws.{is_closing, KeepsOrder}
 use Rattle.laws_sound.specs.Order.{IsInOrder}
 use Rattle.laws_sound.proofs.Lists.{occurs_found}
-use Rattle.laws_debt.specs.Closing.{IsStable}
 use Rattle.laws_debt.specs.Debts.{Step, Turn, Expire, Shut, Wake, step, is_turn_inside, DebtFalls}
 use Rattle.laws_debt.specs.Laws.{KeepsStable}
 use Rattle.laws_debt.specs.Steady.{IsSteady}
-use Rattle.laws_debt.proofs.Flagging.{ranked_change}
-use Rattle.laws_debt.proofs.Keeping.{IsGood, good_closed, good_expire, good_moved, good_queued, good_stable, nobody_calm, turn_is}
+use Rattle.laws_debt.proofs.Flagging.{all_picked, ranked_change}
+use Rattle.laws_debt.proofs.Lasting.{settle_lasts, expire_lasts, go_on_lasts}
 use Rattle.laws_debt.proofs.Lists.{all_found, equal_number, found_passes, number_of}
-use Rattle.laws_debt.proofs.Settling.{AllSit, leads_numbered, leads_sits, pass_nothing, settle_one_leads, settle_within_leads}
 use Rattle.laws_runs.specs.Closes.{ClosesWell, RunsCloseWell, is_hclose_of, turns_waited, waits_in_close}
 use Rattle.laws_runs.proofs.Lasting.{Lasts, lasts_over}
-use Rattle.laws_runs.proofs.Marking.{IsMarked, IsTied, IsOther, Marked, all_changed, expire_one_marked, go_on_marked, same_marked, settle_one_marked, times_closed}
+use Rattle.laws_runs.proofs.Marking.{IsMarked, IsTied, IsOther, IsLive, MarkedIn, Marked, lasts_marked, times_closed}
 use Rattle.laws_runs.proofs.Waiting.{waiting_is_for_somebody}
 
 -- ---- steps of what a core keeps
 
 module _ {V : Type 0} (tie : Closing) where
-  begun_marked : (w : World V) → Marked tie w → Marked tie (begin w)
-  begun_marked w h = same_marked tie w (begin w) refl refl refl refl refl h
-
   root_marked : (w : World V) → Marked tie w → Marked tie (root_closed w)
   root_marked w h = record {
     ranked = ranked_change (is_bundle 0) as_closing w.scopes.bundles 0 w.last_bundle (λ x. refl) h.ranked;
-    marked = all_changed (IsMarked w.closings) (is_bundle 0) as_closing w.scopes.bundles (λ x f e. cc) h.marked;
+    marked = all_picked (IsMarked w.closings) (IsMarked w.closings) (is_bundle 0) as_closing w.scopes.bundles (λ x i f e. cc) (λ x f. f) h.marked;
     noted = h.noted;
     things = h.things;
     tied = h.tied;
@@ -69,67 +65,34 @@ module _ {V : Type 0} (tie : Closing) where
 
   heated_marked : (ready : List Ready) (w : World V) → Marked tie w → Marked tie (fold heat_ready w ready)
   heated_marked [] w h = h
-  heated_marked (x ∷ xs) w h = heated_marked xs (heat_ready w x) (same_marked tie w (heat_ready w x) refl refl refl refl refl h)
-
-  woke_marked : (k : Kept V) (told : ℕ) (ready : List Ready) → Marked tie k.world → Marked tie (kept_woke k told ready).world
-  woke_marked k told ready h =
-      let heated = heated_marked ready (begin k.world) (begun_marked k.world h) in
-      same_marked tie (fold heat_ready (begin k.world) ready) (kept_woke k told ready).world refl refl refl refl refl heated
+  heated_marked (x ∷ xs) w h = heated_marked xs (heat_ready w x) h
 
   to_state : (k : Kept V) (s : State V) → StandsFor k s → Marked tie k.world → Marked tie s.world
-  to_state k s stands h = same_marked tie (wordless s.world) s.world refl refl refl refl refl (subst (Marked tie) stands.world h)
+  to_state k s stands h = subst (Marked tie) stands.world h
 
   to_kept : (k : Kept V) (s : State V) → StandsFor k s → Marked tie s.world → Marked tie k.world
-  to_kept k s stands h = subst (Marked tie) (sym stands.world) (same_marked tie s.world (wordless s.world) refl refl refl refl refl h)
+  to_kept k s stands h = subst (Marked tie) (sym stands.world) h
 
-module _ {V : Type 0} (tie : Closing) (p : Program V) where
-  within_marked : (n : ℕ) (w : World V) → AllSit p w.coroutines → Numbered 0 w.coroutines w.last_coroutine → Marked tie w → Marked tie (settle_within n w)
-  within_marked zero w a n h = h
-  within_marked (suc k) w a n h =
-      let one = settle_one_leads p nobody_calm (λ v. Unit {0}) (λ v who c i e f. cc) w tt a n in
-      within_marked k (settle_one w) (leads_sits p nobody_calm w (settle_one w) one a) (leads_numbered p nobody_calm w (settle_one w) one n) (settle_one_marked tie p w a n h)
+  settle_marked : (w : World V) → Marked tie w → Marked tie (settle w)
+  settle_marked w h = settle_lasts (IsLive tie) (MarkedIn tie) (lasts_marked tie) w h
 
-  settle_marked : (w : World V) → AllSit p w.coroutines → Numbered 0 w.coroutines w.last_coroutine → Marked tie w → Marked tie (settle w)
-  settle_marked w a n h =
-      let done = settle_within (length w.coroutines) w in
-      let leads = settle_within_leads p nobody_calm (λ v. Unit {0}) (λ v who c i e f. cc) (λ v i. tt) (length w.coroutines) w tt a n in
-      let same : settle w ≡ done = pass_nothing p done (leads_sits p nobody_calm w done leads a) in
-      subst (Marked tie) (sym same) (within_marked (length w.coroutines) w a n h)
-
-module _ {V : Type 0} (tie : Closing) (p : Program V) (law : IsLawful p) (plainly : MakesPlain p) (keeps : KeepsWell p) (stays : KeepsStable p) where
-  turned_marked : (k : Kept V) (lack : Option LackPlace) → IsStable p k → Marked tie k.world → Marked tie (kept_turn p lack k).world
-  turned_marked k lack s h = at k.ready refl
+  turned_marked : (p : Program V) (k : Kept V) (lack : Option LackPlace) → Marked tie k.world → Marked tie (kept_turn p lack k).world
+  turned_marked p k lack h = at k.ready
     where
-      at : (ready : List ℕ) → k.ready ≡ ready → Marked tie (turn_first p lack k ready).world
-      at [] e = h
-      at (who ∷ rest) e =
-          let w = k.world in
-          let may = keeps.first k who rest s.well e in
-          let view = may.one.body in
-          let good = good_moved p law plainly lack w who may may.one may.found may.some may.real (good_stable p k s) in
-          let moved = go_on_marked tie p lack (begin w) who view (plainly view (answer_given (begin w) who).1 may.real may.some) (begun_marked tie w h) in
-          let settled = settle_marked tie p (go_on p lack (begin w) who view) good.sits good.numbered moved in
-          let turned = subst (Marked tie) (sym (turn_is p law plainly lack w who may.one may.found)) settled in
-          record { ranked = turned.ranked; marked = turned.marked; noted = turned.noted; things = turned.things; tied = turned.tied; others = turned.others; given = turned.given }
+      turned : (who : ℕ) (o : Option (Coroutine V)) → Marked tie (if_some o k.world (λ c. settle (go_on p lack (begin k.world) who c.body)))
+      turned who None = h
+      turned who (Some c) = settle_marked (go_on p lack (begin k.world) who c.body) (go_on_lasts (IsLive tie) (MarkedIn tie) (lasts_marked tie) p lack (begin k.world) who c.body h)
 
-  late_marked : (xs : List ℕ) (k : Kept V) → IsGood p k.world → Marked tie k.world → IsGood p (fold kept_expire_next k xs).world × Marked tie (fold kept_expire_next k xs).world
-  late_marked [] k g h = (g, h)
-  late_marked (x ∷ xs) k g h =
-      let next = expire_one_marked tie p k.world x g.sits h in
-      late_marked xs (kept_expire_next k x) (good_queued p (expire_one k.world x) k.ready k.early (good_expire p k.world x g)) (record { ranked = next.ranked; marked = next.marked; noted = next.noted; things = next.things; tied = next.tied; others = next.others; given = next.given })
+      at : (ready : List ℕ) → Marked tie (turn_first p lack k ready).world
+      at [] = h
+      at (who ∷ rest) = turned who (coroutine_of k.world who)
 
-  expired_marked : (k : Kept V) → IsStable p k → Marked tie k.world → Marked tie (kept_expired k).world
-  expired_marked k s h =
-      let late = late_marked (passed k.world) (record k { world = begin k.world }) (good_stable p (record k { world = begin k.world }) (stays.started k s)) (begun_marked tie k.world h) in
-      let done = settle_marked tie p (kept_late k).world late.0.sits late.0.numbered late.1 in
-      record { ranked = done.ranked; marked = done.marked; noted = done.noted; things = done.things; tied = done.tied; others = done.others; given = done.given }
+  late_marked : (xs : List ℕ) (k : Kept V) → Marked tie k.world → Marked tie (fold kept_expire_next k xs).world
+  late_marked [] k h = h
+  late_marked (x ∷ xs) k h = late_marked xs (kept_expire_next k x) (expire_lasts (IsLive tie) (MarkedIn tie) (lasts_marked tie) k.world x h)
 
-module _ {V : Type 0} (tie : Closing) (p : Program V) (law : IsLawful p) (plainly : MakesPlain p) (keeps : KeepsWell p) (ordered : KeepsOrder p) where
-  shut_marked : (k : Kept V) → IsStable p k → Marked tie k.world → Marked tie (kept_shut k).world
-  shut_marked k s h =
-      let closed = good_closed p law plainly keeps ordered k.world (good_stable p k s) in
-      let done = settle_marked tie p (root_closed k.world) closed.sits closed.numbered (root_marked tie k.world h) in
-      record { ranked = done.ranked; marked = done.marked; noted = done.noted; things = done.things; tied = done.tied; others = done.others; given = done.given }
+  expired_marked : (k : Kept V) → Marked tie k.world → Marked tie (kept_expired k).world
+  expired_marked k h = settle_marked (kept_late k).world (late_marked (passed k.world) (record k { world = begin k.world }) h)
 
 -- ---- what is noted is closing
 
@@ -188,23 +151,23 @@ module _ {V : Type 0} (tie : Closing) (p : Program V) (law : IsLawful p) (plainl
       let even = h.steady.even in
       record {
         steady = debts.steady (lend s random) (Turn lack) (debts.lent s random h.steady);
-        marked = to_state tie (kept_turn p lack even.kept) (turn_seen p s lack random).0 (follows.turned even.kept s lack random even.stable.well even.stable.plain even.stands) (turned_marked tie p law plainly keeps stays even.kept lack even.stable (kept_marked s h));
+        marked = to_state tie (kept_turn p lack even.kept) (turn_seen p s lack random).0 (follows.turned even.kept s lack random even.stable.well even.stable.plain even.stands) (turned_marked tie p even.kept lack (kept_marked s h));
       }
 
   after_expiry : (s : State V) → IsSteadyMarked tie p s → IsSteadyMarked tie p (expired s)
   after_expiry s h =
       let even = h.steady.even in
-      record { steady = debts.steady s Expire h.steady; marked = to_state tie (kept_expired even.kept) (expired s) (follows.expired even.kept s even.stable.plain even.stands) (expired_marked tie p law plainly keeps stays even.kept even.stable (kept_marked s h)) }
+      record { steady = debts.steady s Expire h.steady; marked = to_state tie (kept_expired even.kept) (expired s) (follows.expired even.kept s even.stable.plain even.stands) (expired_marked tie even.kept (kept_marked s h)) }
 
   after_shut : (s : State V) → IsSteadyMarked tie p s → IsSteadyMarked tie p (shut s)
   after_shut s h =
       let even = h.steady.even in
-      record { steady = debts.steady s Shut h.steady; marked = to_state tie (kept_shut even.kept) (shut s) (follows.shut even.kept s even.stable.plain even.stands) (shut_marked tie p law plainly keeps ordered even.kept even.stable (kept_marked s h)) }
+      record { steady = debts.steady s Shut h.steady; marked = to_state tie (kept_shut even.kept) (shut s) (follows.shut even.kept s even.stable.plain even.stands) (settle_marked tie (root_closed even.kept.world) (root_marked tie even.kept.world (kept_marked s h))) }
 
   after_wake : (s : State V) (told : ℕ) (ready : List Ready) → IsSteadyMarked tie p s → IsSteadyMarked tie p (woke s told ready)
   after_wake s told ready h =
       let even = h.steady.even in
-      record { steady = debts.steady s (Wake told ready) h.steady; marked = to_state tie (kept_woke even.kept told ready) (woke s told ready) (follows.woke even.kept s told ready even.stands) (woke_marked tie even.kept told ready (kept_marked s h)) }
+      record { steady = debts.steady s (Wake told ready) h.steady; marked = to_state tie (kept_woke even.kept told ready) (woke s told ready) (follows.woke even.kept s told ready even.stands) (heated_marked tie ready (begin even.kept.world) (kept_marked s h)) }
 
   pub marked_step : (s : State V) (x : Step) → IsSteadyMarked tie p s → IsSteadyMarked tie p (step p s x)
   marked_step s (Turn lack) h = after_turn s lack s.world.random h
@@ -224,7 +187,7 @@ module _ {V : Type 0} (tie : Closing) (p : Program V) (law : IsLawful p) (plainl
   marked_closing : (s : State V) → IsSteadyMarked tie p s → (number name : ℕ) → bundle_dead_as s.world number ≡ Some name → is_closing s.world.scopes name ≡ true
   marked_closing s h number name e =
       let order : IsInOrder (wordless s.world) = subst IsInOrder h.steady.even.stands.world h.steady.even.stable.order.order in
-      dead_closing tie (wordless s.world) order (same_marked tie s.world (wordless s.world) refl refl refl refl refl h.marked) number name e
+      dead_closing tie (wordless s.world) order h.marked number name e
 
 -- ---- how long an `hclose` waits
 
@@ -335,7 +298,6 @@ module _ {V : Type 0} (p : Program V) (law : IsLawful p) (plainly : MakesPlain p
   closes_well : (tie : Closing) (s : State V) → IsSteadyMarked tie p s → ClosesWell p s
   closes_well tie s h =
       let order : IsInOrder (wordless s.world) = subst IsInOrder h.steady.even.stands.world h.steady.even.stable.order.order in
-      let bare = same_marked tie s.world (wordless s.world) refl refl refl refl refl h.marked in
       let closing = marked_closing tie p law plainly keeps ordered stays follows debts s h in
       record {
         closing = closing;
@@ -344,8 +306,8 @@ module _ {V : Type 0} (p : Program V) (law : IsLawful p) (plainly : MakesPlain p
             let is = closing number c.name c.dead in
             record { name = c.name; dead = c.dead; owned = c.owned; closing = is; lived = c.lived; going = debts.goes_on s c.name h.steady is c.lived };
         within = λ who number name e xs.
-            let tied = tied_by (wordless s.world) order number name tie e bare in
-            waits_within who number name xs s (record { steady = h.steady; marked = same_marked (record { bundle = name; number = number }) (wordless s.world) s.world refl refl refl refl refl tied });
+            let tied = tied_by (wordless s.world) order number name tie e h.marked in
+            waits_within who number name xs s (record { steady = h.steady; marked = tied });
       }
 
 -- ---- whole runs

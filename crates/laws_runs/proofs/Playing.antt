@@ -69,7 +69,6 @@ module _ {V : Type 0} (p : Program V) (follows : FollowsPlainly p) (ends : EndsC
     plain = h.plain;
     order = h.order;
     says = h.says;
-    things = h.things;
     rest = h.rest;
     flags = h.flags;
   }

@@ -1,5 +1,5 @@
 -- No step but the closing of the root closes it: up to then it is open, and has no stamp.
-use Rattle.std.proofs.Common.{◌≡◌, ◌∙◌, ◌==◌, ℕ, zero, suc, List, [], ◌∷◌, length, map, filter, fold, find, Bool, true, false, not, ◌&&◌, cond, Option, Some, None, is_some, refl, sym, ap, subst, arith}
+use Rattle.std.proofs.Common.{◌≡◌, ◌∙◌, ◌==◌, ℕ, List, [], ◌∷◌, map, filter, fold, find, Bool, true, false, not, ◌&&◌, cond, Option, Some, None, is_some, refl, sym, ap, subst, arith}
 use Rattle.std.proofs.lemmas.List.Folds.{find-append}
 use Rattle.std.specs.List.{AllByRecursion, list_all, list_any}
 use Rattle.std.specs.Option.{option_or}
@@ -23,11 +23,11 @@ use Rattle.dill_rules.specs.Expiring.{expire_one, passed}
 use Rattle.dill_rules.specs.Giving.{give}
 use Rattle.dill_rules.specs.Hearing.{heat_ready}
 use Rattle.dill_rules.specs.Owning.{free_bundle, is_dead_as}
-use Rattle.dill_rules.specs.Settling.{settle, settle_one, settle_within}
+use Rattle.dill_rules.specs.Settling.{settle}
 use Rattle.dill_rules.specs.Seen.{lend, turn_seen}
 use Rattle.dill_rules.specs.State.{State, Stamp, is_stamp_of, closed_now, expire_next, expired, line_up, lined, next_turn, opening_state, turn_of, woke}
-use Rattle.dill_rules.specs.Turning.{answer_given, go_on, turn}
-use Rattle.dill_rules.specs.World.{World, begin, call_of}
+use Rattle.dill_rules.specs.Turning.{go_on, turn}
+use Rattle.dill_rules.specs.World.{World, begin, call_of, coroutine_of}
 use Rattle.laws_sound.specs.PlainLaws.{FollowsPlainly}
 use Rattle.laws_queue.specs.Kept.{Kept, kept_expire_next, kept_expired, kept_late, kept_turn, turn_first}
 use Rattle.laws_queue.specs.Laws.{KeepsWell}
@@ -40,11 +40,8 @@ use Rattle.laws_sound.proofs.Steps.{call_waits}
 use Rattle.laws_sound.proofs.Turns.{expire_one_plain}
 use Rattle.laws_debt.specs.Closing.{IsStable}
 use Rattle.laws_debt.specs.Laws.{KeepsStable}
-use Rattle.laws_debt.proofs.Keeping.{IsGood, good_expire, good_moved, good_queued, good_stable, nobody_calm, turn_is}
 use Rattle.laws_debt.proofs.Lists.{all_without, equal_number, number_of}
-use Rattle.laws_debt.proofs.Settling.{AllSit, leads_numbered, leads_sits, pass_nothing, settle_one_leads, settle_within_leads}
-use Rattle.laws_queue.specs.Well.{Numbered}
-use Rattle.laws_debt.proofs.Shutting.{AllHold, LastsOwned, settle_one_owned, expire_one_owned, go_on_owned}
+use Rattle.laws_debt.proofs.Shutting.{AllHold, LastsOwned, settle_owned, expire_one_owned, go_on_owned}
 use Rattle.laws_debt.proofs.Tracking.{all_by_key}
 use Rattle.laws_queue.proofs.Lining.{lined_pending}
 
@@ -182,47 +179,26 @@ module _ {V : Type 0} (p : Program V) (law : IsLawful p) (plainly : MakesPlain p
   abbrev Holds : World V → Type 0
   Holds w = AllHold IsOpenUnowned 0 w
 
-  holds_of : (k : Kept V) → IsStable p k → RootIsOpen k.world.scopes → Holds (begin k.world)
-  holds_of k s a = record { given = omega arith; bundles = unowned_open k.world.scopes s.order.order.fits.forest a; things = s.things; flags = record { ranked = s.flags.ranked; flagged = s.flags.flagged } }
+  holds_of : (k : Kept V) → IsStable p k → RootIsOpen k.world.scopes → Holds k.world
+  holds_of k s a = record { given = omega arith; bundles = unowned_open k.world.scopes s.order.order.fits.forest a; flags = s.flags }
 
-  within_holds : (n : ℕ) (w : World V) → AllSit p w.coroutines → Numbered 0 w.coroutines w.last_coroutine → Holds w → Holds (settle_within n w)
-  within_holds zero w a n h = h
-  within_holds (suc k) w a n h =
-      let one = settle_one_leads p nobody_calm (λ v. Unit {0}) (λ v who c i e f. cc) w tt a n in
-      within_holds k (settle_one w) (leads_sits p nobody_calm w (settle_one w) one a) (leads_numbered p nobody_calm w (settle_one w) one n) (settle_one_owned IsOpenUnowned 0 unowned_lasts p w a n h)
-
-  settle_holds : (w : World V) → AllSit p w.coroutines → Numbered 0 w.coroutines w.last_coroutine → Holds w → Holds (settle w)
-  settle_holds w a n h =
-      let done = settle_within (length w.coroutines) w in
-      let leads = settle_within_leads p nobody_calm (λ v. Unit {0}) (λ v who c i e f. cc) (λ v i. tt) (length w.coroutines) w tt a n in
-      let same : settle w ≡ done = pass_nothing p done (leads_sits p nobody_calm w done leads a) in
-      subst Holds (sym same) (within_holds (length w.coroutines) w a n h)
-
-  turned_holds : (k : Kept V) (lack : Option LackPlace) → IsStable p k → RootIsOpen k.world.scopes → AllByRecursion IsOpenUnowned (kept_turn p lack k).world.scopes.bundles
-  turned_holds k lack s a = at k.ready refl
+  turned_holds : (k : Kept V) (lack : Option LackPlace) → Holds k.world → Holds (kept_turn p lack k).world
+  turned_holds k lack h = at k.ready
     where
-      at : (ready : List ℕ) → k.ready ≡ ready → AllByRecursion IsOpenUnowned (turn_first p lack k ready).world.scopes.bundles
-      at [] e = unowned_open k.world.scopes s.order.order.fits.forest a
-      at (who ∷ rest) e =
-          let w = k.world in
-          let may = keeps.first k who rest s.well e in
-          let view = may.one.body in
-          let good = good_moved p law plainly lack w who may may.one may.found may.some may.real (good_stable p k s) in
-          let moved = go_on_owned IsOpenUnowned 0 unowned_lasts p lack (begin w) who view (plainly view (answer_given (begin w) who).1 may.real may.some) (holds_of k s a) in
-          let settled = settle_holds (go_on p lack (begin w) who view) good.sits good.numbered moved in
-          subst (λ (v : World V). AllByRecursion IsOpenUnowned v.scopes.bundles) (sym (turn_is p law plainly lack w who may.one may.found)) settled.bundles
+      turned : (who : ℕ) (o : Option (Coroutine V)) → Holds (if_some o k.world (λ c. settle (go_on p lack (begin k.world) who c.body)))
+      turned who None = h
+      turned who (Some c) = settle_owned IsOpenUnowned 0 unowned_lasts (go_on p lack (begin k.world) who c.body) (go_on_owned IsOpenUnowned 0 unowned_lasts p lack (begin k.world) who c.body h)
 
-  late_holds : (xs : List ℕ) (k : Kept V) → IsGood p k.world → Holds k.world → IsGood p (fold kept_expire_next k xs).world × Holds (fold kept_expire_next k xs).world
-  late_holds [] k g h = (g, h)
-  late_holds (x ∷ xs) k g h =
-      let next = expire_one_owned IsOpenUnowned 0 unowned_lasts p k.world x g.sits h in
-      late_holds xs (kept_expire_next k x) (good_queued p (expire_one k.world x) k.ready k.early (good_expire p k.world x g))
-      (record { given = next.given; bundles = next.bundles; things = next.things; flags = record { ranked = next.flags.ranked; flagged = next.flags.flagged } })
+      at : (ready : List ℕ) → Holds (turn_first p lack k ready).world
+      at [] = h
+      at (who ∷ rest) = turned who (coroutine_of k.world who)
 
-  expired_holds : (k : Kept V) → IsStable p k → RootIsOpen k.world.scopes → AllByRecursion IsOpenUnowned (kept_expired k).world.scopes.bundles
-  expired_holds k s a =
-      let late = late_holds (passed k.world) (record k { world = begin k.world }) (good_stable p (record k { world = begin k.world }) (stays.started k s)) (holds_of k s a) in
-      (settle_holds (kept_late k).world late.0.sits late.0.numbered late.1).bundles
+  late_holds : (xs : List ℕ) (k : Kept V) → Holds k.world → Holds (fold kept_expire_next k xs).world
+  late_holds [] k h = h
+  late_holds (x ∷ xs) k h = late_holds xs (kept_expire_next k x) (expire_one_owned IsOpenUnowned 0 unowned_lasts k.world x h)
+
+  expired_holds : (k : Kept V) → Holds k.world → Holds (kept_expired k).world
+  expired_holds k h = settle_owned IsOpenUnowned 0 unowned_lasts (kept_late k).world (late_holds (passed k.world) (record k { world = begin k.world }) h)
 
   -- a turn
   turned_stamps : (lack : Option LackPlace) (s : State V) (o : Option ℕ) → RootIsOpen (if_some o s (turn_of p lack s)).world.scopes → IsUnstamped s.closings → IsUnstamped (if_some o s (turn_of p lack s)).closings
@@ -232,7 +208,7 @@ module _ {V : Type 0} (p : Program V) (law : IsLawful p) (plainly : MakesPlain p
   pub turned_unshut : (k : Kept V) (s : State V) (lack : Option LackPlace) (random : Stream) → IsStable p k → StandsFor k s → IsUnshut s → IsUnshut (turn_seen p s lack random).0
   turned_unshut k s lack random stable stands h =
       let now = stays.turned k lack stable in
-      let held = root_open (kept_turn p lack k).world.scopes now.order.order.fits.forest (turned_holds k lack stable (to_kept k s stands h.root)) in
+      let held = root_open (kept_turn p lack k).world.scopes now.order.order.fits.forest (turned_holds k lack (holds_of k stable (to_kept k s stands h.root))).bundles in
       let root = to_state (kept_turn p lack k) (turn_seen p s lack random).0 (follows.turned k s lack random stable.well stable.plain stands) held in
       record { root = root; none = turned_stamps lack (lend s random) (next_turn (lend s random)) root h.none }
 
@@ -240,7 +216,7 @@ module _ {V : Type 0} (p : Program V) (law : IsLawful p) (plainly : MakesPlain p
   pub expired_unshut : (k : Kept V) (s : State V) → IsStable p k → StandsFor k s → IsUnshut s → IsUnshut (expired s)
   expired_unshut k s stable stands h =
       let now = stays.expired k stable in
-      let held = root_open (kept_expired k).world.scopes now.order.order.fits.forest (expired_holds k stable (to_kept k s stands h.root)) in
+      let held = root_open (kept_expired k).world.scopes now.order.order.fits.forest (expired_holds k (holds_of k stable (to_kept k s stands h.root))).bundles in
       let root = to_state (kept_expired k) (expired s) (follows.expired k s stable.plain stands) held in
       let began : State V = record s { world = begin s.world } in
       let plain : IsPlain (wordless s.world) = subst IsPlain stands.world stable.plain in
