@@ -4,6 +4,7 @@ pub mod Crew
 pub mod Besides
 pub mod Linked
 pub mod Walking
+pub mod Acting
 pub mod Stepping
 pub mod Lining
 pub mod Resuming

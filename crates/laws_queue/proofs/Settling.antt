@@ -1,37 +1,23 @@
 -- Settling goes on until nothing is due, whatever anybody is pending in: each of its steps leaves one coroutine fewer that is pending or ending. What the looks behind it pass is not told here.
-use Rattle.std.proofs.Common.{◌≡◌, ◌∙◌, ◌+◌, ◌≤◌, ℕ, zero, suc, List, [], ◌∷◌, length, find, Bool, true, false, ◌&&◌, cond, Option, Some, None, refl, sym, ap, subst, arith, ◌||◌, if◌then◌else◌}
+use Rattle.std.proofs.Common.{◌≡◌, ◌∙◌, ◌+◌, ◌≤◌, ℕ, zero, suc, List, [], ◌∷◌, length, find, Bool, true, false, ◌&&◌, cond, Option, Some, None, refl, sym, ap, subst, arith}
 use Rattle.dill_calls.specs.declared.answer.Answer.{Answer}
 use Rattle.dill_calls.specs.declared.call.Call.{Call}
-use Rattle.dill_calls.specs.declared.call.Call.TheVariants as calls
 use Rattle.dill_calls.specs.declared.word.Word.{Word}
-use Rattle.dill_calls.specs.declared.word.Word.TheVariants as words
-use Rattle.dill_calls.specs.CallTable.{word_of, named_by, gives_up}
+use Rattle.dill_calls.specs.CallTable.{word_of}
 use Rattle.dill_base.specs.Maps.{if_some, first_some, change, without}
 use Rattle.dill_rules.specs.declared.coroutine.Coroutine.{Coroutine}
 use Rattle.dill_rules.specs.declared.coroutine.Mode.{Mode}
 use Rattle.dill_rules.specs.declared.coroutine.Mode.TheVariants as modes
-use Rattle.dill_rules.specs.World.{World, is_coroutine, with_mode, pending_call, is_ending, reply}
-use Rattle.dill_rules.specs.Giving.{give, is_read, look_on, after_send, give_send, give_receive, give_number, give_attached, give_closed, forgo, give_forgone, give_class}
+use Rattle.dill_rules.specs.World.{World, is_coroutine, with_mode, pending_call, is_ending}
+use Rattle.dill_rules.specs.Giving.{give}
 use Rattle.dill_rules.specs.Settling.{can_finish, is_clear, finish, answer_due, give_first, settle_one, settle_within, IsSettled}
 use Rattle.laws_queue.specs.Well.{bit, Numbered, counts}
+use Rattle.laws_queue.proofs.Acting.{give_gives}
 use Rattle.laws_queue.proofs.Answered.{some_same}
-use Rattle.laws_queue.proofs.Crew.{bare_crew, free_dead_crew, keep_end_last, SameCrew, no_change, crew_then, some_crew, move_crew, release_crew}
+use Rattle.laws_queue.proofs.Crew.{bare_crew, keep_end_last}
 use Rattle.laws_queue.proofs.Evolving.{numbered_change, numbered_without}
 use Rattle.laws_queue.proofs.Stepping.{by_number, passes, due_first}
-use Rattle.dill_base.specs.declared.errno.Errno.{Errno}
-use Rattle.dill_calls.specs.declared.answer.Answer.TheVariants.{Fault, Number}
-use Rattle.dill_handles.specs.Handles as handles
-use Rattle.dill_rules.specs.Links.{with_stack}
-use Rattle.dill_rules.specs.Naming.{links, draws_of}
-use Rattle.dill_rules.specs.Owning.{move, release, is_dead_as, free_bundle}
-use Rattle.dill_rules.specs.Effects.{next_number}
-use Rattle.dill_rules.specs.Directions.{is_send, is_receive, is_handshake}
-use Rattle.dill_rules.specs.LinkAnswers.{is_tcp_close}
-use Rattle.dill_rules.specs.Sockets.{on_named}
-use Rattle.dill_rules.specs.Linking.{give_stack_up}
 use Rattle.laws_queue.specs.Settled.{SettlesAll}
-use Rattle.laws_queue.proofs.Besides.{besides_crew, on_named_besides, look_besides}
-use Rattle.laws_queue.proofs.Linked.{if_crew, release_named_crew, forgo_crew}
 
 -- pending or ending: something may still be due of it
 rests : Mode → Bool
@@ -92,54 +78,6 @@ module _ {V : Type 0} (test : Mode → Bool) where
       at false r = omega (arith, r)
 
 module _ {V : Type 0} where
-  -- who was pending has its answer, and else the coroutines are as they were
-  pub record Gives (w : World V) (who : ℕ) (word : Word) (v : World V) : Type 0 where
-    pub answer : Answer
-    pub coroutines : v.coroutines ≡ change (is_coroutine who) (with_mode (modes.Fresh word answer)) w.coroutines
-    pub last : v.last_coroutine ≡ w.last_coroutine
-
-  gives : (w v : World V) (who : ℕ) (word : Word) (answer : Answer) → SameCrew w v → Gives w who word (reply v who word answer)
-  gives w v who word answer s = record { answer = answer; coroutines = ap (change (is_coroutine who) (with_mode (modes.Fresh word answer))) s.coroutines; last = s.last }
-
-  if_gives : (b : Bool) (w : World V) (who : ℕ) (word : Word) (v u : World V) → Gives w who word v → Gives w who word u → Gives w who word (if b then v else u)
-  if_gives true w who word v u e f = e
-  if_gives false w who word v u e f = f
-
-  either_gives : {A : Type 0} (o : Option A) (w : World V) (who : ℕ) (word : Word) (v : World V) (f : A → World V) → Gives w who word v → ((a : A) → Gives w who word (f a)) → Gives w who word (if_some o v f)
-  either_gives None w who word v f e h = e
-  either_gives (Some a) w who word v f e h = h a
-
-  up_gives : (w v : World V) (who : ℕ) (call : Call) (e : Errno) (kept : ℕ) → SameCrew w v → Gives w who (word_of call) (give_stack_up v who call e kept)
-  up_gives w v who call e kept s =
-      let u = if_some (named_by call) v (λ number. release (record v { handles = handles.unkeep v.handles kept }) number) in
-      gives w u who (word_of call) (Fault e) (crew_then w v u s (release_named_crew v call kept))
-
-  attached_gives : (w : World V) (who : ℕ) (call : Call) (answer : Answer) → Gives w who (word_of call) (give_attached w who call answer)
-  attached_gives w who call (Fault e) = up_gives w (if is_read (Fault e) then look_on w call else w) who call e (draws_of call) (if_crew (is_read (Fault e)) w (look_on w call) w (besides_crew (look_besides w call)) (no_change w))
-  attached_gives w who call answer =
-      either_gives (named_by call) w who (word_of call) (reply w who (word_of call) answer) (give_number w who call) (gives w w who (word_of call) answer (no_change w))
-      (λ number. gives w (move (look_on w call) number who) who (word_of call) (Number (next_number w)) (crew_then w (look_on w call) (move (look_on w call) number who) (besides_crew (look_besides w call)) (move_crew (look_on w call) number who)))
-
-  closed_gives : (w : World V) (who : ℕ) (call : Call) (answer : Answer) → Gives w who (word_of call) (give_closed w who call answer)
-  closed_gives w who call (Fault e) = up_gives w w who call e 0 (no_change w)
-  closed_gives w who call answer = gives w (if_some (named_by call) w (release w)) who (word_of call) answer (some_crew (named_by call) w w (release w) (no_change w) (release_crew w))
-
-  class_gives : (w : World V) (who : ℕ) (call : Call) (answer : Answer) → Gives w who (word_of call) (give_class w who call answer)
-  class_gives w who call answer =
-      let word = word_of call in
-      if_gives (is_send word) w who word (give_send w who call answer) _
-      (gives w (if_some (named_by call) w (λ number. on_named w number (with_stack (after_send word answer)))) who word answer (some_crew (named_by call) w w (λ number. on_named w number (with_stack (after_send word answer))) (no_change w) (λ number. besides_crew (on_named_besides w number (with_stack (after_send word answer))))))
-      (if_gives (is_receive word) w who word (give_receive w who call answer) _
-      (gives w (if is_read answer then look_on w call else w) who word answer (if_crew (is_read answer) w (look_on w call) w (besides_crew (look_besides w call)) (no_change w)))
-      (if_gives (is_tcp_close word) w who word (give_closed w who call answer) _ (closed_gives w who call answer)
-      (if_gives (is_handshake word || gives_up word) w who word (give_attached w who call answer) _ (attached_gives w who call answer)
-      (if_gives (links word) w who word (give_forgone w who call answer) (reply w who word answer) (gives w (forgo w who) who word answer (forgo_crew w who)) (gives w w who word answer (no_change w))))))
-
-  -- every giving answers
-  pub give_gives : (w : World V) (who : ℕ) (call : Call) (answer : Answer) → Gives w who (word_of call) (give w who call answer)
-  give_gives w who (calls.Hclose number) answer = gives w (if_some (find (is_dead_as number) w.closings) w (free_bundle w)) who words.Hclose answer (free_dead_crew w number)
-  give_gives w who call answer = class_gives w who call answer
-
   -- nothing is due, or a step of settling leaves one fewer
   data Steps (w : World V) : Type 0 where
     done : IsSettled w → settle_one w ≡ w → Steps w

@@ -10,7 +10,7 @@ use Rattle.dill_calls.specs.declared.lists.Arg.{Arg}
 use Rattle.dill_calls.specs.declared.lists.Arg.TheVariants.{Show, Give}
 use Rattle.dill_calls.specs.declared.word.Word.{Word}
 use Rattle.dill_calls.specs.declared.word.Word.TheVariants as words
-use Rattle.dill_calls.specs.Program.{Program, Begins}
+use Rattle.dill_calls.specs.Program.{Program}
 use Rattle.dill_base.specs.Maps.{change}
 use Rattle.dill_rules.specs.declared.coroutine.Coroutine.{Coroutine}
 use Rattle.dill_rules.specs.declared.coroutine.Mode.{Mode}
@@ -20,7 +20,7 @@ use Rattle.dill_rules.specs.Naming.{gifts_of}
 use Rattle.dill_rules.specs.Refusals.{refuse, has_twice, holds, is_invalid, is_refused_by_stack}
 use Rattle.dill_rules.specs.Effects.{told, bear}
 use Rattle.laws_queue.proofs.Crew.{SameCrew}
-use Rattle.laws_queue.proofs.Evolving.{Evolves, stays, turns, begins, goes_on}
+use Rattle.laws_queue.proofs.Evolving.{Evolves, stays, turns, goes_on}
 
 -- the coroutines of one world evolve to those of the other
 abbrev pub Leads : {V : Type 0} → Program V → World V → World V → Type 0
@@ -51,14 +51,6 @@ module _ {V : Type 0} (p : Program V) where
 
   pub pend_leads : (w : World V) (who : ℕ) (call : Call) → Runs w who → Leads p w (pend w who call)
   pend_leads w who call r = turns who (modes.Pending call) r.one r.found r.mode refl (λ e. r.some)
-
-  -- an effect that leaves the coroutines, and then an answer
-  pub reply_behind : (w v : World V) (who : ℕ) (word : Word) (answer : Answer) → SameCrew w v → Runs w who → Leads p w (reply v who word answer)
-  reply_behind w v who word answer same r = leads_then w v (reply v who word answer) (crew_leads w v same) (reply_leads v who word answer (runs_crew w v who same r))
-
-  -- an effect that leaves the coroutines, and then the caller waits
-  pub pend_behind : (w v : World V) (who : ℕ) (call : Call) → SameCrew w v → Runs w who → Leads p w (pend v who call)
-  pend_behind w v who call same r = leads_then w v (pend v who call) (crew_leads w v same) (pend_leads v who call (runs_crew w v who same r))
 
   -- somebody stands elsewhere, and has no answer in the queue there: so does who could be answered before
   record Found (who : ℕ) (c : Coroutine V) (cs : List (Coroutine V)) : Type 0 where
@@ -96,14 +88,11 @@ module _ {V : Type 0} (p : Program V) where
       at true f rest = f
       at false f rest = rest f
 
-  -- a new coroutine begins, and then the caller is answered
-  pub bear_reply : (w v : World V) (who : ℕ) (view : V) (home : ℕ) (word : Word) (answer : Answer) → SameCrew w v → Begins p view → Runs w who → Leads p w (reply (bear v view home) who word answer)
-  bear_reply w v who view home word answer same b r =
-      let here = runs_crew w v who same r in
-      let new = record { number = v.last_coroutine + 1; body = view; mode = modes.Fresh words.Start (Number 0) } ∷ [] in
-      let there : Runs (bear v view home) who = record { one = here.one; found = find_append (is_coroutine who) v.coroutines new here.one here.found; mode = here.mode; some = here.some } in
-      leads_then w v (reply (bear v view home) who word answer) (crew_leads w v same)
-      (leads_then v (bear v view home) (reply (bear v view home) who word answer) (begins view b) (reply_leads (bear v view home) who word answer there))
+  -- a new coroutine begins, and the caller may be answered still
+  pub runs_born : (w : World V) (who : ℕ) (view : V) (home : ℕ) → Runs w who → Runs (bear w view home) who
+  runs_born w who view home r =
+      let new = record { number = w.last_coroutine + 1; body = view; mode = modes.Fresh words.Start (Number 0) } ∷ [] in
+      record { one = r.one; found = find_append (is_coroutine who) w.coroutines new r.one r.found; mode = r.mode; some = r.some }
 
 pub told_length : (next : ℕ) (args : List Arg) → length (told next args) ≡ length args
 told_length next [] = refl

@@ -277,21 +277,21 @@ module _ {V : Type 0} where
 
   -- ---- what a call isn't refused for
 
+  -- the number that a call names is live
+  pub named_alive : (w : World V) (call : Call) (number : ℕ) → named_by call ≡ Some number → names_dead w call ≡ false → is_dead w number ≡ false
+  named_alive w call number n e = at (named_by call) n e
+    where
+      at : (q : Option ℕ) → q ≡ Some number → list_any (is_dead w) (option_to_list q ++ gifts call ++ chosen call) ≡ false → is_dead w number ≡ false
+      at None i j = cc
+      at (Some l) i j = let it : l ≡ number = cc in subst (λ r. is_dead w r ≡ false) it (or_parts (is_dead w l) (list_any (is_dead w) (gifts call ++ chosen call)) j).0
+
   module _ (p : Program V) where
     pub named_none : (w : World V) (who : ℕ) (view : V) (call : Call) (number : ℕ) → IsInOrder w → May p w who view call → (is_on_stack (word_of call) || is_some (layer_of call)) ≡ true → named_by call ≡ Some number → is_no_bundle w.handles number ≡ true
     named_none w who view call number o m s n =
-        let x = live_entry (entry_of w number) (alive (named_by call) n m.alive) in
+        let x = live_entry (entry_of w number) (named_alive w call number n m.alive) in
         let others = or_parts (is_other_kind w call) (is_other_top w call || list_any (λ n. not (is_of_kind w 2 n)) (chosen call)) m.other in
         let tops = or_parts (is_other_top w call) (list_any (λ n. not (is_of_kind w 2 n)) (chosen call)) others.1 in
         no_bundle_from w number x.0 o.fits x.1 (needed_none w call number x.0 n x.1 others.0 tops.0 (needs_socket call number s n))
-      where
-        alive : (q : Option ℕ) → q ≡ Some number → names_dead w call ≡ false → is_dead w number ≡ false
-        alive None f g = cc
-        alive (Some k) f g = first_dead (named_by call) n g
-          where
-            first_dead : (q : Option ℕ) → q ≡ Some number → list_any (is_dead w) (option_to_list q ++ gifts call ++ chosen call) ≡ false → is_dead w number ≡ false
-            first_dead None i j = cc
-            first_dead (Some l) i j = let it : l ≡ number = cc in subst (λ r. is_dead w r ≡ false) it (or_parts (is_dead w l) (list_any (is_dead w) (gifts call ++ chosen call)) j).0
 
     pub socket_fits : (w : World V) (who : ℕ) (view : V) (call : Call) → IsInOrder w → May p w who view call → fits_socket w.handles call ≡ true
     socket_fits w who view call o m = at (is_on_stack (word_of call)) refl (named_by call) refl

@@ -40,7 +40,7 @@ use Rattle.dill_rules.specs.Turning.{turn}
 use Rattle.laws_queue.specs.Kept.{Kept, opening_kept, queued, turn_first, kept_turn, kept_hear, kept_expire_next, kept_late, kept_expired, kept_shut, kept_woke, root_closed}
 use Rattle.laws_queue.proofs.Besides.{heat_all_besides}
 use Rattle.laws_queue.proofs.Lining.{lined_pending}
-use Rattle.laws_queue.proofs.Settling.{give_gives}
+use Rattle.laws_queue.proofs.Acting.{give_gives}
 use Rattle.laws_sound.specs.Laws.{is_timed, StepsKeepOrder, NotesNumbers}
 use Rattle.laws_sound.specs.Orderly.{is_channel, is_meeting, waits_well, is_no_bundle, is_socketed, gives_number, kept_by, IsOrderly}
 use Rattle.laws_sound.proofs.Counting.{weigh_alike}
