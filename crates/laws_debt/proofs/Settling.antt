@@ -163,7 +163,7 @@ module _ {V : Type 0} (p : Program V) (calm : ℕ → Bool) (In : World V → Ty
       at (Some x) e =
           let d = (due_first w 0 w.last_coroutine w.coroutines x n e).1 in
           let r = pending_runs p w x.0 x.1 a (record { one = d.one; found = d.found; pends = d.call }) in
-          give_leads p calm w x.0 x.1 x.2 r.1 r.0 (λ c. answer_lowers w x.0 x.1 x.2 r.1 (off w x.0 d.one i d.found c) d.answer)
+          give_leads p calm w x.0 x.1 x.2 r.1 r.0 (λ c. answer_lowers w x.0 x.1 x.2 (off w x.0 d.one i d.found c) d.answer)
 
   pub settle_one_leads : (w : World V) → In w → AllSit p w.coroutines → Numbered 0 w.coroutines w.last_coroutine → Leads p calm w (settle_one w)
   settle_one_leads w i a n = at (find (can_finish w) w.coroutines)

@@ -21,7 +21,7 @@ use Rattle.dill_rules.specs.Turning.{given_of, is_build, is_entry, as_running, m
 use Rattle.laws_queue.specs.Well.{Numbered}
 use Rattle.laws_queue.proofs.Crew.{close_all_crew}
 use Rattle.laws_sound.proofs.Turns.{entered_plain}
-use Rattle.laws_debt.proofs.Entering.{word_entered, entered_passes, lack_lowers}
+use Rattle.laws_debt.proofs.Entering.{plain_waits, plain_meets, word_entered, entered_passes, lack_lowers}
 use Rattle.laws_debt.proofs.Evolving.{Evolves, turns}
 use Rattle.laws_debt.proofs.Lists.{found_changed, found_passes, number_of, some_same, above_other, total}
 use Rattle.laws_debt.proofs.Walking.{Leads, Runs, Enters, reply_leads, enter_leads}
@@ -66,15 +66,17 @@ module _ {V : Type 0} (p : Program V) (law : IsLawful p) (calm : ℕ → Bool) w
         passes = entered_passes w.moment call m.0;
         cancelled = g.cancelled;
         born = g.born;
+        waits = plain_waits (entered w.moment call) (entered_plain w.moment call plain);
+        alone = plain_meets (entered w.moment call) (entered_plain w.moment call plain);
       }
 
       at : (b : Bool) → Went w who c answer (if b then reply (resume w who (p.short c.body answer)) who (word_of call) (Fault (lack_fault (resume w who (p.short c.body answer)) who (word_of call))) else make_move p (is_entry lack) (resume w who new) who new (Calls call))
       at true =
           called (word_of call) (p.short c.body answer) m.2
-          (reply_leads p calm (resume w who (p.short c.body answer)) who (word_of call) (Fault (lack_fault (resume w who (p.short c.body answer)) who (word_of call))) (runs_resumed w who (p.short c.body answer) (word_of call) c g.found m.2.said) (λ e. lack_lowers (resume w who (p.short c.body answer)) who call plain m.0 (g.cancelled e)))
+          (reply_leads p calm (resume w who (p.short c.body answer)) who (word_of call) (Fault (lack_fault (resume w who (p.short c.body answer)) who (word_of call))) (runs_resumed w who (p.short c.body answer) (word_of call) c g.found m.2.said) (λ e. lack_lowers p (resume w who (p.short c.body answer)) who (p.short c.body answer) call (g.cancelled e) m.0))
       at false =
           called (word_of call) new m.1
-          (enter_leads p law calm (is_entry lack) (resume w who new) who new (entered w.moment call) (entered_plain w.moment call plain) enters)
+          (enter_leads p law calm (is_entry lack) (resume w who new) who new (entered w.moment call) enters)
   from_move lack w who c answer (new, Ends outcome) g m plain = at (is_build lack)
     where
       over : Went w who c answer (end (resume w who new) who outcome)

@@ -200,6 +200,29 @@ module _ {V : Type 0} where
 
 -- ---- calls
 
+-- the calls that may stay pending
+abbrev pub may_pend : Call → Bool
+may_pend (calls.Print text) = false
+may_pend calls.Now = false
+may_pend calls.Yield = false
+may_pend (calls.Hmake kind value) = false
+may_pend (calls.Hquery number kind) = false
+may_pend (calls.Hown number) = false
+may_pend calls.Bundle = false
+may_pend (calls.Go program args) = false
+may_pend (calls.BundleGo number program args) = false
+may_pend calls.Chmake = false
+may_pend (calls.Chdone number) = false
+may_pend (calls.Pass word fault) = false
+may_pend _ = true
+
+-- the calls that may meet another's
+abbrev pub may_meet : Call → Bool
+may_meet (calls.Chsend number bytes deadline) = true
+may_meet (calls.Chrecv number size deadline) = true
+may_meet (calls.Choose deadline all) = true
+may_meet _ = false
+
 -- nothing is done of the call: its number isn't live, or of another kind
 pub data Idles {V : Type 0} (w : World V) : Call → Type 0 where
   dead : {call : Call} (number : ℕ) → named_by call ≡ Some number → entry_of w number ≡ None → Idles w call
@@ -210,8 +233,8 @@ pub data Idles {V : Type 0} (w : World V) : Call → Type 0 where
 pub data Acts {V : Type 0} (B : V → Type 0) (w : World V) (who : ℕ) (call : Call) : World V → Type 0 where
   idles : Idles w call → Acts B w who call w
   answered : {v : World V} → Gives w who (word_of call) v → Acts B w who call v
-  waits : {v : World V} → SameCrew (pend w who call) v → Acts B w who call v
-  meets : {v : World V} (other : ℕ) (its : Call) (answer : Answer) → call_of w other ≡ Some its → Gives (reply w other (word_of its) answer) who (word_of call) v → Acts B w who call v
+  waits : {v : World V} → may_pend call ≡ true → SameCrew (pend w who call) v → Acts B w who call v
+  meets : {v : World V} (other : ℕ) (its : Call) (answer : Answer) → may_meet call ≡ true → call_of w other ≡ Some its → Gives (reply w other (word_of its) answer) who (word_of call) v → Acts B w who call v
   bore : {v : World V} (view : V) (home : ℕ) → B view → bears (word_of call) ≡ true → Gives (bear w view home) who (word_of call) v → Acts B w who call v
 
 -- it holds of the child that the call starts
@@ -249,8 +272,8 @@ module _ {V : Type 0} (B : V → Type 0) where
   replied : (w v : World V) (who : ℕ) (call : Call) (answer : Answer) → SameCrew w v → Acts B w who call (reply v who (word_of call) answer)
   replied w v who call answer s = answered (gives w v who (word_of call) answer s)
 
-  pends : (w v : World V) (who : ℕ) (call : Call) → SameCrew w v → Acts B w who call (pend v who call)
-  pends w v who call s = waits (pended w v who call s)
+  pends : (w v : World V) (who : ℕ) (call : Call) → may_pend call ≡ true → SameCrew w v → Acts B w who call (pend v who call)
+  pends w v who call m s = waits m (pended w v who call s)
 
   -- ---- channels
 
@@ -263,62 +286,62 @@ module _ {V : Type 0} (B : V → Type 0) where
       at true f g rest = rest g
       at false f g rest = let it : ◌≡◌ {A = ℕ × Meeting} (i, meeting_of w who y) x = cc in ap (λ z. is_waiting z.1) (sym it) ∙ f
 
-  meet_acts : (w : World V) (who : ℕ) (call : Call) (index : ℕ) (m : Meeting) → is_waiting m ≡ false → Acts B w who call (meet w who call index m)
-  meet_acts w who call index (meetings.Met x) n = at (call_of w x.other) refl
+  meet_acts : (w : World V) (who : ℕ) (call : Call) (index : ℕ) (m : Meeting) → may_meet call ≡ true → is_waiting m ≡ false → Acts B w who call (meet w who call index m)
+  meet_acts w who call index (meetings.Met x) k n = at (call_of w x.other) refl
     where
       at : (o : Option Call) → call_of w x.other ≡ o → Acts B w who call (reply (if_some o w (λ its. reply w x.other (word_of its) (clause_answer its x.clause x.others))) who (word_of call) (clause_answer call index x.answer))
       at None e = replied w w who call (clause_answer call index x.answer) (no_change w)
       at (Some its) e =
           let answer = clause_answer its x.clause x.others in
-          meets x.other its answer e (gives (reply w x.other (word_of its) answer) (reply w x.other (word_of its) answer) who (word_of call) (clause_answer call index x.answer) (no_change (reply w x.other (word_of its) answer)))
-  meet_acts w who call index meetings.Ended n = replied w w who call (clause_answer call index (Fault Epipe)) (no_change w)
-  meet_acts w who call index meetings.Waits n = cc
+          meets x.other its answer k e (gives (reply w x.other (word_of its) answer) (reply w x.other (word_of its) answer) who (word_of call) (clause_answer call index x.answer) (no_change (reply w x.other (word_of its) answer)))
+  meet_acts w who call index meetings.Ended k n = replied w w who call (clause_answer call index (Fault Epipe)) (no_change w)
+  meet_acts w who call index meetings.Waits k n = cc
 
-  channel_acts : (w : World V) (who : ℕ) (call : Call) → Acts B w who call (enter_channel w who call)
-  channel_acts w who call = at (first_done w who 0 (clauses_of call)) refl
+  channel_acts : (w : World V) (who : ℕ) (call : Call) → may_pend call ≡ true → may_meet call ≡ true → Acts B w who call (enter_channel w who call)
+  channel_acts w who call m k = at (first_done w who 0 (clauses_of call)) refl
     where
       at : (o : Option (ℕ × Meeting)) → first_done w who 0 (clauses_of call) ≡ o → Acts B w who call (if_some o (wait_all (pend w who call) who 0 (clauses_of call)) (λ x. meet w who call x.0 x.1))
-      at None e = waits (wait_all_crew (pend w who call) who 0 (clauses_of call))
-      at (Some x) e = meet_acts w who call x.0 x.1 (done_waits w who 0 (clauses_of call) x e)
+      at None e = waits m (wait_all_crew (pend w who call) who 0 (clauses_of call))
+      at (Some x) e = meet_acts w who call x.0 x.1 k (done_waits w who 0 (clauses_of call) x e)
 
   -- ---- links
 
   up_acts : (w v : World V) (who : ℕ) (call : Call) (e : Errno) (kept : ℕ) → SameCrew w v → Acts B w who call (give_stack_up v who call e kept)
   up_acts w v who call e kept s = answered (up_gives w v who call e kept s)
 
-  giving_acts : (w : World V) (who : ℕ) (call : Call) (kept : ℕ) → Acts B w who call (enter_giving_up w who call kept)
-  giving_acts w who call kept =
+  giving_acts : (w : World V) (who : ℕ) (call : Call) (kept : ℕ) → may_pend call ≡ true → Acts B w who call (enter_giving_up w who call kept)
+  giving_acts w who call kept m =
       let taken = if_some (named_by call) w (λ number. take w number who) in
       let own = dropped_for taken call in
       at own (crew_then w taken own (take_named_crew w call who) (besides_crew (dropped_besides taken call))) (given_up_at_once own who call) (parting_of call)
     where
       at : (own : World V) → SameCrew w own → (o : Option Errno) (q : Option Parting) → Acts B w who call (if_some o (if_some q (pend (heat own call true true) who call) (begin_detach own who call)) (λ e. give_stack_up own who call e kept))
-      at own s None None = pends w (heat own call true true) who call (crew_then w own (heat own call true true) s (besides_crew (heat_besides own call true true)))
+      at own s None None = pends w (heat own call true true) who call m (crew_then w own (heat own call true true) s (besides_crew (heat_besides own call true true)))
       at own s None (Some parting) =
           let b = blocks (word_of call) in
           let asked = ask_stack own call (λ random h. detach_start parting random h) in
-          pends w (heat asked call b b) who call (crew_then w own (heat asked call b b) s (besides_crew (besides_then own asked (heat asked call b b) (ask_stack_besides own call (λ random h. detach_start parting random h)) (heat_besides asked call b b))))
+          pends w (heat asked call b b) who call m (crew_then w own (heat asked call b b) s (besides_crew (besides_then own asked (heat asked call b b) (ask_stack_besides own call (λ random h. detach_start parting random h)) (heat_besides asked call b b))))
       at own s (Some e) q = up_acts w own who call e kept s
 
-  on_link_acts : (w : World V) (who : ℕ) (call : Call) → Acts B w who call (perform_on_link w who call)
-  on_link_acts w who call =
+  on_link_acts : (w : World V) (who : ℕ) (call : Call) → may_pend call ≡ true → Acts B w who call (perform_on_link w who call)
+  on_link_acts w who call m =
       let word = word_of call in
       let hot = heat w call false true in
       let more = record w { links = link.keep w.links } in
       let taken = if_some (named_by call) w (λ number. take w number who) in
       let asked = ask_stack taken call (greet_by call) in
-      if_acts (is_send word) w who call (enter_send w who call) _ (pends w (queue hot call) who call (besides_crew (besides_then w hot (queue hot call) (heat_besides w call false true) (queue_besides hot call))))
-      (if_acts (is_receive word) w who call (enter_receive w who call) _ (pends w (heat w call true false) who call (besides_crew (heat_besides w call true false)))
-      (if_acts (gives_up word) w who call (enter_giving_up w who call (draws_of call)) _ (giving_acts w who call (draws_of call))
-      (if_acts (links word) w who call (enter_link w who call) _ (pends w (heat more call true false) who call (besides_crew (besides_then w more (heat more call true false) (with_links w (link.keep w.links) w.random) (heat_besides more call true false))))
+      if_acts (is_send word) w who call (enter_send w who call) _ (pends w (queue hot call) who call m (besides_crew (besides_then w hot (queue hot call) (heat_besides w call false true) (queue_besides hot call))))
+      (if_acts (is_receive word) w who call (enter_receive w who call) _ (pends w (heat w call true false) who call m (besides_crew (heat_besides w call true false)))
+      (if_acts (gives_up word) w who call (enter_giving_up w who call (draws_of call)) _ (giving_acts w who call (draws_of call) m)
+      (if_acts (links word) w who call (enter_link w who call) _ (pends w (heat more call true false) who call m (besides_crew (besides_then w more (heat more call true false) (with_links w (link.keep w.links) w.random) (heat_besides more call true false))))
       (if_acts (is_handshake word) w who call (enter_handshake w who call) (enter_attach w who call)
-      (pends w (heat asked call true true) who call (crew_then w taken (heat asked call true true) (take_named_crew w call who) (besides_crew (besides_then taken asked (heat asked call true true) (ask_stack_besides taken call (greet_by call)) (heat_besides asked call true true)))))
+      (pends w (heat asked call true true) who call m (crew_then w taken (heat asked call true true) (take_named_crew w call who) (besides_crew (besides_then taken asked (heat asked call true true) (ask_stack_besides taken call (greet_by call)) (heat_besides asked call true true)))))
       (replied w (attach_layer w who call) who call (Number (next_number w)) (attach_crew w who call))))))
 
   -- ---- the others
 
   close_acts : (w : World V) (who number : ℕ) (thing : Thing) → Acts B w who (calls.Hclose number) (close_thing w who number thing)
-  close_acts w who number (things.Bundle name) = pends w (close_bundle w who name number) who (calls.Hclose number) (record { coroutines = refl; last = refl })
+  close_acts w who number (things.Bundle name) = pends w (close_bundle w who name number) who (calls.Hclose number) refl (record { coroutines = refl; last = refl })
   close_acts w who number (things.End end) = replied w (release w number) who (calls.Hclose number) (Number 0) (release_crew w number)
   close_acts w who number (things.Listener l) = replied w (release w number) who (calls.Hclose number) (Number 0) (release_crew w number)
   close_acts w who number (things.Socket l) = replied w (release w number) who (calls.Hclose number) (Number 0) (release_crew w number)
@@ -334,7 +357,7 @@ module _ {V : Type 0} (B : V → Type 0) where
   perform_acts p w who view (calls.Print text) k = replied w w who (calls.Print text) (Number 0) (no_change w)
   perform_acts p w who view calls.Now k = replied w w who calls.Now (Number w.moment) (no_change w)
   perform_acts p w who view calls.Yield k = replied w w who calls.Yield (Number 0) (no_change w)
-  perform_acts p w who view (calls.Msleep deadline) k = pends w w who (calls.Msleep deadline) (no_change w)
+  perform_acts p w who view (calls.Msleep deadline) k = pends w w who (calls.Msleep deadline) refl (no_change w)
   perform_acts p w who view (calls.Hmake kind value) k = replied w (make w (things.Value kind value) who) who (calls.Hmake kind value) (Number (next_number w)) (record { coroutines = refl; last = refl })
   perform_acts p w who view (calls.Hquery number kind) k =
       alive_acts w who (calls.Hquery number kind) number (λ x. reply w who words.Hquery (Number (value_of x.thing))) refl (λ x. replied w w who (calls.Hquery number kind) (Number (value_of x.thing)) (no_change w))
@@ -349,13 +372,13 @@ module _ {V : Type 0} (B : V → Type 0) where
       at : (o : Option ℕ) → bundle_named w number ≡ o → Acts B w who (calls.BundleGo number program args) (if_some o w (λ home. reply (start p w view home program args) who words.BundleGo (Number 0)))
       at None e = idles (no_bundle number program args e)
       at (Some home) e = start_acts w w who (calls.BundleGo number program args) (p.child view program (told (next_number w) args)) home (w.last_coroutine + 1) (Number 0) refl (k (next_number w)) (no_change w) (gifts_of args)
-  perform_acts p w who view (calls.BundleWait number deadline) k = pends w w who (calls.BundleWait number deadline) (no_change w)
+  perform_acts p w who view (calls.BundleWait number deadline) k = pends w w who (calls.BundleWait number deadline) refl (no_change w)
   perform_acts p w who view (calls.Pass word fault) k = replied w w who (calls.Pass word fault) (passed_answer fault) (no_change w)
   perform_acts p w who view calls.Chmake k =
       replied w (make (make (record w { channels = channels.make w.channels }) (things.End (channels.next_ends w.channels).0) who) (things.End (channels.next_ends w.channels).1) who) who calls.Chmake (answers.Pair (next_number w) (next_number w + 1)) (record { coroutines = refl; last = refl })
-  perform_acts p w who view (calls.Chsend number bytes deadline) k = channel_acts w who (calls.Chsend number bytes deadline)
-  perform_acts p w who view (calls.Chrecv number size deadline) k = channel_acts w who (calls.Chrecv number size deadline)
-  perform_acts p w who view (calls.Choose deadline all) k = channel_acts w who (calls.Choose deadline all)
+  perform_acts p w who view (calls.Chsend number bytes deadline) k = channel_acts w who (calls.Chsend number bytes deadline) refl refl
+  perform_acts p w who view (calls.Chrecv number size deadline) k = channel_acts w who (calls.Chrecv number size deadline) refl refl
+  perform_acts p w who view (calls.Choose deadline all) k = channel_acts w who (calls.Choose deadline all) refl refl
   perform_acts p w who view (calls.Chdone number) k = at (end_named w number) refl
     where
       at : (o : Option ℕ) → end_named w number ≡ o → Acts B w who (calls.Chdone number) (if_some o w (done_at w who))
@@ -363,4 +386,4 @@ module _ {V : Type 0} (B : V → Type 0) where
       at (Some end) e =
           if_acts (has_ended w.channels end (Send [])) w who (calls.Chdone number) (reply w who words.Chdone (Fault Epipe)) (reply (record w { channels = channels.done w.channels end }) who words.Chdone (Number 0))
           (replied w w who (calls.Chdone number) (Fault Epipe) (no_change w)) (replied w (record w { channels = channels.done w.channels end }) who (calls.Chdone number) (Number 0) (record { coroutines = refl; last = refl }))
-  perform_acts p w who view call k = on_link_acts w who call
+  perform_acts p w who view call k = on_link_acts w who call refl

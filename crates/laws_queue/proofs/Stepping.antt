@@ -84,8 +84,8 @@ module _ {V : Type 0} (p : Program V) where
   acts_leads : (w v : World V) (who : ℕ) (call : Call) → Lives p w.coroutines → Runs p w who → Acts (Begins p) w who call v → Leads p w v
   acts_leads w _ who call l r (idles i) = stays
   acts_leads w v who call l r (answered g) = gives_leads w v who (word_of call) r g
-  acts_leads w v who call l r (waits s) = leads_then p w (pend w who call) v (pend_leads p w who call r) (crew_leads p (pend w who call) v s)
-  acts_leads w v who call l r (meets other its answer e g) =
+  acts_leads w v who call l r (waits m s) = leads_then p w (pend w who call) v (pend_leads p w who call r) (crew_leads p (pend w who call) v s)
+  acts_leads w v who call l r (meets other its answer k e g) =
       let met = reply w other (word_of its) answer in
       leads_then p w met v (reply_leads p w other (word_of its) answer (pending_runs w other its l e)) (gives_leads met v who (word_of call) (runs_replied p w who other (word_of its) answer r) g)
   acts_leads w v who call l r (bore view home b e g) = leads_then p w (bear w view home) v (begins view b) (gives_leads (bear w view home) v who (word_of call) (runs_born p w who view home r) g)

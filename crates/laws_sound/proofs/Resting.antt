@@ -197,8 +197,8 @@ module _ {V : Type 0} where
   still_acts : (w v : World V) (who : ℕ) (call : Call) → (Idles w call → ⊥) → Acts (λ view. Unit {0}) w who call v → Almost w.coroutines who → Still v.coroutines
   still_acts w _ who call busy (idles i) a = absurd (busy i)
   still_acts w v who call busy (answered g) a = almost_gives w v who (word_of call) g a
-  still_acts w v who call busy (waits same) a = still_crew (pend w who call) v same (almost_set who (modes.Pending call) w.coroutines refl a)
-  still_acts w v who call busy (meets other its answer e g) a = almost_gives (reply w other (word_of its) answer) v who (word_of call) g (almost_other who other (modes.Fresh (word_of its) answer) w.coroutines refl a)
+  still_acts w v who call busy (waits m same) a = still_crew (pend w who call) v same (almost_set who (modes.Pending call) w.coroutines refl a)
+  still_acts w v who call busy (meets other its answer k e g) a = almost_gives (reply w other (word_of its) answer) v who (word_of call) g (almost_other who other (modes.Fresh (word_of its) answer) w.coroutines refl a)
   still_acts w v who call busy (bore view home b e g) a =
       almost_gives (bear w view home) v who (word_of call) g (almost_push who w.coroutines (record { number = w.last_coroutine + 1; body = view; mode = modes.Fresh words.Start (Number 0) }) refl a)
 
