@@ -7,8 +7,9 @@ use Rattle.std.proofs.lemmas.Bool.Decides.{nat_tests}
 use Rattle.std.proofs.lemmas.List.{length-map}
 use Rattle.dill_slots.specs.declared.slot.Slot.{Slot}
 use Rattle.dill_slots.specs.declared.slot.Timer.{Timer}
+use Rattle.dill_slots.specs.declared.slot.Waiting.{Waiting}
 use Rattle.dill_slots.specs.Pairs.{each_pair, differ}
-use Rattle.dill_slots.specs.Slots.{Slots, IsConsistent, no_slots, most_slots, is_earlier, is_in_order, are_two_timers, is_timer_of, is_others_timer, placed, not_passed, is_slot, is_other, is_live, is_ready, has_timer, is_new_id, has_lower_id, are_two, is_timed, insert, remove, with_value, set_value, push_ready, pop_ready, clear_timer, expire}
+use Rattle.dill_slots.specs.Slots.{Slots, IsConsistent, no_slots, most_slots, most_clauses, is_earlier, is_in_order, are_two_timers, is_timer_of, is_others_timer, placed, not_passed, is_slot, is_other, is_live, is_ready, has_timer, is_new_id, has_lower_id, are_two, is_timed, insert, remove, with_value, set_value, push_ready, pop_ready, clear_timer, expire, is_others_wait, is_wait_of, is_wait_under, are_two_waits, is_waiting, waits_under, may_wait, wait_on, leave}
 use Rattle.dill_slots.proofs.Keeping.{none_all, all_weaker, all_both, all_added, any_added, pair_added, all_filtered, pair_filtered, any_filtered, length_filtered, all_rest, pair_rest, any_mapped, pair_mapped}
 
 differ_back : (a b : ℕ) → differ a b ≡ true → differ b a ≡ true
@@ -79,6 +80,8 @@ module _ {T : Type 0} where
     in_order = refl;
     once_timed = refl;
     timed_live = refl;
+    once_waiting = refl;
+    waiting_live = refl;
   }
 
   pub consistent_inserted : (s : Slots T) (slot id : ℕ) (value : T) → IsConsistent s → is_new_id s id ≡ true → is_live s slot ≡ false → length s.live < most_slots → IsConsistent (insert s slot id value)
@@ -93,10 +96,12 @@ module _ {T : Type 0} where
         in_order = h.in_order;
         once_timed = h.once_timed;
         timed_live = all_weaker (is_timed s.live) (is_timed (s.live ++ x ∷ [])) (λ t some. any_added (λ (y : Slot T). (y.slot == t.slot) && (y.id == t.id)) s.live x some) s.timers h.timed_live;
+        once_waiting = h.once_waiting;
+        waiting_live = all_weaker (may_wait s.live) (may_wait (s.live ++ x ∷ [])) (λ w both. let parts = and_parts (list_any (is_slot w.slot) s.live) (nat_lt w.clause most_clauses) both in and_from (list_any (is_slot w.slot) (s.live ++ x ∷ [])) (nat_lt w.clause most_clauses) (any_added (is_slot w.slot) s.live x parts.0) parts.1) s.waits h.waiting_live;
       }
 
-  pub consistent_removed : (s : Slots T) (slot : ℕ) → IsConsistent s → is_ready s slot ≡ false → has_timer s slot ≡ false → IsConsistent (remove s slot)
-  consistent_removed s slot h unready untimed = record {
+  pub consistent_removed : (s : Slots T) (slot : ℕ) → IsConsistent s → is_ready s slot ≡ false → has_timer s slot ≡ false → is_waiting s slot ≡ false → IsConsistent (remove s slot)
+  consistent_removed s slot h unready untimed unwaiting = record {
     rising = pair_filtered has_lower_id (is_other slot) s.live h.rising;
     once_live = pair_filtered are_two (is_other slot) s.live h.once_live;
     few = omega (arith, length_filtered (is_other slot) s.live, h.few);
@@ -105,6 +110,8 @@ module _ {T : Type 0} where
     in_order = h.in_order;
     once_timed = h.once_timed;
     timed_live = all_both (is_others_timer slot) (is_timed s.live) (is_timed (filter (is_other slot) s.live)) (λ t two some. any_filtered (λ (y : Slot T). (y.slot == t.slot) && (y.id == t.id)) (is_other slot) (λ y here. other_than y.slot t.slot slot two (and_parts (y.slot == t.slot) (y.id == t.id) here).0) s.live some) s.timers (none_all (is_timer_of slot) s.timers untimed) h.timed_live;
+    once_waiting = h.once_waiting;
+    waiting_live = all_both (is_others_wait slot) (may_wait s.live) (may_wait (filter (is_other slot) s.live)) (λ w two both. let parts = and_parts (list_any (is_slot w.slot) s.live) (nat_lt w.clause most_clauses) both in and_from (list_any (is_slot w.slot) (filter (is_other slot) s.live)) (nat_lt w.clause most_clauses) (any_filtered (is_slot w.slot) (is_other slot) (λ x here. other_than x.slot w.slot slot two here) s.live parts.0) parts.1) s.waits (none_all (is_wait_of slot) s.waits unwaiting) h.waiting_live;
   }
 
   pub consistent_pushed : (s : Slots T) (slot : ℕ) → IsConsistent s → is_live s slot ≡ true → is_ready s slot ≡ false → IsConsistent (push_ready s slot)
@@ -117,6 +124,8 @@ module _ {T : Type 0} where
     in_order = h.in_order;
     once_timed = h.once_timed;
     timed_live = h.timed_live;
+    once_waiting = h.once_waiting;
+    waiting_live = h.waiting_live;
   }
 
   pub consistent_popped : (s : Slots T) → IsConsistent s → IsConsistent (pop_ready s)
@@ -129,6 +138,8 @@ module _ {T : Type 0} where
     in_order = h.in_order;
     once_timed = h.once_timed;
     timed_live = h.timed_live;
+    once_waiting = h.once_waiting;
+    waiting_live = h.waiting_live;
   }
 
   pub consistent_timed : (s : Slots T) (t : Timer) → IsConsistent s → is_timed s.live t ≡ true → has_timer s t.slot ≡ false → IsConsistent (record s { timers = placed t s.timers })
@@ -141,6 +152,8 @@ module _ {T : Type 0} where
     in_order = in_order_placed t s.timers h.in_order;
     once_timed = two_placed t s.timers h.once_timed (all_weaker (is_others_timer t.slot) (are_two_timers t) (λ x two. differ_back x.slot t.slot two) s.timers (none_all (is_timer_of t.slot) s.timers untimed));
     timed_live = all_placed (is_timed s.live) t s.timers live h.timed_live;
+    once_waiting = h.once_waiting;
+    waiting_live = h.waiting_live;
   }
 
   pub consistent_cleared : (s : Slots T) (slot : ℕ) → IsConsistent s → IsConsistent (clear_timer s slot)
@@ -153,6 +166,8 @@ module _ {T : Type 0} where
     in_order = pair_filtered is_in_order (is_others_timer slot) s.timers h.in_order;
     once_timed = pair_filtered are_two_timers (is_others_timer slot) s.timers h.once_timed;
     timed_live = all_filtered (is_timed s.live) (is_others_timer slot) s.timers h.timed_live;
+    once_waiting = h.once_waiting;
+    waiting_live = h.waiting_live;
   }
 
   pub consistent_expired : (s : Slots T) (moment : ℕ) → IsConsistent s → IsConsistent (expire s moment)
@@ -165,6 +180,8 @@ module _ {T : Type 0} where
     in_order = pair_not_passed is_in_order moment s.timers h.in_order;
     once_timed = pair_not_passed are_two_timers moment s.timers h.once_timed;
     timed_live = all_not_passed (is_timed s.live) moment s.timers h.timed_live;
+    once_waiting = h.once_waiting;
+    waiting_live = h.waiting_live;
   }
 
   pub slot_same : (slot : ℕ) (value : T) (x : Slot T) → (with_value slot value x).slot ≡ x.slot
@@ -191,4 +208,36 @@ module _ {T : Type 0} where
     in_order = h.in_order;
     once_timed = h.once_timed;
     timed_live = all_weaker (is_timed s.live) (is_timed (map (with_value slot value) s.live)) (λ t some. timed_same slot value t s.live ∙ some) s.timers h.timed_live;
+    once_waiting = h.once_waiting;
+    waiting_live = all_weaker (may_wait s.live) (may_wait (map (with_value slot value) s.live)) (λ w both. let parts = and_parts (list_any (is_slot w.slot) s.live) (nat_lt w.clause most_clauses) both in and_from (list_any (is_slot w.slot) (map (with_value slot value) s.live)) (nat_lt w.clause most_clauses) (any_same slot value w.slot s.live ∙ parts.0) parts.1) s.waits h.waiting_live;
+  }
+
+  pub consistent_waited : (s : Slots T) (slot clause queue : ℕ) → IsConsistent s → is_live s slot ≡ true → nat_lt clause most_clauses ≡ true → waits_under s slot clause ≡ false → IsConsistent (wait_on s slot clause queue)
+  consistent_waited s slot clause queue h live below new =
+      let w : Waiting = record { slot = slot; clause = clause; queue = queue } in
+      record {
+        rising = h.rising;
+        once_live = h.once_live;
+        few = h.few;
+        once_ready = h.once_ready;
+        ready_live = h.ready_live;
+        in_order = h.in_order;
+        once_timed = h.once_timed;
+        timed_live = h.timed_live;
+        once_waiting = pair_added are_two_waits s.waits w h.once_waiting (none_all (is_wait_under slot clause) s.waits new);
+        waiting_live = all_added (may_wait s.live) s.waits w h.waiting_live (and_from (list_any (is_slot slot) s.live) (nat_lt clause most_clauses) live below);
+      }
+
+  pub consistent_left : (s : Slots T) (slot : ℕ) → IsConsistent s → IsConsistent (leave s slot)
+  consistent_left s slot h = record {
+    rising = h.rising;
+    once_live = h.once_live;
+    few = h.few;
+    once_ready = h.once_ready;
+    ready_live = h.ready_live;
+    in_order = h.in_order;
+    once_timed = h.once_timed;
+    timed_live = h.timed_live;
+    once_waiting = pair_filtered are_two_waits (is_others_wait slot) s.waits h.once_waiting;
+    waiting_live = all_filtered (may_wait s.live) (is_others_wait slot) s.waits h.waiting_live;
   }

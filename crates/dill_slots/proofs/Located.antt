@@ -1,6 +1,6 @@
 -- What stands at the place of a live slot.
 use Rattle.std.proofs.Common.{◌≡◌, ℕ, ◌<◌, List, [], ◌∷◌, length, get_or, set, true, false, refl, sym, ◌∙◌, ap, subst, arith, inl, inr}
-use Rattle.std.specs.Prelude.{◌&&◌, ◌==◌, map, filter, find, Some, None, option_map, unwrap_or, not, nat_le, Result, Ok, Err, OnOk}
+use Rattle.std.specs.Prelude.{◌&&◌, ◌==◌, map, filter, find, slice_get, Bool, Option, Some, None, option_map, unwrap_or, not, nat_le, nat_lt, Result, Ok, Err, OnOk, IfSome}
 use Rattle.std.specs.List.{list_any, list_all, position_or_len, remove}
 use Rattle.std.specs.Result.{is_err}
 use Rattle.std.proofs.lemmas.Bool.{and_from, and_parts, eq-eqb, not-false, cases_Bool, false≢true}
@@ -8,8 +8,9 @@ use Rattle.std.proofs.lemmas.List.Folds.{list_any_at}
 use Rattle.std.proofs.lemmas.List.Sums.{prefix_len_stops}
 use Rattle.dill_slots.specs.declared.slot.Slot.{Slot}
 use Rattle.dill_slots.specs.declared.slot.Timer.{Timer}
+use Rattle.dill_slots.specs.declared.slot.Waiting.{Waiting}
 use Rattle.dill_slots.specs.Pairs.{each_pair, Roomy, roomy}
-use Rattle.dill_slots.specs.Slots.{is_slot, is_other, are_two, with_value, is_timed, set_timer, placed, first_passed}
+use Rattle.dill_slots.specs.Slots.{is_slot, is_other, are_two, with_value, is_timed, set_timer, placed, first_passed, first_of, waits_on, place_of_wait, may_wait, most_clauses}
 use Rattle.dill_slots.specs.Whole.{slots_of}
 use Rattle.dill_slots.proofs.Keeping.{any_weaker}
 use Rattle.dill_slots.proofs.Finding.{position_within, found_where, taken_out, changed_there, two_numbers}
@@ -52,13 +53,13 @@ module _ {T : Type 0} where
       list_any_at (λ (y : Slot T). (y.slot == slot) && (y.id == x.id)) live at x (place_within live slot at h) (subst (λ (y : Slot T). ((y.slot == slot) && (y.id == x.id)) ≡ true) is (and_from (x.slot == slot) (x.id == x.id) there (eq-eqb x.id x.id refl)))
 
   -- the value of other parts
-  pub slots_same : (live live' : List (Slot T)) (ready : Roomy ℕ) (timers : Roomy Timer) → live ≡ live' → slots_of live ready timers ≡ slots_of live' ready timers
-  slots_same live live' ready timers e = ap (λ (l : List (Slot T)). slots_of l ready timers) e
+  pub slots_same : (live live' : List (Slot T)) (ready : Roomy ℕ) (timers : Roomy Timer) (waits : Roomy Waiting) → live ≡ live' → slots_of live ready timers waits ≡ slots_of live' ready timers waits
+  slots_same live live' ready timers waits e = ap (λ (l : List (Slot T)). slots_of l ready timers waits) e
 
-  pub timed_same : (live : List (Slot T)) (ready : Roomy ℕ) (timers timers' : Roomy Timer) (slot at deadline : ℕ) (x : Slot T) → IsPlace live slot at → x ≡ get_or live at x → timers' ≡ roomy (placed (record { deadline = deadline; id = x.id; slot = slot }) timers.items) timers.room
-      → slots_of live ready timers' ≡ set_timer (slots_of live ready timers) slot deadline
-  timed_same live ready timers timers' slot at deadline x h is put =
-      ap (λ (t : Roomy Timer). slots_of live ready t) (put ∙ ap (λ (id : ℕ). roomy (placed (record { deadline = deadline; id = id; slot = slot }) timers.items) timers.room) (sym (id_there live slot at x h is)))
+  pub timed_same : (live : List (Slot T)) (ready : Roomy ℕ) (timers timers' : Roomy Timer) (waits : Roomy Waiting) (slot at deadline : ℕ) (x : Slot T) → IsPlace live slot at → x ≡ get_or live at x → timers' ≡ roomy (placed (record { deadline = deadline; id = x.id; slot = slot }) timers.items) timers.room
+      → slots_of live ready timers' waits ≡ set_timer (slots_of live ready timers waits) slot deadline
+  timed_same live ready timers timers' waits slot at deadline x h is put =
+      ap (λ (t : Roomy Timer). slots_of live ready t waits) (put ∙ ap (λ (id : ℕ). roomy (placed (record { deadline = deadline; id = id; slot = slot }) timers.items) timers.room) (sym (id_there live slot at x h is)))
 
   -- a timer that is passed is one of a live slot
   pub passed_live : (live : List (Slot T)) (moment : ℕ) (timers : List Timer) (t : Timer) → list_all (is_timed live) timers ≡ true → first_passed moment timers ≡ Some t → list_any (is_slot t.slot) live ≡ true
@@ -71,6 +72,32 @@ module _ {T : Type 0} where
             subst (λ (y : Timer). list_any (is_slot y.slot) live ≡ true) here (any_weaker (λ (y : Slot T). (y.slot == x.slot) && (y.id == x.id)) (is_slot x.slot) (λ y both. (and_parts (y.slot == x.slot) (y.id == x.id) both).0) live (and_parts (is_timed live x) (list_all (is_timed live) xs) all).0)
         | inr e ↦ (let none : None ≡ Some t = rw e at is in absurd (cc))
       ]
+
+  -- the first that waits on a queue is one of a live slot
+  pub waiting_is_live : (live : List (Slot T)) (queue : ℕ) (waits : List Waiting) (x : ℕ × ℕ) → list_all (may_wait live) waits ≡ true → first_of queue waits ≡ Some x → list_any (is_slot x.0) live ≡ true
+  waiting_is_live live queue [] x all is = absurd (cc)
+  waiting_is_live live queue (w ∷ ws) x all is =
+      let parts = and_parts (may_wait live w) (list_all (may_wait live) ws) all in
+      elim (cases_Bool (w.queue == queue)) [
+        | inl e ↦
+            let same : Some (w.slot, w.clause) ≡ Some x = rw e at is in
+            let here : (w.slot, w.clause) ≡ x = cc in
+            subst (λ (y : ℕ × ℕ). list_any (is_slot y.0) live ≡ true) here (and_parts (list_any (is_slot w.slot) live) (nat_lt w.clause most_clauses) parts.0).0
+        | inr e ↦ waiting_is_live live queue ws x parts.1 (rw e at is)
+      ]
+
+  -- and so is what was found
+  pub found_is_live : (live : List (Slot T)) (queue : ℕ) (waits : List Waiting) (o : Option (ℕ × ℕ)) → list_all (may_wait live) waits ≡ true → o ≡ first_of queue waits → IfSome o (λ x. list_any (is_slot x.0) live ≡ true)
+  found_is_live live queue waits None all is = tt
+  found_is_live live queue waits (Some x) all is = waiting_is_live live queue waits x all (sym is)
+
+-- the first of those that pass is the first that is found
+pub find_first : {X : Type 0} (p : X → Bool) (xs : List X) → find p xs ≡ slice_get (filter p xs) 0
+find_first p [] = refl
+find_first p (x ∷ xs) = elim (cases_Bool (p x)) [ inl e ↦ rw e refl | inr e ↦ rw e (find_first p xs) ]
+
+pub first_found : (queue : ℕ) (slice waits : List Waiting) (found : Option (ℕ × ℕ)) → slice ≡ waits → found ≡ option_map place_of_wait (find (waits_on queue) slice) → found ≡ first_of queue waits
+first_found queue slice waits found same is = is ∙ ap (λ l. option_map place_of_wait (find (waits_on queue) l)) same ∙ ap (option_map place_of_wait) (find_first (waits_on queue) waits)
 
 -- what holds on success, where there was no error
 pub on_success : {A B : Type 0} {P : Type 0} (r : Result A B) → is_err r ≡ false → OnOk r P → P

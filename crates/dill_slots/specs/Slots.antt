@@ -1,21 +1,55 @@
--- Slots as contracts see them: what is live in order of id, the ready queue, and the timers in their order.
-use Rattle.std.specs.Prelude.{◌≡◌, ℕ, ◌<◌, ◌≤◌, ◌++◌, List, [], ◌∷◌, length, map, filter, find, drop, unwrap_or, Bool, true, not, ◌&&◌, ◌||◌, ◌==◌, nat_lt, nat_le, if◌then◌else◌, Option, Some, None, option_map}
+-- Slots as contracts see them: what is live in order of id, the ready queue, who waits on which queue, and the timers in their order.
+use Rattle.std.specs.Prelude.{◌≡◌, ℕ, ◌<◌, ◌≤◌, ◌++◌, List, [], ◌∷◌, length, map, filter, find, drop, slice_get, unwrap_or, Bool, true, not, ◌&&◌, ◌||◌, ◌==◌, nat_lt, nat_le, if◌then◌else◌, Option, Some, None, option_map}
 use Rattle.std.specs.List.{list_any, list_all}
 use Rattle.dill_slots.specs.Pairs.{each_pair, has, differ}
 use Rattle.dill_slots.specs.declared.slot.Slot.{Slot}
 use Rattle.dill_slots.specs.declared.slot.Timer.{Timer}
+use Rattle.dill_slots.specs.declared.slot.Waiting.{Waiting}
 use Rattle.dill_slots.specs.declared.slot.SlotFault.{SlotFault}
 use Rattle.dill_slots.specs.declared.slot.SlotFault.TheVariants.{Full, NoMemory}
 
--- the live slots in rising id, the slots in the ready queue in order of putting, and the timers by deadline and id
+-- the live slots in rising id, the slots in the ready queue in order of putting, the timers by deadline and id, and what waits on queues in order of putting
 pub record Slots (T : Type 0) : Type 0 where
   pub live : List (Slot T)
   pub ready : List ℕ
   pub timers : List Timer
+  pub waits : List Waiting
 
 -- how many slots are live at most
 abbrev pub most_slots : ℕ
 most_slots = 65536
+
+-- how many clauses of a slot wait at most
+abbrev pub most_clauses : ℕ
+most_clauses = 16
+
+-- it waits on this queue
+abbrev pub waits_on : ℕ → Waiting → Bool
+waits_on queue x = x.queue == queue
+
+-- it is of this slot
+abbrev pub is_wait_of : ℕ → Waiting → Bool
+is_wait_of slot x = x.slot == slot
+
+-- it is of another slot than this
+abbrev pub is_others_wait : ℕ → Waiting → Bool
+is_others_wait slot x = not (x.slot == slot)
+
+-- it is this clause of this slot
+abbrev pub is_wait_under : ℕ → ℕ → Waiting → Bool
+is_wait_under slot clause x = (x.slot == slot) && (x.clause == clause)
+
+-- two that wait are two clauses, or of two slots
+abbrev pub are_two_waits : Waiting → Waiting → Bool
+are_two_waits x y = not ((x.slot == y.slot) && (x.clause == y.clause))
+
+-- its slot and its clause
+abbrev pub place_of_wait : Waiting → ℕ × ℕ
+place_of_wait x = (x.slot, x.clause)
+
+-- the first that waits on a queue
+abbrev pub first_of : ℕ → List Waiting → Option (ℕ × ℕ)
+first_of queue waits = option_map place_of_wait (slice_get (filter (waits_on queue) waits) 0)
 
 -- earlier deadlines first, and of equal ones that of the lower id
 abbrev pub is_earlier : Timer → Timer → Bool
@@ -55,7 +89,7 @@ not_passed moment (x ∷ xs) = if nat_le x.deadline moment then xs else x ∷ xs
 module _ {T : Type 0} where
   -- nothing is live
   abbrev pub no_slots : Slots T
-  no_slots = record { live = []; ready = []; timers = [] }
+  no_slots = record { live = []; ready = []; timers = []; waits = [] }
 
   -- it is the slot of this number
   abbrev pub is_slot : ℕ → Slot T → Bool
@@ -76,6 +110,22 @@ module _ {T : Type 0} where
   -- a slot has a timer
   abbrev pub has_timer : Slots T → ℕ → Bool
   has_timer s slot = list_any (is_timer_of slot) s.timers
+
+  -- a slot waits on some queue
+  abbrev pub is_waiting : Slots T → ℕ → Bool
+  is_waiting s slot = list_any (is_wait_of slot) s.waits
+
+  -- a clause of a slot waits on some queue
+  abbrev pub waits_under : Slots T → ℕ → ℕ → Bool
+  waits_under s slot clause = list_any (is_wait_under slot clause) s.waits
+
+  -- the wait list of a queue, in order of putting
+  abbrev pub wait_list : Slots T → ℕ → List Waiting
+  wait_list s queue = filter (waits_on queue) s.waits
+
+  -- the slot and the clause that stand first in the wait list of a queue
+  abbrev pub first_waiting : Slots T → ℕ → Option (ℕ × ℕ)
+  first_waiting s queue = option_map place_of_wait (slice_get (wait_list s queue) 0)
 
   -- an id is greater than every live one
   abbrev pub is_new_id : Slots T → ℕ → Bool
@@ -133,6 +183,14 @@ module _ {T : Type 0} where
   abbrev pub expire : Slots T → ℕ → Slots T
   expire s moment = record s { timers = not_passed moment s.timers }
 
+  -- a clause of a slot at the end of the wait list of a queue
+  abbrev pub wait_on : Slots T → ℕ → ℕ → ℕ → Slots T
+  wait_on s slot clause queue = record s { waits = s.waits ++ record { slot = slot; clause = clause; queue = queue } ∷ [] }
+
+  -- a slot is on no wait list
+  abbrev pub leave : Slots T → ℕ → Slots T
+  leave s slot = record s { waits = filter (is_others_wait slot) s.waits }
+
   -- two slots with rising ids
   abbrev pub has_lower_id : Slot T → Slot T → Bool
   has_lower_id x y = nat_lt x.id y.id
@@ -145,7 +203,11 @@ module _ {T : Type 0} where
   abbrev pub is_timed : List (Slot T) → Timer → Bool
   is_timed live x = list_any (λ y. (y.slot == x.slot) && (y.id == x.id)) live
 
-  -- what holds of slots: ids rise, a number is live once, ready once and has one timer, what is ready or has a timer is live, and the timers are in order
+  -- a clause that waits is one of a live slot
+  abbrev pub may_wait : List (Slot T) → Waiting → Bool
+  may_wait live x = list_any (is_slot x.slot) live && nat_lt x.clause most_clauses
+
+  -- what holds of slots: ids rise, a number is live once, ready once and has one timer, a clause waits once, what is ready, has a timer or waits is live, and the timers are in order
   pub record IsConsistent (s : Slots T) : Type 0 where
     pub rising : each_pair has_lower_id s.live ≡ true
     pub once_live : each_pair are_two s.live ≡ true
@@ -155,6 +217,8 @@ module _ {T : Type 0} where
     pub in_order : each_pair is_in_order s.timers ≡ true
     pub once_timed : each_pair are_two_timers s.timers ≡ true
     pub timed_live : list_all (is_timed s.live) s.timers ≡ true
+    pub once_waiting : each_pair are_two_waits s.waits ≡ true
+    pub waiting_live : list_all (may_wait s.live) s.waits ≡ true
 
   -- the value comes back, and there are 65,536 slots or there is want of memory
   abbrev pub Refuses : Slots T → T → SlotFault T → Type 0

@@ -1,4 +1,4 @@
-//! Slots: numbered places for values in rising id, with a ready queue and timers.
+//! Slots: numbered places for values in rising id, with a ready queue, wait lists and timers.
 //! It decides nothing: who is put where, and when, is the caller's matter.
 #![tactic(auto)]
 
@@ -8,7 +8,8 @@ mod slot;
 mod slots;
 mod steps;
 mod timers;
+mod waits;
 
-pub use slot::{Slot, SlotFault, Timer};
+pub use slot::{Slot, SlotFault, Timer, Waiting};
 pub use slots::Slots;
 pub use steps::Steps;

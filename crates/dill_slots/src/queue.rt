@@ -1,34 +1,37 @@
-ghost use Rattle.std.specs.Prelude.{◌≡◌, ◌≤◌, ◌<◌, ◌++◌, ◌∷◌, [], length, drop, slice_get, OnOk, OnErr, max};
+ghost use Rattle.std.specs.Prelude.{◌≡◌, ◌≤◌, ◌<◌, ◌++◌, ◌∷◌, [], length, drop, filter, slice_get, OnOk, OnErr, max};
 ghost use Rattle.dill_slots.specs.Pairs.{roomy};
+ghost use Rattle.dill_slots.specs.Slots.{is_others_wait};
 
+use crate::Waiting;
+use crate::waits::keep_others;
 use dill_base::NoMemory;
 use std::alloc::Global;
 use std::marker::Model;
 
-/// Numbers, first come first, and how many there is room for. A push takes no memory.
+/// Elements, first come first, and how many there is room for. A push takes no memory.
 #[derive(Drop)]
-pub(crate) struct Queue {
-    numbers: Vec<u32>,
+pub(crate) struct Queue<T> {
+    items: Vec<T>,
     room: usize,
 }
 
-impl Model for Queue {
-    ghost use Rattle.std.specs.Prelude.{ℕ, ◌≤◌, vec_capacity};
+impl<T> Model for Queue<T> {
+    ghost use Rattle.std.specs.Prelude.{◌≤◌, vec_capacity};
     ghost use Rattle.dill_slots.specs.Pairs.{Roomy, roomy};
 
-    ghost Value = { Roomy ℕ };
+    ghost Value = { Roomy T };
 
-    ghost view = { λ q. roomy q.numbers.items q.room };
+    ghost view = { λ q. roomy q.items.items q.room };
 
-    ghost invariant = { λ q. q.room ≤ vec_capacity q.numbers };
+    ghost invariant = { λ q. q.room ≤ vec_capacity q.items };
 }
 
-impl Queue {
-    pub(crate) fn new(alloc: Global) -> Queue
+impl<T: Copy + Drop> Queue<T> {
+    pub(crate) fn new(alloc: Global) -> Queue<T>
         ensures { result ≡ roomy [] 0 }
     {
         Queue {
-            numbers: Vec::new(alloc),
+            items: Vec::new(alloc),
             room: 0,
         }
     }
@@ -38,8 +41,8 @@ impl Queue {
         ensures ok { OnOk result (self.new ≡ roomy self.old.items (max self.old.room room)) }
         ensures err { OnErr result (self.new ≡ self.old) }
     {
-        let more = room.saturating_sub(self.numbers.len());
-        match self.numbers.reserve(more) {
+        let more = room.saturating_sub(self.items.len());
+        match self.items.reserve(more) {
             Ok(()) => {
                 self.room = self.room.max(room);
                 Ok(())
@@ -51,24 +54,39 @@ impl Queue {
     pub(crate) fn len(&self) -> usize
         ensures { result ≡ length self.now.items }
     {
-        self.numbers.len()
+        self.items.len()
     }
 
-    pub(crate) fn push(&mut self, number: u32)
+    pub(crate) fn push(&mut self, item: T)
         requires { length self.old.items < self.old.room }
-        ensures { self.new ≡ roomy (self.old.items ++ number ∷ []) self.old.room }
+        ensures { self.new ≡ roomy (self.old.items ++ item ∷ []) self.old.room }
     {
-        self.numbers.push_reserved(number);
+        self.items.push_reserved(item);
     }
 
     /// Takes the first, if there is one.
-    pub(crate) fn pop(&mut self) -> Option<u32>
+    pub(crate) fn pop(&mut self) -> Option<T>
         ensures first { result ≡ slice_get self.old.items 0 }
         ensures rest { self.new ≡ roomy (drop 1 self.old.items) self.old.room }
     {
-        if self.numbers.is_empty() {
+        if self.items.is_empty() {
             return None;
         }
-        Some(self.numbers.remove(0))
+        Some(self.items.remove(0))
+    }
+}
+
+impl Queue<Waiting> {
+    pub(crate) fn as_slice(&self) -> &[Waiting]
+        ensures { result.now ≡ self.now.items }
+    {
+        self.items.as_slice()
+    }
+
+    /// Takes all that a slot waits for out.
+    pub(crate) fn leave(&mut self, slot: u32)
+        ensures { self.new ≡ roomy (filter (is_others_wait slot) self.old.items) self.old.room }
+    {
+        keep_others(&mut self.items, slot);
     }
 }

@@ -14,6 +14,14 @@ pub struct Timer {
     pub slot: u32,
 }
 
+/// A clause of the slot of this number, which waits on a queue.
+#[derive(Clone, Copy, Debug, PartialEq, Eq)]
+pub struct Waiting {
+    pub slot: u32,
+    pub clause: u8,
+    pub queue: u64,
+}
+
 /// Why a value was not put into a slot. It comes back.
 #[derive(Debug, Drop)]
 pub enum SlotFault<T> {

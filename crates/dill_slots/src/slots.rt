@@ -1,12 +1,13 @@
 ghost use Rattle.std.specs.Prelude.{◌≡◌, ◌+◌, ◌<◌, ◌≤◌, length, true, false, slice_get, Some, option_map, IfOk, IfErr, OnOk, OnErr, IfSome, vec_len, vec_capacity};
 ghost use Rattle.std.specs.Borrow.{sem};
-ghost use Rattle.dill_slots.specs.Slots.{no_slots, most_slots, is_new_id, is_live, is_ready, has_timer, value_at, insert as inserted, remove as removed, push_ready, pop_ready, set_timer as timed, clear_timer as cleared, expire as expired, first_passed, IsConsistent, Refuses};
+ghost use Rattle.dill_slots.specs.Slots.{no_slots, most_slots, most_clauses, is_new_id, is_live, is_ready, has_timer, is_waiting, waits_under, wait_on as put_on, first_waiting, leave, value_at, insert as inserted, remove as removed, push_ready, pop_ready, set_timer as timed, clear_timer as cleared, expire as expired, first_passed, IsConsistent, Refuses};
 ghost use Rattle.dill_slots.specs.Whole.{Grows, FitsOneMore};
 
 use crate::place::place_of;
 use crate::queue::Queue;
 use crate::timers::Timers;
-use crate::{Slot, SlotFault, Steps, Timer};
+use crate::waits::first_on;
+use crate::{Slot, SlotFault, Steps, Timer, Waiting};
 use dill_base::NoMemory;
 use std::alloc::Global;
 use std::marker::Model;
@@ -15,13 +16,18 @@ use std::sync::ledger::Ledger;
 /// How many slots are live at most.
 const MOST: usize = 65_536;
 
-/// At most 65,536 values under the numbers of their slots, in rising id; a queue of slots that are ready; and timers.
+/// How many clauses of a slot wait at most.
+const CLAUSES: usize = 16;
+
+/// At most 65,536 values under the numbers of their slots, in rising id; a queue of slots that are ready; what each
+/// slot waits on, in the order of waiting; and timers.
 #[derive(Drop)]
 pub struct Slots<T> {
     live: Vec<Slot<T>>,
-    free: Queue,
-    ready: Queue,
+    free: Queue<u32>,
+    ready: Queue<u32>,
     timers: Timers,
+    waits: Queue<Waiting>,
 }
 
 impl<T> Model for Slots<T> {
@@ -31,30 +37,33 @@ impl<T> Model for Slots<T> {
 
     ghost use Rattle.dill_slots.specs.Whole.{slots_of, IsWhole};
 
-    ghost view = { λ s. slots_of s.live.items s.ready s.timers };
+    ghost view = { λ s. slots_of s.live.items s.ready s.timers s.waits };
 
-    ghost invariant = { λ s. IsWhole s.live.items s.free s.ready s.timers };
+    ghost invariant = { λ s. IsWhole s.live.items s.free s.ready s.timers s.waits };
 }
 
 /// Makes room for one more live slot in each part, or leaves what there is.
 fn make_room<T>(
     live: &mut Vec<Slot<T>>,
-    free: &mut Queue,
-    ready: &mut Queue,
+    free: &mut Queue<u32>,
+    ready: &mut Queue<u32>,
     timers: &mut Timers,
+    waits: &mut Queue<Waiting>,
 ) -> Result<(), NoMemory>
     requires { vec_len live.old + length free.old.items ≤ most_slots }
     ensures live { live.new.items ≡ live.old.items }
     ensures free { Grows free.old free.new }
     ensures ready { Grows ready.old ready.new }
     ensures timers { Grows timers.old timers.new }
-    ensures ok { OnOk result (FitsOneMore (length live.old.items) free.new ready.new timers.new) }
+    ensures waits { Grows waits.old waits.new }
+    ensures ok { OnOk result (FitsOneMore (length live.old.items) free.new ready.new timers.new waits.new) }
     ensures room { OnOk result (vec_len live.new < vec_capacity live.new) }
 {
     let count = live.len() + 1;
     free.make_room(count + free.len())?;
     ready.make_room(count)?;
     timers.make_room(count)?;
+    waits.make_room(count * CLAUSES)?;
     match live.reserve(1) {
         Ok(()) => Ok(()),
         Err(_) => Err(NoMemory),
@@ -73,6 +82,7 @@ impl<T> Slots<T> {
             free: Queue::new(alloc),
             ready: Queue::new(alloc),
             timers: Timers::new(alloc),
+            waits: Queue::new(alloc),
         }
     }
 
@@ -125,6 +135,7 @@ impl<T> Slots<T> {
             &mut self.free,
             &mut self.ready,
             &mut self.timers,
+            &mut self.waits,
         );
         if made.is_err() {
             return Err(SlotFault::NoMemory(value));
@@ -134,11 +145,12 @@ impl<T> Slots<T> {
         Ok(slot)
     }
 
-    /// Takes the value out of a slot that is neither ready nor has a timer. Its number is free again.
+    /// Takes the value out of a slot that isn't ready, waits on nothing and has no timer. Its number is free again.
     pub fn remove<L: Ledger>(&mut self, slot: u32, steps: &mut Steps<L>) -> T
         requires live { is_live self.old slot ≡ true }
         requires unready { is_ready self.old slot ≡ false }
         requires untimed { has_timer self.old slot ≡ false }
+        requires unwaiting { is_waiting self.old slot ≡ false }
         ensures value { value_at self.old slot ≡ Some result }
         ensures rest { self.new ≡ removed self.old slot }
         ensures counted { steps.old < steps.new }
@@ -173,6 +185,42 @@ impl<T> Slots<T> {
     {
         steps.tick();
         self.ready.pop()
+    }
+
+    /// A clause of a slot waits on a queue, behind all that wait there. It waits on none yet.
+    pub fn wait_on<L: Ledger>(&mut self, slot: u32, clause: u8, queue: u64, steps: &mut Steps<L>)
+        requires live { is_live self.old slot ≡ true }
+        requires clause { clause < most_clauses }
+        requires new { waits_under self.old slot clause ≡ false }
+        ensures waits { self.new ≡ put_on self.old slot clause queue }
+        ensures counted { steps.old < steps.new }
+    {
+        steps.tick();
+        self.waits.push(Waiting {
+            slot,
+            clause,
+            queue,
+        });
+    }
+
+    /// The slot and the clause that have waited longest on a queue, if any waits there.
+    pub fn first_waiting<L: Ledger>(&self, queue: u64, steps: &mut Steps<L>) -> Option<(u32, u8)>
+        ensures first { result ≡ first_waiting self.now queue }
+        ensures live { IfSome result (λ x. is_live self.now x.0 ≡ true) }
+        ensures counted { steps.old < steps.new }
+    {
+        steps.tick();
+        first_on(self.waits.as_slice(), queue)
+    }
+
+    /// A slot waits on nothing any more.
+    pub fn leave<L: Ledger>(&mut self, slot: u32, steps: &mut Steps<L>)
+        requires { is_live self.old slot ≡ true }
+        ensures left { self.new ≡ leave self.old slot }
+        ensures counted { steps.old < steps.new }
+    {
+        steps.tick();
+        self.waits.leave(slot);
     }
 
     /// Gives a slot that has no timer one, in milliseconds since the start.

@@ -15,14 +15,14 @@ invariant_of-self-lent g c = λ w.
     let some = rw (← c.self.view_is) at c.requires in
     let place = place_in _ _ c.args.slot c.place_of-at.result some c.as_slice.ensures.value c.place_of-at.ensures.place in
     let h = c.self.inside in
-    subst (λ l. IsWhole l h.free h.ready h.timers) (sym (set_there h.live.items c.args.slot c.place_of-at.result c.index_mut-held.result.now w place c.self.invariant.consistent.once_live c.index_mut-held.ensures.value)) (whole_changed h.live.items h.free h.ready h.timers c.args.slot w c.self.invariant)
+    subst (λ l. IsWhole l h.free h.ready h.timers h.waits) (sym (set_there h.live.items c.args.slot c.place_of-at.result c.index_mut-held.result.now w place c.self.invariant.consistent.once_live c.index_mut-held.ensures.value)) (whole_changed h.live.items h.free h.ready h.timers h.waits c.args.slot w c.self.invariant)
 
 pub returns : goal.returns
 returns g c =
     let some = rw (← c.self.view_is) at c.requires in
     let place = place_in _ _ c.args.slot c.place_of-at.result some c.as_slice.ensures.value c.place_of-at.ensures.place in
     let h = c.self.inside in (
-      (refl, λ w. rw (← c.self.view_is) (slots_same _ _ h.ready h.timers (set_there h.live.items c.args.slot c.place_of-at.result c.index_mut-held.result.now w place c.self.invariant.consistent.once_live c.index_mut-held.ensures.value))),
+      (refl, λ w. rw (← c.self.view_is) (slots_same _ _ h.ready h.timers h.waits (set_there h.live.items c.args.slot c.place_of-at.result c.index_mut-held.result.now w place c.self.invariant.consistent.once_live c.index_mut-held.ensures.value))),
       record {
         writes_back = tt;
         value = rw (← c.self.view_is) (value_there _ c.args.slot c.place_of-at.result c.index_mut-held.result.now place c.index_mut-held.ensures.value);

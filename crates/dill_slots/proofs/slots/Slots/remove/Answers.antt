@@ -16,9 +16,10 @@ invariant_of-self g c =
     let place = place_in _ _ c.args.slot c.place_of-at.result some c.as_slice.ensures.value c.place_of-at.ensures.place in
     let unready = rw (← c.self.view_is) at c.requires.unready in
     let untimed = rw (← c.self.view_is) at c.requires.untimed in
+    let unwaiting = rw (← c.self.view_is) at c.requires.unwaiting in
     let h = c.self.inside in
     let within = place_within h.live.items c.args.slot c.place_of-at.result place in
-    whole_removed h.live.items _ h.free _ h.ready h.timers c.args.slot c.self.invariant some unready untimed (c.remove-value.ensures.items ∙ removed_there h.live.items c.args.slot c.place_of-at.result place c.self.invariant.consistent.once_live) (omega (arith, ap length c.remove-value.ensures.items, length-remove h.live.items c.place_of-at.result within)) c.push.ensures
+    whole_removed h.live.items _ h.free _ h.ready h.timers h.waits c.args.slot c.self.invariant some unready untimed unwaiting (c.remove-value.ensures.items ∙ removed_there h.live.items c.args.slot c.place_of-at.result place c.self.invariant.consistent.once_live) (omega (arith, ap length c.remove-value.ensures.items, length-remove h.live.items c.place_of-at.result within)) c.push.ensures
 
 pub returns-clause-value : goal.returns-clause-value
 returns-clause-value g c =
@@ -31,4 +32,4 @@ returns-clause-rest g c =
     let some = rw (← c.self.view_is) at c.requires.live in
     let place = place_in _ _ c.args.slot c.place_of-at.result some c.as_slice.ensures.value c.place_of-at.ensures.place in
     let h = c.self.inside in
-    rw (← c.self.view_is) (slots_same _ _ h.ready h.timers (c.remove-value.ensures.items ∙ removed_there h.live.items c.args.slot c.place_of-at.result place c.self.invariant.consistent.once_live))
+    rw (← c.self.view_is) (slots_same _ _ h.ready h.timers h.waits (c.remove-value.ensures.items ∙ removed_there h.live.items c.args.slot c.place_of-at.result place c.self.invariant.consistent.once_live))

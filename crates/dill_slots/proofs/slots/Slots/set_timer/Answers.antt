@@ -17,7 +17,7 @@ put-requires g c =
     let place = place_in _ _ c.args.slot c.place_of-at.result some c.as_slice.ensures.value c.place_of-at.ensures.place in
     let untimed = rw (← c.self.view_is) at c.requires.untimed in
     let h = c.self.inside in
-    timer_fits h.live.items h.free h.ready h.timers (record { deadline = c.args.deadline; id = c.index.result.now.id; slot = c.args.slot }) c.self.invariant (timed_there h.live.items c.args.slot c.place_of-at.result c.args.deadline c.index.result.now place c.index.ensures) untimed
+    timer_fits h.live.items h.free h.ready h.timers h.waits (record { deadline = c.args.deadline; id = c.index.result.now.id; slot = c.args.slot }) c.self.invariant (timed_there h.live.items c.args.slot c.place_of-at.result c.args.deadline c.index.result.now place c.index.ensures) untimed
 
 pub invariant_of-self : goal.invariant_of-self
 invariant_of-self g c =
@@ -25,11 +25,11 @@ invariant_of-self g c =
     let place = place_in _ _ c.args.slot c.place_of-at.result some c.as_slice.ensures.value c.place_of-at.ensures.place in
     let untimed = rw (← c.self.view_is) at c.requires.untimed in
     let h = c.self.inside in
-    rw c.put.ensures.put (whole_timed h.live.items h.free h.ready h.timers _ c.self.invariant refl (consistent_timed (slots_of h.live.items h.ready h.timers) _ c.self.invariant.consistent (timed_there h.live.items c.args.slot c.place_of-at.result c.args.deadline c.index.result.now place c.index.ensures) untimed))
+    rw c.put.ensures.put (whole_timed h.live.items h.free h.ready h.timers _ h.waits c.self.invariant refl (consistent_timed (slots_of h.live.items h.ready h.timers h.waits) _ c.self.invariant.consistent (timed_there h.live.items c.args.slot c.place_of-at.result c.args.deadline c.index.result.now place c.index.ensures) untimed))
 
 pub returns-clause-timed : goal.returns-clause-timed
 returns-clause-timed g c =
     let some = rw (← c.self.view_is) at c.requires.live in
     let place = place_in _ _ c.args.slot c.place_of-at.result some c.as_slice.ensures.value c.place_of-at.ensures.place in
     let h = c.self.inside in
-    rw (← c.self.view_is) (timed_same h.live.items h.ready h.timers _ c.args.slot c.place_of-at.result c.args.deadline c.index.result.now place c.index.ensures c.put.ensures.put)
+    rw (← c.self.view_is) (timed_same h.live.items h.ready h.timers _ h.waits c.args.slot c.place_of-at.result c.args.deadline c.index.result.now place c.index.ensures c.put.ensures.put)
