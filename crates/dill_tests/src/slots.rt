@@ -102,3 +102,29 @@ fn timers_pass<L: Ledger>(rt: &(impl Abort + AllocGlobal), blank: Blank) -> Resu
 fn timers_pass_by_deadline_and_then_id(rt: HostRuntime) -> Result<(), Fail> {
     timers_pass::<Brand>(&rt, Blank::new(1))
 }
+
+fn waiters_are_found<L: Ledger>(rt: &(impl Abort + AllocGlobal), blank: Blank) -> Result<(), Fail>
+    requires name { blank.name ≡ L.name }
+    requires parts { blank.parts ≡ L.parts }
+    requires one { blank.parts ≡ 1 }
+{
+    let mut steps: Steps<L> = Steps::new(blank);
+    let mut slots: Slots<u32> = Slots::new(rt.alloc());
+    let first = put(&mut slots, 3, 30)?;
+    let second = put(&mut slots, 5, 50)?;
+    slots.wait_on(second, 0, 7, &mut steps);
+    slots.wait_on(first, 1, 7, &mut steps);
+    slots.wait_on(first, 2, 8, &mut steps);
+    assert_eq!(rt; slots.first_waiting(7, &mut steps), Some((second, 0)));
+    assert_eq!(rt; slots.first_waiting(8, &mut steps), Some((first, 2)));
+    slots.leave(second, &mut steps);
+    assert_eq!(rt; slots.first_waiting(7, &mut steps), Some((first, 1)));
+    slots.leave(first, &mut steps);
+    assert_eq!(rt; slots.first_waiting(8, &mut steps), None);
+    Ok(())
+}
+
+#[test]
+fn who_has_waited_longest_is_found_first(rt: HostRuntime) -> Result<(), Fail> {
+    waiters_are_found::<Brand>(&rt, Blank::new(1))
+}
