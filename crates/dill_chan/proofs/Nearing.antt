@@ -1,0 +1,64 @@
+-- The least waiter that has its end, one clause after the other.
+use Rattle.std.proofs.Common.{◌≡◌, ◌∙◌, ℕ, List, [], ◌∷◌, Bool, true, false, Option, Some, None, refl, sym, ap, arith, inl, inr}
+use Rattle.std.specs.Prelude.{◌==◌, ◌&&◌, ◌||◌, nat_lt, filter, option_map}
+use Rattle.std.proofs.lemmas.Bool.{cases_Bool}
+use Rattle.std.proofs.lemmas.Bool.Decides.{nat_tests}
+use Rattle.dill_chan.specs.declared.end.End.{End}
+use Rattle.dill_chan.specs.declared.end.Wait.{Wait}
+use Rattle.dill_chan.specs.Channels.{Channels}
+use Rattle.dill_chan.specs.Meetings.{is_before, first_of_two, first_wait, next_ended}
+use Rattle.dill_chan.specs.Seats.{is_ended, closer, ended_in, of_ends, channels_of}
+
+-- one comes before another
+abbrev before : ℕ × ℕ → ℕ × ℕ → Bool
+before a b = nat_lt a.0 b.0 || (a.0 == b.0 && nat_lt a.1 b.1)
+
+before_through : (a b c d e f : ℕ) → (nat_lt a c || (a == c && nat_lt b d)) ≡ true → (nat_lt c e || (c == e && nat_lt d f)) ≡ true → (nat_lt a e || (a == e && nat_lt b f)) ≡ true
+before_through a b c d e f h k = grind (arith, nat_tests)
+
+behind_through : (a b c d e f : ℕ) → (nat_lt a c || (a == c && nat_lt b d)) ≡ false → (nat_lt c e || (c == e && nat_lt d f)) ≡ false → (nat_lt a e || (a == e && nat_lt b f)) ≡ false
+behind_through a b c d e f h k = grind (arith, nat_tests)
+
+closer_some : (a b c : ℕ × ℕ) → closer (closer (Some a) (Some b)) (Some c) ≡ closer (Some a) (closer (Some b) (Some c))
+closer_some a b c =
+    elim (cases_Bool (before a b)) [
+      | inl e ↦
+          elim (cases_Bool (before b c)) [
+            | inl k ↦ rw (e, k, before_through a.0 a.1 b.0 b.1 c.0 c.1 e k, e) refl
+            | inr k ↦ rw (e, k) refl
+          ]
+      | inr e ↦
+          elim (cases_Bool (before b c)) [
+            | inl k ↦ rw (e, k, e) refl
+            | inr k ↦ rw (e, k, behind_through a.0 a.1 b.0 b.1 c.0 c.1 e k) refl
+          ]
+    ]
+
+pub closer_none : (a : Option (ℕ × ℕ)) → closer a None ≡ a
+closer_none None = refl
+closer_none (Some a) = refl
+
+pub closer_three : (a b c : Option (ℕ × ℕ)) → closer (closer a b) c ≡ closer a (closer b c)
+closer_three None b c = refl
+closer_three (Some a) None c = refl
+closer_three (Some a) (Some b) None = closer_none (closer (Some a) (Some b))
+closer_three (Some a) (Some b) (Some c) = closer_some a b c
+
+nearer : (x : Wait) (o : Option Wait) → option_map (λ x. (x.who, x.clause)) (first_of_two x o) ≡ closer (Some (x.who, x.clause)) (option_map (λ x. (x.who, x.clause)) o)
+nearer x None = refl
+nearer x (Some y) = elim (cases_Bool (is_before x y)) [ inl e ↦ rw e refl | inr e ↦ rw e refl ]
+
+-- it is the least by the definition
+pub ended_is : (c : Channels) (after : ℕ) (waits : List Wait) → ended_in c after waits ≡ option_map (λ x. (x.who, x.clause)) (first_wait (filter (is_ended c after) waits))
+ended_is c after [] = refl
+ended_is c after (x ∷ xs) =
+    let rest = ended_is c after xs in
+    elim (cases_Bool (is_ended c after x)) [
+      | inl e ↦ rw e (ap (closer (Some (x.who, x.clause))) rest ∙ sym (nearer x (first_wait (filter (is_ended c after) xs))))
+      | inr e ↦ rw e rest
+    ]
+
+-- and so is what was found of slices
+pub next_is : (ends slice : List End) (waits others : List Wait) (last after : ℕ) (found : Option (ℕ × ℕ)) → slice ≡ ends → others ≡ waits → found ≡ ended_in (of_ends slice) after others → found ≡ next_ended (channels_of ends waits last) after
+next_is ends slice waits others last after found same also is =
+    is ∙ ap (λ l. ended_in (of_ends l) after others) same ∙ ap (ended_in (of_ends ends) after) also ∙ ended_is (of_ends ends) after waits

@@ -1,0 +1,249 @@
+ghost use Rattle.std.specs.Prelude.{◌≡◌, ◌+◌, ◌*◌, ◌<◌, ◌≤◌, ◌==◌, [], filter, length, true, false, not, IfOk, OnOk, OnErr, vec_capacity, vec_len};
+ghost use Rattle.dill_chan.specs.Channels as channels;
+ghost use Rattle.dill_chan.specs.Channels.{is_live, next_ends};
+ghost use Rattle.dill_chan.specs.Meetings as meetings;
+ghost use Rattle.dill_chan.specs.Meetings.{meeting, has_ended, next_ended};
+ghost use Rattle.dill_chan.specs.declared.end.Want.TheVariants.{Send, Recv};
+ghost use Rattle.dill_chan.specs.Seats as seats;
+ghost use Rattle.dill_chan.specs.Seats.{nobody, has_seat, is_above_all, is_waiting, waits_under, entered, channels_of, on_channels, most_seats, most_clauses};
+
+use crate::ends::{find_end, has_ended, mark_done, remove_end, send_has_ended};
+use crate::waits::{leave, meet, next_ended, take_partner};
+use crate::{End, Meeting, Wait, Want};
+use dill_base::{NoMemory, Octets};
+use dill_slots::Steps;
+use std::alloc::Global;
+use std::marker::Model;
+use std::sync::ledger::Ledger;
+
+/// How many clauses of a coroutine wait at most.
+const CLAUSES: usize = 16;
+
+/// Channels without room, and the coroutines that may wait at their ends. Each call looks at all of them.
+#[derive(Drop)]
+pub struct Channels {
+    ends: Vec<End>,
+    waits: Vec<Wait>,
+    seats: Vec<u64>,
+    last: u64,
+}
+
+impl Model for Channels {
+    ghost use Rattle.std.specs.Prelude.{vec_capacity};
+    ghost use Rattle.dill_chan.specs.Seats.{Seated, seated, IsHeld};
+
+    ghost Value = { Seated };
+
+    ghost view = { λ c. seated c.ends.items c.waits.items c.seats.items c.last };
+
+    ghost invariant = { λ c. IsHeld c.waits.items c.seats.items (vec_capacity c.waits) };
+}
+
+/// A clause is entered at an end: it has its end, or meets the clause that has waited longest, or waits.
+fn enter(ends: &[End], waits: &mut Vec<Wait>, wait: Wait) -> Meeting
+    requires { vec_len waits.old < vec_capacity waits.old }
+    ensures met { result ≡ meeting (channels_of ends.now waits.old.items 0) wait.who wait.end wait.want }
+    ensures left { waits.new.items ≡ (entered (channels_of ends.now waits.old.items 0) wait).waits }
+    ensures capacity { vec_capacity waits.new ≡ vec_capacity waits.old }
+{
+    if has_ended(ends, wait.end, &wait.want) {
+        return Meeting::Ended;
+    }
+    let other = match find_end(ends, wait.end) {
+        Some(here) => here.other,
+        None => return Meeting::Ended,
+    };
+    match take_partner(waits, wait.who, other, &wait.want) {
+        Some(found) => Meeting::Met(meet(wait.want, found)),
+        None => {
+            waits.push_reserved(wait);
+            Meeting::Waits
+        }
+    }
+}
+
+/// A coroutine has no seat any more.
+fn stand_up(seats: &mut Vec<u64>, who: u64)
+    ensures { seats.new.items ≡ filter (λ other. not (other == who)) seats.old.items }
+{
+    seats.retain(|other| *other != who);
+}
+
+impl Channels {
+    /// No channels, and no seats. It takes no memory.
+    pub fn new(alloc: Global) -> Channels
+        ensures { result ≡ nobody }
+    {
+        Channels {
+            ends: Vec::new(alloc),
+            waits: Vec::new(alloc),
+            seats: Vec::new(alloc),
+            last: 0,
+        }
+    }
+
+    /// A new channel. Answers the names of its two ends. Refused, it changes nothing.
+    pub fn make(&mut self) -> Result<(u64, u64), NoMemory>
+        requires { self.old.channels.last + 1 < 9223372036854775808 }
+        ensures names { IfOk result (λ ends. ends ≡ next_ends self.old.channels) }
+        ensures ok { OnOk result (self.new ≡ on_channels channels.make self.old) }
+        ensures err { OnErr result (self.new ≡ self.old) }
+    {
+        match self.ends.reserve(2) {
+            Ok(()) => {}
+            Err(_) => return Err(NoMemory),
+        }
+        let first = self.last + 1;
+        let second = self.last + 2;
+        self.ends.push_reserved(End {
+            name: first,
+            other: second,
+            done: false,
+        });
+        self.ends.push_reserved(End {
+            name: second,
+            other: first,
+            done: false,
+        });
+        self.last = second;
+        Ok((first, second))
+    }
+
+    /// A seat for a coroutine of a greater number than all that have one: room for its 16 clauses. Refused, it changes nothing.
+    pub fn seat(&mut self, who: u64) -> Result<(), NoMemory>
+        requires above { is_above_all self.old who ≡ true }
+        requires few { length self.old.seats < most_seats }
+        ensures ok { OnOk result (self.new ≡ seats.seat self.old who) }
+        ensures err { OnErr result (self.new ≡ self.old) }
+    {
+        let room = (self.seats.len() + 1) * CLAUSES;
+        let more = room.saturating_sub(self.waits.len());
+        match self.waits.reserve(more) {
+            Ok(()) => {}
+            Err(_) => return Err(NoMemory),
+        }
+        match self.seats.reserve(1) {
+            Ok(()) => {}
+            Err(_) => return Err(NoMemory),
+        }
+        self.seats.push_reserved(who);
+        Ok(())
+    }
+
+    /// A coroutine that waits nowhere has no seat any more.
+    pub fn unseat(&mut self, who: u64)
+        requires seat { has_seat self.old who ≡ true }
+        requires waits { is_waiting self.old.channels who ≡ false }
+        ensures { self.new ≡ seats.unseat self.old who }
+    {
+        stand_up(&mut self.seats, who);
+    }
+
+    /// A coroutine with a seat enters a clause that sends an item at a live end. It doesn't wait under that clause yet. Its bytes
+    /// go to whom it meets. Who is met waits under no clause any more.
+    pub fn send<L: Ledger>(
+        &mut self,
+        who: u64,
+        clause: u8,
+        end: u64,
+        bytes: Octets,
+        steps: &mut Steps<L>,
+    ) -> Meeting
+        requires seat { has_seat self.old who ≡ true }
+        requires clause { clause < most_clauses }
+        requires new { waits_under self.old.channels who clause ≡ false }
+        requires live { is_live self.old.channels end ≡ true }
+        ensures met { result ≡ meeting self.old.channels who end (Send bytes) }
+        ensures left { self.new ≡ on_channels (λ c. entered c (record { who = who; clause = clause; end = end; want = Send bytes })) self.old }
+        ensures counted { steps.old < steps.new }
+    {
+        steps.tick();
+        let want = Want::Send(bytes);
+        enter(
+            self.ends.as_slice(),
+            &mut self.waits,
+            Wait {
+                who,
+                clause,
+                end,
+                want,
+            },
+        )
+    }
+
+    /// A coroutine with a seat enters a clause that receives so many bytes at a live end. It doesn't wait under that clause yet.
+    /// Who is met waits under no clause any more.
+    pub fn recv<L: Ledger>(
+        &mut self,
+        who: u64,
+        clause: u8,
+        end: u64,
+        size: usize,
+        steps: &mut Steps<L>,
+    ) -> Meeting
+        requires seat { has_seat self.old who ≡ true }
+        requires clause { clause < most_clauses }
+        requires new { waits_under self.old.channels who clause ≡ false }
+        requires live { is_live self.old.channels end ≡ true }
+        ensures met { result ≡ meeting self.old.channels who end (Recv size) }
+        ensures left { self.new ≡ on_channels (λ c. entered c (record { who = who; clause = clause; end = end; want = Recv size })) self.old }
+        ensures counted { steps.old < steps.new }
+    {
+        steps.tick();
+        let want = Want::Recv(size as u64);
+        enter(
+            self.ends.as_slice(),
+            &mut self.waits,
+            Wait {
+                who,
+                clause,
+                end,
+                want,
+            },
+        )
+    }
+
+    /// A coroutine with a seat waits under no clause any more.
+    pub fn leave<L: Ledger>(&mut self, who: u64, steps: &mut Steps<L>)
+        requires { has_seat self.old who ≡ true }
+        ensures left { self.new ≡ on_channels (λ c. channels.leave c who) self.old }
+        ensures counted { steps.old < steps.new }
+    {
+        steps.tick();
+        leave(&mut self.waits, who);
+    }
+
+    /// The sending direction of a live end is done. False, where it was done or the other end is gone; then it changes nothing.
+    pub fn done<L: Ledger>(&mut self, end: u64, steps: &mut Steps<L>) -> bool
+        requires { is_live self.old.channels end ≡ true }
+        ensures done { result ≡ not (has_ended self.old.channels end (Send [])) }
+        ensures left { self.new ≡ on_channels (λ c. seats.done_unless_ended c end) self.old }
+        ensures counted { steps.old < steps.new }
+    {
+        steps.tick();
+        if send_has_ended(self.ends.as_slice(), end) {
+            return false;
+        }
+        mark_done(&mut self.ends, end);
+        true
+    }
+
+    /// The least waiter above a number that has its end, with the least of its clauses that has it.
+    pub fn next_ended<L: Ledger>(&self, after: u64, steps: &mut Steps<L>) -> Option<(u64, u8)>
+        ensures next { result ≡ next_ended self.now.channels after }
+        ensures counted { steps.old < steps.new }
+    {
+        steps.tick();
+        next_ended(self.ends.as_slice(), self.waits.as_slice(), after)
+    }
+
+    /// A live end is gone. Who waits there waits on until it leaves.
+    pub fn drop_end<L: Ledger>(&mut self, end: u64, steps: &mut Steps<L>)
+        requires { is_live self.old.channels end ≡ true }
+        ensures left { self.new ≡ on_channels (λ c. channels.drop_end c end) self.old }
+        ensures counted { steps.old < steps.new }
+    {
+        steps.tick();
+        remove_end(&mut self.ends, end);
+    }
+}
