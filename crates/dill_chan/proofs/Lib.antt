@@ -1,3 +1,4 @@
+mod Chosen
 mod Held
 mod Nearing
 mod Taking

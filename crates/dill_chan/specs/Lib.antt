@@ -1,3 +1,4 @@
 pub mod Channels
+pub mod Choosing
 pub mod Meetings
 pub mod Seats

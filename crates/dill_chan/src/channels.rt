@@ -1,11 +1,13 @@
-ghost use Rattle.std.specs.Prelude.{◌≡◌, ◌+◌, ◌*◌, ◌<◌, ◌≤◌, ◌==◌, [], filter, length, true, false, not, IfOk, OnOk, OnErr, vec_capacity, vec_len};
+ghost use Rattle.std.specs.Prelude.{◌≡◌, ◌+◌, ◌*◌, ◌<◌, ◌≤◌, ◌==◌, [], filter, length, true, false, not, nat_lt, IfOk, OnOk, OnErr, vec_capacity, vec_len};
+ghost use Rattle.std.specs.List.{list_all};
+ghost use Rattle.dill_slots.specs.Pairs.{each_pair};
 ghost use Rattle.dill_chan.specs.Channels as channels;
 ghost use Rattle.dill_chan.specs.Channels.{is_live, next_ends};
 ghost use Rattle.dill_chan.specs.Meetings as meetings;
 ghost use Rattle.dill_chan.specs.Meetings.{meeting, has_ended, next_ended};
 ghost use Rattle.dill_chan.specs.declared.end.Want.TheVariants.{Send, Recv};
 ghost use Rattle.dill_chan.specs.Seats as seats;
-ghost use Rattle.dill_chan.specs.Seats.{nobody, has_seat, is_above_all, is_waiting, waits_under, entered, channels_of, on_channels, most_seats, most_clauses};
+ghost use Rattle.dill_chan.specs.Seats.{nobody, has_seat, is_above_all, is_waiting, waits_under, are_two_waits, may_wait, entered, channels_of, on_channels, most_seats, most_clauses};
 
 use crate::ends::{find_end, has_ended, mark_done, remove_end, send_has_ended};
 use crate::waits::{leave, meet, next_ended, take_partner};
@@ -80,6 +82,16 @@ impl Channels {
             seats: Vec::new(alloc),
             last: 0,
         }
+    }
+
+    /// What holds of channels and seats at any time.
+    pub fn known(&self)
+        ensures rising { each_pair nat_lt self.now.seats ≡ true }
+        ensures few { length self.now.seats ≤ most_seats }
+        ensures once { each_pair are_two_waits self.now.channels.waits ≡ true }
+        ensures seated { list_all (may_wait self.now.seats) self.now.channels.waits ≡ true }
+    {
+        let _ = &self.waits;
     }
 
     /// A new channel. Answers the names of its two ends. Refused, it changes nothing.

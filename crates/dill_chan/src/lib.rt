@@ -4,9 +4,11 @@
 mod channels;
 mod end;
 mod ends;
+mod laws;
 mod meeting;
 mod waits;
 
 pub use channels::Channels;
 pub use end::{End, Wait, Want};
+pub use laws::a_choice_takes_the_least;
 pub use meeting::{Meeting, Met};
