@@ -1,6 +1,6 @@
 ghost use Rattle.std.specs.Prelude.{◌≡◌};
 
-use crate::telling::{is_bytes, one_channel, told};
+use crate::telling::{is_bytes, met, one_channel, waits};
 use dill_base::Octets;
 use dill_slots::Steps;
 use std::marker::Brand;
@@ -17,9 +17,9 @@ fn equal_sizes_meet<L: Ledger>(rt: &(impl Abort + AllocGlobal), blank: Blank) ->
     let mut channels = one_channel(rt.alloc())?;
     let bytes = Octets::from_slice(rt.alloc(), b"abc")?;
     let first = channels.send(1, 0, 1, bytes, &mut steps);
-    assert_eq!(rt; told(&first), (0, 0, 0, 0));
+    assert!(rt; waits(&first));
     let second = channels.recv(2, 0, 2, 3, &mut steps);
-    assert_eq!(rt; told(&second), (1, 0, 103, 0));
+    assert!(rt; met(&second, 1, 0, 103, 0));
     assert!(rt; is_bytes(&second, b"abc"));
     Ok(())
 }
@@ -37,12 +37,12 @@ fn unequal_sizes_fail<L: Ledger>(rt: &(impl Abort + AllocGlobal), blank: Blank) 
     let mut steps: Steps<L> = Steps::new(blank);
     let mut channels = one_channel(rt.alloc())?;
     let first = channels.recv(2, 0, 2, 4, &mut steps);
-    assert_eq!(rt; told(&first), (0, 0, 0, 0));
+    assert!(rt; waits(&first));
     let bytes = Octets::from_slice(rt.alloc(), b"abc")?;
     let second = channels.send(1, 0, 1, bytes, &mut steps);
-    assert_eq!(rt; told(&second), (2, 0, 200, 200));
+    assert!(rt; met(&second, 2, 0, 200, 200));
     let third = channels.recv(2, 0, 2, 4, &mut steps);
-    assert_eq!(rt; told(&third), (0, 0, 0, 0));
+    assert!(rt; waits(&third));
     Ok(())
 }
 
@@ -61,10 +61,11 @@ fn the_first_is_met<L: Ledger>(rt: &(impl Abort + AllocGlobal), blank: Blank) ->
     let first = channels.recv(1, 0, 2, 3, &mut steps);
     let second = channels.recv(2, 0, 2, 3, &mut steps);
     channels.leave(1, &mut steps);
+    channels.unseat(1);
     let bytes = Octets::from_slice(rt.alloc(), b"abc")?;
     let third = channels.send(3, 0, 1, bytes, &mut steps);
-    assert_eq!(rt; told(&first), told(&second));
-    assert_eq!(rt; told(&third), (2, 0, 0, 103));
+    assert!(rt; waits(&first) && waits(&second));
+    assert!(rt; met(&third, 2, 0, 0, 103));
     Ok(())
 }
 

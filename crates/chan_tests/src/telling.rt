@@ -27,17 +27,32 @@ fn number_of(answer: &Answer) -> u64 {
     }
 }
 
-/// Whom the caller met and under which clause, and both answers; 1 and zeros where its direction has ended, and only zeros where it waits.
-pub fn told(meeting: &Meeting) -> (u64, u8, u64, u64) {
+/// Whether the caller met this clause of this coroutine, with these answers of its own and of the other.
+pub fn met(meeting: &Meeting, other: u64, clause: u8, answer: u64, others: u64) -> bool {
     match meeting {
-        Meeting::Met(met) => (
-            met.other,
-            met.clause,
-            number_of(&met.answer),
-            number_of(&met.others),
-        ),
-        Meeting::Ended => (1, 0, 0, 0),
-        Meeting::Waits => (0, 0, 0, 0),
+        Meeting::Met(met) => {
+            met.other == other
+                && met.clause == clause
+                && number_of(&met.answer) == answer
+                && number_of(&met.others) == others
+        }
+        _ => false,
+    }
+}
+
+/// Whether the clause waits.
+pub fn waits(meeting: &Meeting) -> bool {
+    match meeting {
+        Meeting::Waits => true,
+        _ => false,
+    }
+}
+
+/// Whether the clause has its end.
+pub fn ended(meeting: &Meeting) -> bool {
+    match meeting {
+        Meeting::Ended => true,
+        _ => false,
     }
 }
 
