@@ -24,3 +24,7 @@ pub mod Drops
 pub mod HeadReads
 pub mod Greetings
 pub mod Shortness
+pub mod Again
+pub mod DropAgain
+pub mod FrameShort
+pub mod DropShort

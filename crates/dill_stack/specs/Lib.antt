@@ -32,3 +32,4 @@ pub mod Standing
 pub mod Doing
 pub mod Taking
 pub mod Leaving
+pub mod Again

@@ -48,3 +48,13 @@ wants_bytes Leaves sent = sent
 -- The pending receive, handshake or detach of this stack needs bytes.
 abbrev pub needs_bytes : Held → Bool
 needs_bytes s = wants_bytes s.task (is_sent s)
+
+-- A handshake needs bytes: a client's once its own head has gone, a server's until the client's head has come.
+abbrev pub wants_head : Task → Bool → Bool
+wants_head (Greets accept) sent = sent
+wants_head Expects sent = true
+wants_head _ sent = false
+
+-- The pending handshake of this stack needs bytes.
+abbrev pub needs_head : Held → Bool
+needs_head s = wants_head s.task (is_sent s)

@@ -1,10 +1,12 @@
-ghost use Rattle.std.specs.Prelude.{◌≡◌, ◌≤◌, ◌+◌, [], true, false, length, OnOk, OnErr, IfOk};
+ghost use Rattle.std.specs.Prelude.{◌≡◌, ◌≤◌, ◌<◌, ◌+◌, [], true, false, length, OnOk, OnErr, IfOk};
 ghost use Rattle.dill_stack.specs.Attaching.{expect_greet, greet_fault};
 ghost use Rattle.dill_stack.specs.Doing.{Sends, Changes};
 ghost use Rattle.dill_stack.specs.Greeting.{greet, greeted, greeting, nonce, offer_fault, heard_by};
 ghost use Rattle.dill_stack.specs.Held.{Greets, Expects, Answers};
+ghost use Rattle.dill_stack.specs.Needs.{needs_head, head_need};
 ghost use Rattle.dill_stack.specs.Rooms.{roomy};
 ghost use Rattle.dill_stack.specs.Sending.{is_sent};
+ghost use Rattle.dill_stack.specs.Standing.{HasJoinedRoom};
 
 use crate::attaching::joined_room;
 use crate::dropping::no_more;
@@ -19,7 +21,8 @@ use crate::want::ReadOut;
 use dill_base::{Errno, Front, NoMemory};
 use dill_calls::Answer;
 use dill_ws::{
-    Asked, Side, accept_of, head_fault, key_text, read_client_head, read_server_head, server_head,
+    Asked, Side, accept_of, handshake_laws, head_fault, key_text, read_client_head,
+    read_server_head, server_head,
 };
 use rand_core::Rng;
 
@@ -27,8 +30,30 @@ use rand_core::Rng;
 const HEAD: usize = 138;
 
 impl Stack {
-    /// The handshake of a client begins: its layer stands on top from now on, and its head is queued.
+    /// The handshake of a client begins: its layer stands on top from now on, with room for 16,384 joined bytes, and its
+    /// head is queued.
+    ///
+    /// EINVAL: a resource or a host that isn't one or more bytes 21 to 7e. EPIPE: the link's direction is done.
+    /// ECONNRESET: a direction is broken. EMSGSIZE: a line of over 8,192 bytes, or a head of over 16,384.
     pub fn greet<R: Rng>(
+        &mut self,
+        text: bool,
+        resource: &[u8],
+        host: &[u8],
+        keys: &mut R,
+    ) -> Result<(), StackFault>
+        requires bare { self.old.held.layers ≡ [] }
+        requires sent { is_sent self.old.held ≡ true }
+        ensures done { Sends (greet text resource.now host.now (R.stream keys.old) self.old.held) result self.old self.new (R.stream keys.old) (R.stream keys.new) }
+        ensures joined { HasJoinedRoom self.new.held.layers self.new.joined }
+    {
+        let done = self.offer(text, resource, host, keys);
+        self.stands();
+        done
+    }
+
+    // The same, but for the room.
+    fn offer<R: Rng>(
         &mut self,
         text: bool,
         resource: &[u8],
@@ -113,8 +138,23 @@ impl Stack {
         }));
     }
 
-    /// The handshake of a server begins: its layer stands on top from now on, and waits for the client's head.
+    /// The handshake of a server begins: its layer stands on top from now on, with room for 16,384 joined bytes, and waits
+    /// for the client's head.
+    ///
+    /// EPIPE: the link's direction is done. ECONNRESET: a direction is broken.
     pub fn expect_greet(&mut self, text: bool) -> Result<(), StackFault>
+        requires bare { self.old.held.layers ≡ [] }
+        requires sent { is_sent self.old.held ≡ true }
+        ensures done { Changes (expect_greet text self.old.held) result self.old self.new }
+        ensures joined { HasJoinedRoom self.new.held.layers self.new.joined }
+    {
+        let done = self.expect(text);
+        self.stands();
+        done
+    }
+
+    // The same, but for the room.
+    fn expect(&mut self, text: bool) -> Result<(), StackFault>
         requires bare { self.old.held.layers ≡ [] }
         requires sent { is_sent self.old.held ≡ true }
         ensures { Changes (expect_greet text self.old.held) result self.old self.new }
@@ -147,8 +187,22 @@ impl Stack {
     }
 
     /// A handshake goes on: a client looks for the server's head once its own has gone, and a server answers the client's
-    /// and waits until its own has gone. It takes no memory.
+    /// and waits until its own has gone. Where it awaits a head, fewer than 16,384 bytes are unread. It takes no memory.
+    ///
+    /// EPIPE: the peer has ended before its head. EPROTO: it has ended inside, or its head is refused. EMSGSIZE: a line of
+    /// its head or the whole head is over its limit.
     pub fn greeted(&mut self) -> ReadOut
+        requires { self.old.held.task ≡ Expects → is_sent self.old.held ≡ true }
+        ensures said { result ≡ (greeted self.old.held).said }
+        ensures stack { self.new ≡ record self.old { held = (greeted self.old.held).stack } }
+        ensures short { result ≡ ReadOut.Need → needs_head self.new.held ≡ true → length self.new.held.unread < head_need }
+    {
+        handshake_laws();
+        self.hear()
+    }
+
+    // A look at the handshake that has begun.
+    fn hear(&mut self) -> ReadOut
         requires { self.old.held.task ≡ Expects → is_sent self.old.held ≡ true }
         ensures said { result ≡ (greeted self.old.held).said }
         ensures stack { self.new ≡ record self.old { held = (greeted self.old.held).stack } }

@@ -6,8 +6,11 @@ use dill_ws::Side;
 /// message, the heads of HTTP, or frames of WebSocket after the handshake.
 #[derive(Debug, Drop)]
 pub enum Layer {
+    /// A length of 1 to 8 bytes.
     Prefix(PrefixForm),
+    /// A terminator of 1 to 32 bytes.
     Suffix(Octets),
+    /// A terminal message of at most 1,024 bytes, which may be empty.
     Term(Octets),
     Http,
     /// `text`: messages are sent as text, and have to be UTF-8. Both kinds are received alike.

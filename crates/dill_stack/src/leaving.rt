@@ -1,7 +1,7 @@
 ghost use Rattle.std.specs.Int.{w16, to_be_bytes};
 ghost use Rattle.std.specs.List.{list_any};
 ghost use Rattle.dill_ws.specs.Frames.{frame_bytes};
-ghost use Rattle.std.specs.Prelude.{◌≡◌, ◌≤◌, ◌==◌, ◌&&◌, ◌++◌, [], not, length, true, Ok, None, if◌then◌else◌};
+ghost use Rattle.std.specs.Prelude.{◌≡◌, ◌≤◌, ◌<◌, ◌==◌, ◌&&◌, ◌++◌, [], not, length, true, Ok, None, if◌then◌else◌};
 ghost use Rattle.rand_core.specs.Stream.{Stream};
 ghost use Rattle.dill_stack.specs.declared.parting.Parting.{Parting};
 ghost use Rattle.dill_stack.specs.Doing.{Ends, IsKey, below_parting};
@@ -11,7 +11,8 @@ ghost use Rattle.dill_stack.specs.Parting.{parting_fault, is_cut_off, with_parti
 ghost use Rattle.dill_stack.specs.Sending.{is_sent, is_pong, item_of};
 ghost use Rattle.dill_stack.specs.Standing.{tower, base_layers, has_end_of, is_top_done, is_frames_top, base_key, closed_base};
 ghost use Rattle.dill_stack.specs.Leaving.{all_dropped};
-ghost use Rattle.dill_stack.specs.Taking.{behind};
+ghost use Rattle.dill_stack.specs.Taking.{behind, joined_left};
+ghost use Rattle.dill_stack.specs.Needs.{parting_need};
 ghost use Rattle.dill_stack.specs.Held.{Idle, Leaves, Plain};
 ghost use Rattle.dill_stack.specs.Dropping.{is_given};
 ghost use Rattle.dill_stack.specs.Receiving.{ws_of};
@@ -28,10 +29,15 @@ use crate::task::Task;
 use crate::want::ReadOut;
 use dill_base::Errno;
 use dill_calls::Answer;
+use dill_frames::{prefix_laws, suffix_laws};
+use dill_http::http_laws;
 use rand_core::Rng;
 
 impl Stack {
     /// A detach begins: the end of the top layer is queued, if it has one and that wasn't sent. It takes no memory.
+    ///
+    /// ECONNRESET: a direction is broken. EPIPE: it has an end to send, and the direction is done or a layer below has sent
+    /// its end.
     pub fn detach_start<R: Rng>(&mut self, parting: Parting, keys: &mut R) -> Result<(), Errno>
         requires sent { is_sent self.old.held ≡ true }
         requires allowed { is_allowed_parting parting ≡ true }
@@ -96,13 +102,22 @@ impl Stack {
     }
 
     /// A detach goes on: once all that was queued has gone, it drops what is there, and is answered when it has met the
-    /// peer's end. It takes no memory.
+    /// peer's end. Where it awaits more, fewer than 16,416 bytes are unread. A WebSocket layer's room for joined bytes goes
+    /// with the layer. It takes no memory.
+    ///
+    /// EPIPE: the end of a layer below was met, or the peer has ended at a boundary. EPROTO: it has ended inside, or what
+    /// stands there is refused. EMSGSIZE: a message has more than 16,384 bytes, or a line more than 8,192.
     pub fn detach_finish<R: Rng>(&mut self, _keys: &mut R) -> ReadOut
         requires plain { ws_of self.old.held.layers ≡ None }
         ensures said { result ≡ (detach_finish (R.stream _keys.old) self.old.held).said }
-        ensures stack { self.new ≡ record self.old { held = (detach_finish (R.stream _keys.old) self.old.held).stack } }
+        ensures stack { self.new ≡ record self.old { held = (detach_finish (R.stream _keys.old) self.old.held).stack; joined = joined_left (detach_finish (R.stream _keys.old) self.old.held).stack.layers self.old.joined } }
         ensures random { R.stream _keys.new ≡ (detach_finish (R.stream _keys.old) self.old.held).random }
+        ensures short { result ≡ ReadOut.Need → is_sent self.new.held ≡ true → 1 ≤ length self.old.held.layers → length self.new.held.unread < parting_need }
     {
+        prefix_laws();
+        suffix_laws();
+        http_laws();
+        self.stands();
         self.finish()
     }
 

@@ -5,5 +5,6 @@ use dill_base::Octets;
 #[derive(Debug, Drop)]
 pub enum Parting {
     Plain,
+    /// A code that may be sent (RFC 6455, section 7.4), and a reason in UTF-8 of at most 123 bytes.
     Close { code: u16, reason: Octets },
 }

@@ -1,11 +1,11 @@
-ghost use Rattle.std.specs.Prelude.{◌≡◌, ◌≤◌, ◌<◌, length, true, None, OnOk, OnErr, IfSome};
+ghost use Rattle.std.specs.Prelude.{◌≡◌, ◌≤◌, ◌<◌, length, max, true, None, OnOk, OnErr, IfSome};
 ghost use Rattle.dill_stack.specs.Needs.{need};
 ghost use Rattle.dill_stack.specs.declared.want.Want.TheVariants as want;
 ghost use Rattle.dill_stack.specs.Layers.{HasMessages, IsStanding};
 ghost use Rattle.dill_stack.specs.Read.{no_more};
 ghost use Rattle.dill_stack.specs.Receiving.{read, read_of, ws_of, broken_by};
-ghost use Rattle.dill_stack.specs.Standing.{FitsBase};
-ghost use Rattle.dill_stack.specs.Taking.{DrawsNone, size_of, second_of, base_need, Reserved, IsShort, FitsTop, room_after, second_after, after, base_front, IsWithin, any_met, lowest, meet, taken};
+ghost use Rattle.dill_stack.specs.Standing.{FitsBase, HasJoinedRoom, IsDroppable};
+ghost use Rattle.dill_stack.specs.Taking.{DrawsNone, size_of, second_of, joined_of, base_need, Reserved, FitsTop, room_after, second_after, after, base_front, IsWithin, any_met, lowest, meet, taken};
 
 use crate::placed::{Base, TermLayer};
 use crate::stack::Stack;
@@ -105,10 +105,10 @@ fn answer_size(want: Want) -> usize
 }
 
 impl Stack {
-    /// Makes room for what this receive may need, and for its answer. Refused, it may leave room, and nothing else.
+    /// Makes room for what this receive may need, for its answer, and for what it joins. Refused, it changes nothing.
     pub fn reserve(&mut self, want: Want) -> Result<(), NoMemory>
         ensures ok { OnOk result (Reserved want self.old self.new) }
-        ensures err { OnErr result (IsShort self.old self.new) }
+        ensures err { OnErr result (self.new ≡ self.old) }
     {
         let Some(needed) = self.needed(want) else {
             return Err(NoMemory);
@@ -116,9 +116,58 @@ impl Stack {
         let Some(room) = needed.checked_add(PIECE) else {
             return Err(NoMemory);
         };
+        let before = self.unread.room();
         self.unread.make_room(room)?;
+        match self.make_answer_room(want) {
+            Ok(()) => Ok(()),
+            Err(_) => {
+                self.unread.keep_room(before);
+                Err(NoMemory)
+            }
+        }
+    }
+
+    // Makes room for its answer and for what it joins, or leaves the rooms that there are.
+    fn make_answer_room(&mut self, want: Want) -> Result<(), NoMemory>
+        ensures ok { OnOk result (self.new ≡ record self.old { answer = max self.old.answer (size_of want); second = max self.old.second (second_of want); joined = max self.old.joined (joined_of want (ws_of self.old.held.layers)) }) }
+        ensures err { OnErr result (self.new ≡ self.old) }
+    {
+        let before = self.answer.room();
         self.answer.make_room(answer_size(want))?;
-        self.second.make_room(second_size(want))
+        match self.make_second_room(want) {
+            Ok(()) => Ok(()),
+            Err(_) => {
+                self.answer.keep_room(before);
+                Err(NoMemory)
+            }
+        }
+    }
+
+    // Makes room for the second part of its answer and for what it joins, or leaves the rooms that there are.
+    fn make_second_room(&mut self, want: Want) -> Result<(), NoMemory>
+        ensures ok { OnOk result (self.new ≡ record self.old { second = max self.old.second (second_of want); joined = max self.old.joined (joined_of want (ws_of self.old.held.layers)) }) }
+        ensures err { OnErr result (self.new ≡ self.old) }
+    {
+        let before = self.second.room();
+        self.second.make_room(second_size(want))?;
+        match self.make_joined_room(want) {
+            Ok(()) => Ok(()),
+            Err(_) => {
+                self.second.keep_room(before);
+                Err(NoMemory)
+            }
+        }
+    }
+
+    // Makes room for what it joins, or leaves the room that there is.
+    fn make_joined_room(&mut self, want: Want) -> Result<(), NoMemory>
+        ensures ok { OnOk result (self.new ≡ record self.old { joined = max self.old.joined (joined_of want (ws_of self.old.held.layers)) }) }
+        ensures err { OnErr result (self.new ≡ self.old) }
+    {
+        match want {
+            Want::Message(limit) => self.base.make_room(limit),
+            _ => Ok(()),
+        }
     }
 
     // How many unread bytes it may need.
@@ -134,6 +183,10 @@ impl Stack {
 
     /// The answer to this receive, from all that is unread. Where more bytes are awaited, fewer are unread than it may
     /// need, so that there is room for another 4,096. It takes no memory.
+    ///
+    /// EPIPE: an end stands there or was met before, or the peer has ended at a boundary; for bytes, fewer are there than
+    /// asked. EPROTO: the peer has ended inside, or what stands there is refused. EMSGSIZE: it passes the limit. The last
+    /// two break the receiving direction.
     pub fn read<R: Rng>(&mut self, want: Want, _keys: &mut R) -> ReadOut
         requires reserved { size_of want ≤ self.old.answer }
         requires second { second_of want ≤ self.old.second }
@@ -150,9 +203,13 @@ impl Stack {
         self.look(want)
     }
 
-    // Its layers stand on one another as they may.
-    fn stands(&self)
-        ensures { IsStanding self.now.held.layers }
+    // Its layers stand on one another as they may, with short lengths and terminators, and a WebSocket layer among them
+    // has room for what it joins.
+    pub(crate) fn stands(&self)
+        ensures standing { IsStanding self.now.held.layers }
+        ensures joined { HasJoinedRoom self.now.held.layers self.now.joined }
+        ensures bounded { 1 ≤ length self.now.held.layers → IsDroppable self.now.held.layers }
+        ensures none { ws_of self.now.held.layers ≡ None → self.now.joined ≡ 0 }
     {
         let _ = &self.base;
     }

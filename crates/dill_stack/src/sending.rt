@@ -22,6 +22,9 @@ use rand_core::Rng;
 
 impl Stack {
     /// Queues a message in the framing of all layers, or bytes where no layer stands.
+    ///
+    /// EINVAL: a layer refuses the message as such. EPIPE: the direction is done, or a layer has sent its end. ECONNRESET:
+    /// the sending direction is broken. EMSGSIZE: it is too long for a layer, or has more than 1,048,576 bytes.
     pub fn frame<R: Rng>(&mut self, message: &[u8], keys: &mut R) -> Result<(), StackFault>
         requires sent { is_sent self.old.held ≡ true }
         ensures { Sends (frame message.now (R.stream keys.old) self.old.held) result self.old self.new (R.stream keys.old) (R.stream keys.new) }
@@ -73,6 +76,9 @@ impl Stack {
     }
 
     /// Queues a first line, or a field. The line has its CRLF.
+    ///
+    /// EINVAL: it is out of its order. EPIPE: the empty line was sent, or the direction is done. ECONNRESET: the sending
+    /// direction is broken.
     pub fn line(&mut self, first: bool, line: Octets) -> Result<(), StackFault>
         requires sent { is_sent self.old.held ≡ true }
         ensures { Changes (lined first line self.old.held) result self.old self.new }
@@ -111,6 +117,8 @@ impl Stack {
     }
 
     /// The end of the top layer, or of the link's direction where no layer stands on it. It takes no memory.
+    ///
+    /// EPIPE: the direction is done, or a layer has sent its end. ECONNRESET: the sending direction is broken.
     pub fn done<R: Rng>(&mut self, keys: &mut R) -> Result<(), Errno>
         requires sent { is_sent self.old.held ≡ true }
         ensures { Ends (done (R.stream keys.old) self.old.held) result self.old self.new (R.stream keys.old) (R.stream keys.new) }

@@ -12,7 +12,7 @@ pub meet_end-step-requires : goal.meet_end-step-requires
 meet_end-step-requires c = lowest_below c.self.inside.terms.items (take (c.args.to - c.args.from) (drop c.args.from c.as_slice.result.now)) c.in-Some.at (ap (λ x. lowest x (take (c.args.to - c.args.from) (drop c.args.from c.as_slice.result.now))) (sym c.as_slice-2.ensures.value) ∙ sym c.in-Some.ensures)
 
 pub invariant_of-self : goal.invariant_of-self
-invariant_of-self c = rw c.meet_end-step.ensures.terms (stack_at c.in-Some.at c.self.inside.terms.items c.self.inside.base c.self.inside.queue.room c.self.invariant)
+invariant_of-self c = (rw c.meet_end-step.ensures.terms (stack_at c.in-Some.at c.self.inside.terms.items c.self.inside.base c.self.inside.queue.room c.self.invariant.0), rw c.use_up.ensures c.self.invariant.1)
 
 -- an end is the message
 at_end : (c : goal.After-use_up) → sifted_message c.args.from c.args.to c.args.used c.args.self.now.held ≡ sifted_as c.self.inside.terms.items c.args.used (base_layers c.self.inside.base) (take (c.args.to - c.args.from) (drop c.args.from c.self.inside.unread.items)) (Some c.in-Some.at)

@@ -24,12 +24,12 @@ returns-then-any_met-clause-after c = held_stop c.args.self.now (next_dropped c.
 was_whole : (c : goal.After-drop_message) → next_dropped c.args.self.now.held ≡ sifted_message c.in-Whole.from c.in-Whole.to c.in-Whole.used c.args.self.now.held
 was_whole c =
     let l : 1 ≤ length c.self.inside.terms.items = tall_of c.self.inside.terms.items c.self.inside.base (subst (λ (s : Stocked). 1 ≤ length (ends_of s.held.layers)) (sym c.self.view_is) c.requires.top) in
-    rw (← c.self.view_is) (drops_whole c.self.inside.terms.items c.self.inside.base c.self.inside.unread.items c.self.inside.receiving.done c.in-Whole.from c.in-Whole.to c.in-Whole.used l (framing_under c.self.inside.terms.items c.self.inside.base l c.self.invariant.based (ap (λ s. ws_of s.held.layers) c.self.view_is ∙ c.requires.plain)) (ap any_met (sym c.as_slice-2.ensures.value) ∙ sym c.any_met.ensures ∙ c.if-any_met.false) (c.in-Whole.ensures.front ∙ ap (λ x. base_front c.self.inside.base x 16384) c.as_slice-3.ensures))
+    rw (← c.self.view_is) (drops_whole c.self.inside.terms.items c.self.inside.base c.self.inside.unread.items c.self.inside.receiving.done c.in-Whole.from c.in-Whole.to c.in-Whole.used l (framing_under c.self.inside.terms.items c.self.inside.base l c.self.invariant.0.based (ap (λ s. ws_of s.held.layers) c.self.view_is ∙ c.requires.plain)) (ap any_met (sym c.as_slice-2.ensures.value) ∙ sym c.any_met.ensures ∙ c.if-any_met.false) (c.in-Whole.ensures.front ∙ ap (λ x. base_front c.self.inside.base x 16384) c.as_slice-3.ensures))
 
 was_open : (c : goal.After-no_more) → next_dropped c.args.self.now.held ≡ Stops (outcome 0 c.args.self.now.held.layers (no_more c.args.self.now.held.receiving.done true c.args.self.now.held.unread))
 was_open c =
     let l : 1 ≤ length c.self.inside.terms.items = tall_of c.self.inside.terms.items c.self.inside.base (subst (λ (s : Stocked). 1 ≤ length (ends_of s.held.layers)) (sym c.self.view_is) c.requires.top) in
-    rw (← c.self.view_is) (drops_need c.self.inside.terms.items c.self.inside.base c.self.inside.unread.items c.self.inside.receiving.done l (framing_under c.self.inside.terms.items c.self.inside.base l c.self.invariant.based (ap (λ s. ws_of s.held.layers) c.self.view_is ∙ c.requires.plain)) (ap any_met (sym c.as_slice-2.ensures.value) ∙ sym c.any_met.ensures ∙ c.if-any_met.false) (c.in-Need.ensures.front ∙ ap (λ x. base_front c.self.inside.base x 16384) c.as_slice-3.ensures))
+    rw (← c.self.view_is) (drops_need c.self.inside.terms.items c.self.inside.base c.self.inside.unread.items c.self.inside.receiving.done l (framing_under c.self.inside.terms.items c.self.inside.base l c.self.invariant.0.based (ap (λ s. ws_of s.held.layers) c.self.view_is ∙ c.requires.plain)) (ap any_met (sym c.as_slice-2.ensures.value) ∙ sym c.any_met.ensures ∙ c.if-any_met.false) (c.in-Need.ensures.front ∙ ap (λ x. base_front c.self.inside.base x 16384) c.as_slice-3.ensures))
 
 said_open : (c : goal.After-no_more) → c.no_more.result ≡ no_more c.args.self.now.held.receiving.done true c.args.self.now.held.unread
 said_open c = rw (c.no_more.ensures, c.as_slice-in-Need.ensures) (ap (λ (s : Stocked). no_more s.held.receiving.done true s.held.unread) c.self.view_is)
@@ -37,7 +37,7 @@ said_open c = rw (c.no_more.ensures, c.as_slice-in-Need.ensures) (ap (λ (s : St
 was_fault : (c : goal.In-Fault) → next_dropped c.args.self.now.held ≡ Stops (outcome 0 c.args.self.now.held.layers (Fault c.in-Fault.e))
 was_fault c =
     let l : 1 ≤ length c.self.inside.terms.items = tall_of c.self.inside.terms.items c.self.inside.base (subst (λ (s : Stocked). 1 ≤ length (ends_of s.held.layers)) (sym c.self.view_is) c.requires.top) in
-    rw (← c.self.view_is) (drops_fault c.self.inside.terms.items c.self.inside.base c.self.inside.unread.items c.self.inside.receiving.done c.in-Fault.e l (framing_under c.self.inside.terms.items c.self.inside.base l c.self.invariant.based (ap (λ s. ws_of s.held.layers) c.self.view_is ∙ c.requires.plain)) (ap any_met (sym c.as_slice-2.ensures.value) ∙ sym c.any_met.ensures ∙ c.if-any_met.false) (c.in-Fault.ensures.front ∙ ap (λ x. base_front c.self.inside.base x 16384) c.as_slice-3.ensures))
+    rw (← c.self.view_is) (drops_fault c.self.inside.terms.items c.self.inside.base c.self.inside.unread.items c.self.inside.receiving.done c.in-Fault.e l (framing_under c.self.inside.terms.items c.self.inside.base l c.self.invariant.0.based (ap (λ s. ws_of s.held.layers) c.self.view_is ∙ c.requires.plain)) (ap any_met (sym c.as_slice-2.ensures.value) ∙ sym c.any_met.ensures ∙ c.if-any_met.false) (c.in-Fault.ensures.front ∙ ap (λ x. base_front c.self.inside.base x 16384) c.as_slice-3.ensures))
 
 pub returns-in-Whole-clause-step : goal.returns-in-Whole-clause-step
 returns-in-Whole-clause-step c = c.drop_message.ensures.step ∙ sym (ap step_of (was_whole c))

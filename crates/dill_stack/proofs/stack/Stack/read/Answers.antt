@@ -14,4 +14,4 @@ pub returns-clause-random : goal.returns-clause-random
 returns-clause-random g c = sym (ap (λ l. l.random) (reads_plain c.args.want (g.R.Rng.stream c.args._keys.now) c.args.self.now.held c.look.ensures.plain))
 
 pub returns-clause-short : goal.returns-clause-short
-returns-clause-short g c = λ h. unread_short c.prefix_laws.ensures c.suffix_laws.ensures c.http_laws.ensures.lines c.args.want c.args.self.now.held c.look.new.self.held.unread c.stands.ensures c.requires.fits (ap {A = Stocked} (λ s. s.held.unread) c.look.ensures.after) (sym c.look.ensures.said ∙ h)
+returns-clause-short g c = λ h. unread_short c.prefix_laws.ensures c.suffix_laws.ensures c.http_laws.ensures.lines c.args.want c.args.self.now.held c.look.new.self.held.unread c.stands.ensures.standing c.requires.fits (ap {A = Stocked} (λ s. s.held.unread) c.look.ensures.after) (sym c.look.ensures.said ∙ h)

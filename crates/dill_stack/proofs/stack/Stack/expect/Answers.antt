@@ -1,6 +1,6 @@
 use Rattle.std.proofs.Common.{sym, refl}
 use Rattle.dill_stack.proofs.Greetings.{expect_refused, expects, has_expected, not_expected}
-use Rattle.dill_stack.proofs.stack.Stack.expect_greet.Goals as goal
+use Rattle.dill_stack.proofs.stack.Stack.expect.Goals as goal
 
 pub returns-in-Some : goal.returns-in-Some
 returns-in-Some c = (expect_refused c.args.text c.args.self.now.held c.in-Some.e (sym c.in-Some.ensures), refl)
