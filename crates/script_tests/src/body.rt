@@ -2,7 +2,7 @@ ghost use Rattle.std.specs.Prelude.{◌≡◌, true, IfOk};
 ghost use Rattle.std.specs.Rc.{rc_value};
 ghost use Rattle.relay_body.specs.Running.{is_runnable};
 
-use crate::values::lost;
+use crate::values::memory;
 use dill_base::Errno;
 use dill_calls::{Answer, Body};
 use dill_script::Script;
@@ -26,14 +26,14 @@ fn script_of(alloc: Global, text: &[u8]) -> Result<Rc<Script>, Fail>
 
 /// `main` of a script before its first turn.
 fn begin(alloc: Global, text: &[u8]) -> Result<ScriptBody, Fail> {
-    ScriptBody::first(alloc, script_of(alloc, text)?).map_err(lost)
+    memory(ScriptBody::first(alloc, script_of(alloc, text)?))
 }
 
 /// The program behind `main` before its first turn.
 fn begin_next(alloc: Global, text: &[u8], args: &[u64]) -> Result<ScriptBody, Fail> {
     let main = begin(alloc, text)?;
     if main.knows(1, args.len()) {
-        return main.child(1, args).map_err(lost);
+        return memory(main.child(1, args));
     }
     Err(Fail::from("unknown"))
 }

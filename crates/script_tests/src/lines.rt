@@ -1,6 +1,6 @@
 use dill_calls::Word;
 use dill_script::{Dest, Keyword, Num, Operand, Order, Statement};
-use relay_lines::{Line, has_tokens, heading_of, is_line, line_of, tokens};
+use relay_lines::{Line, Tokens, has_tokens, heading_of, is_line, line_of, tokens};
 use std::alloc::Global;
 use std::process::Abort;
 use std::test::Fail;
@@ -165,37 +165,54 @@ fn bytes_and_comments_of_lines(rt: HostRuntime) {
     }
 }
 
+/// A line with each of its parts.
+const WHOLE: &[u8] = b" try b0\tb1 = http_recvfield n0 \"#\\x7A\" # more";
+
+fn cut(alloc: Global, line: &[u8]) -> Result<Tokens, Fail> {
+    match tokens(alloc, line)? {
+        Some(tokens) => Ok(tokens),
+        None => Err(Fail::from("no tokens")),
+    }
+}
+
 #[test]
-fn a_line_has_its_parts(rt: HostRuntime) -> Result<(), Fail> {
-    let line = b" try b0\tb1 = http_recvfield n0 \"#\\x7A\" # more";
-    let tokens = tokens(rt.alloc(), line)?;
-    let Some(tokens) = tokens else {
-        return Err(Fail::from("no tokens"));
-    };
-    let all = tokens.as_slice();
-    assert_eq!(rt; all.len(), 7);
-    assert_eq!(rt; all[0].is_plain(b"try"), true);
-    assert_eq!(rt; all[4].plain(), Some(b"http_recvfield".as_slice()));
-    assert_eq!(rt; all[6].plain(), None);
-    assert_eq!(rt; all[6].text(), Some(b"#z".as_slice()));
-    let heading = heading_of(rt.alloc(), all)?;
-    assert_eq!(rt; heading.tried(), true);
-    assert_eq!(rt; heading.targets().len(), 2);
-    assert_eq!(rt; heading.operands().len(), 2);
-    let Some(Keyword::Call(word)) = heading.keyword() else {
-        return Err(Fail::from("no call"));
-    };
-    assert_eq!(rt; word.name(), b"http_recvfield".as_slice());
+fn a_line_is_cut_into_tokens(rt: HostRuntime) -> Result<(), Fail> {
+    let tokens = cut(rt.alloc(), WHOLE)?;
+    let parts: [(Option<&[u8]>, Option<&[u8]>); 7] = [
+        (Some(b"try"), None),
+        (Some(b"b0"), None),
+        (Some(b"b1"), None),
+        (Some(b"="), None),
+        (Some(b"http_recvfield"), None),
+        (Some(b"n0"), None),
+        (None, Some(b"#z")),
+    ];
+    assert_eq!(rt; tokens.as_slice().len(), parts.len());
+    for (token, (plain, text)) in tokens.as_slice().iter().zip(parts) {
+        assert_eq!(rt; token.plain(), plain);
+        assert_eq!(rt; token.text(), text);
+    }
     Ok(())
 }
 
 #[test]
+fn a_heading_has_its_parts(rt: HostRuntime) -> Result<(), Fail> {
+    let tokens = cut(rt.alloc(), WHOLE)?;
+    let heading = heading_of(rt.alloc(), tokens.as_slice())?;
+    assert!(rt; heading.tried());
+    assert_eq!(rt; (heading.targets().len(), heading.operands().len()), (2, 2));
+    match heading.keyword() {
+        Some(Keyword::Call(word)) => {
+            assert_eq!(rt; word.name(), b"http_recvfield".as_slice());
+            Ok(())
+        }
+        _ => Err(Fail::from("no call")),
+    }
+}
+
+#[test]
 fn a_call_has_its_operands(rt: HostRuntime) -> Result<(), Fail> {
-    let line = b"n3 = prefix_attach n1 2 big";
-    let tokens = tokens(rt.alloc(), line)?;
-    let Some(tokens) = tokens else {
-        return Err(Fail::from("no tokens"));
-    };
+    let tokens = cut(rt.alloc(), b"n3 = prefix_attach n1 2 big")?;
     let heading = heading_of(rt.alloc(), tokens.as_slice())?;
     let line = line_of(rt.alloc(), &heading)?;
     let Some(Line::Says(Statement::Call { tried, dest, form })) = line else {

@@ -1,4 +1,4 @@
-use crate::values::{lost, octets};
+use crate::values::{memory, octets};
 use dill_base::{Errno, MemSink, Sink, Status};
 use dill_calls::{Answer, Counts, Note, Ran, Word};
 use relay_trace::{Summary, write_line, write_note, write_ran, write_summary, write_waiting};
@@ -7,7 +7,7 @@ use std::process::Abort;
 use std::test::Fail;
 
 fn sink(alloc: Global, fails: u64) -> Result<MemSink, Fail> {
-    MemSink::new(alloc, 20_000, vec![in alloc; fails]?).map_err(lost)
+    memory(MemSink::new(alloc, 20_000, vec![in alloc; fails]?))
 }
 
 fn turn(word: Word, given: Answer) -> Ran {
@@ -21,9 +21,14 @@ fn turn(word: Word, given: Answer) -> Ran {
     }
 }
 
+/// Whether the lines of a turn could be written.
+fn writes(ran: &Ran, traced: bool, out: &mut MemSink) -> bool {
+    write_ran(ran, traced, out).is_ok()
+}
+
 fn shows(rt: &(impl Abort + AllocGlobal), ran: &Ran, lines: &str) -> Result<(), Fail> {
     let mut out = sink(rt.alloc(), 0)?;
-    assert!(rt; write_ran(ran, true, &mut out).is_ok());
+    assert!(rt; writes(ran, true, &mut out));
     assert_eq!(rt; out.bytes(), lines.as_bytes());
     Ok(())
 }
@@ -128,7 +133,7 @@ fn a_long_line_goes_out_in_pieces_of_4096_bytes(rt: HostRuntime) -> Result<(), F
     assert_eq!(rt; broken.bytes().len(), 8192);
     let mut second = sink(alloc, 2)?;
     let hex = turn(Word::Mrecv, Answer::Bytes(octets(alloc, long.as_slice())?));
-    assert!(rt; write_ran(&hex, true, &mut second).is_err());
+    assert!(rt; !writes(&hex, true, &mut second));
     assert_eq!(rt; second.bytes().len(), 4096);
     Ok(())
 }
