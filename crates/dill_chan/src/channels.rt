@@ -21,7 +21,8 @@ use std::sync::ledger::Ledger;
 /// How many clauses of a coroutine wait at most.
 const CLAUSES: usize = 16;
 
-/// Channels without room, and the coroutines that may wait at their ends. Each call looks at all of them.
+/// Channels without room, and the at most 65,536 coroutines that may wait at their ends, under 16 clauses each. A plain send or
+/// receive is the clause 0. Each call looks at all ends and at all that wait.
 #[derive(Drop)]
 pub struct Channels {
     ends: Vec<End>,
@@ -94,7 +95,7 @@ impl Channels {
         let _ = &self.waits;
     }
 
-    /// A new channel. Answers the names of its two ends. Refused, it changes nothing.
+    /// A new channel (`chmake`). Answers the names of its two ends, which aren't given again. Refused, it changes nothing.
     pub fn make(&mut self) -> Result<(u64, u64), NoMemory>
         requires { self.old.channels.last + 1 < 9223372036854775808 }
         ensures names { IfOk result (λ ends. ends ≡ next_ends self.old.channels) }
@@ -151,8 +152,9 @@ impl Channels {
         stand_up(&mut self.seats, who);
     }
 
-    /// A coroutine with a seat enters a clause that sends an item at a live end. It doesn't wait under that clause yet. Its bytes
-    /// go to whom it meets. Who is met waits under no clause any more.
+    /// A coroutine with a seat enters a clause that sends an item at a live end (`chsend`), under which it doesn't wait yet. The
+    /// bytes are moved to whom it meets, or into the place where they wait. Who is met waits under no clause any more. `Ended` is
+    /// EPIPE: this end is done, or the other is gone. Unequal sizes are EMSGSIZE for both.
     pub fn send<L: Ledger>(
         &mut self,
         who: u64,
@@ -183,8 +185,9 @@ impl Channels {
         )
     }
 
-    /// A coroutine with a seat enters a clause that receives so many bytes at a live end. It doesn't wait under that clause yet.
-    /// Who is met waits under no clause any more.
+    /// A coroutine with a seat enters a clause that receives an item of so many bytes at a live end (`chrecv`), under which it
+    /// doesn't wait yet. Who is met waits under no clause any more. `Ended` is EPIPE: the other end is done or gone. Unequal sizes
+    /// are EMSGSIZE for both.
     pub fn recv<L: Ledger>(
         &mut self,
         who: u64,
@@ -215,7 +218,7 @@ impl Channels {
         )
     }
 
-    /// A coroutine with a seat waits under no clause any more.
+    /// A coroutine with a seat waits under no clause any more: it is answered, or gives up.
     pub fn leave<L: Ledger>(&mut self, who: u64, steps: &mut Steps<L>)
         requires { has_seat self.old who ≡ true }
         ensures left { self.new ≡ on_channels (λ c. channels.leave c who) self.old }
@@ -225,7 +228,8 @@ impl Channels {
         leave(&mut self.waits, who);
     }
 
-    /// The sending direction of a live end is done. False, where it was done or the other end is gone; then it changes nothing.
+    /// The sending direction of a live end is done (`chdone`). False is EPIPE: it was done, or the other end is gone; then it changes
+    /// nothing.
     pub fn done<L: Ledger>(&mut self, end: u64, steps: &mut Steps<L>) -> bool
         requires { is_live self.old.channels end ≡ true }
         ensures done { result ≡ not (has_ended self.old.channels end (Send [])) }
@@ -240,7 +244,7 @@ impl Channels {
         true
     }
 
-    /// The least waiter above a number that has its end, with the least of its clauses that has it.
+    /// The least waiter above a number that has its end (EPIPE), with the least of its clauses that has it.
     pub fn next_ended<L: Ledger>(&self, after: u64, steps: &mut Steps<L>) -> Option<(u64, u8)>
         ensures next { result ≡ next_ended self.now.channels after }
         ensures counted { steps.old < steps.new }

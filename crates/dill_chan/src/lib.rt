@@ -1,4 +1,5 @@
-//! Channels without room: a sender at one end meets a receiver at the other.
+//! libdill's channels, which hold nothing: a sender at one end meets a receiver at the other.
+//! It knows neither handles nor deadlines nor who is cancelled; that is its caller's matter.
 #![tactic(auto)]
 
 mod channels;
