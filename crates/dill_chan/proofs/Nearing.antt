@@ -1,13 +1,16 @@
 -- The least waiter that has its end, one clause after the other.
 use Rattle.std.proofs.Common.{◌≡◌, ◌∙◌, ℕ, List, [], ◌∷◌, Bool, true, false, Option, Some, None, refl, sym, ap, arith, inl, inr}
-use Rattle.std.specs.Prelude.{◌==◌, ◌&&◌, ◌||◌, nat_lt, filter, option_map}
-use Rattle.std.proofs.lemmas.Bool.{cases_Bool}
+use Rattle.std.specs.Prelude.{◌==◌, ◌&&◌, ◌||◌, nat_lt, filter, option_map, IfSome}
+use Rattle.std.specs.List.{list_all}
+use Rattle.std.proofs.lemmas.Bool.{cases_Bool, and_parts}
 use Rattle.std.proofs.lemmas.Bool.Decides.{nat_tests}
+use Rattle.dill_slots.specs.Pairs.{has}
+use Rattle.dill_slots.proofs.Keeping.{all_weaker}
 use Rattle.dill_chan.specs.declared.end.End.{End}
 use Rattle.dill_chan.specs.declared.end.Wait.{Wait}
 use Rattle.dill_chan.specs.Channels.{Channels}
 use Rattle.dill_chan.specs.Meetings.{is_before, first_of_two, first_wait, next_ended}
-use Rattle.dill_chan.specs.Seats.{is_ended, closer, ended_in, of_ends, channels_of}
+use Rattle.dill_chan.specs.Seats.{is_ended, closer, ended_in, of_ends, channels_of, may_wait, most_clauses}
 
 -- one comes before another
 abbrev before : ℕ × ℕ → ℕ × ℕ → Bool
@@ -62,3 +65,24 @@ ended_is c after (x ∷ xs) =
 pub next_is : (ends slice : List End) (waits others : List Wait) (last after : ℕ) (found : Option (ℕ × ℕ)) → slice ≡ ends → others ≡ waits → found ≡ ended_in (of_ends slice) after others → found ≡ next_ended (channels_of ends waits last) after
 next_is ends slice waits others last after found same also is =
     is ∙ ap (λ l. ended_in (of_ends l) after others) same ∙ ap (ended_in (of_ends ends) after) also ∙ ended_is (of_ends ends) after waits
+
+closer_keeps : (P : ℕ × ℕ → Type 0) (a b : Option (ℕ × ℕ)) → IfSome a P → IfSome b P → IfSome (closer a b) P
+closer_keeps P None b ha hb = hb
+closer_keeps P (Some a) None ha hb = ha
+closer_keeps P (Some a) (Some b) ha hb = elim (cases_Bool (before a b)) [ inl e ↦ rw e ha | inr e ↦ rw e hb ]
+
+-- what each waiter passes, the least of them passes
+pub ended_passes : (c : Channels) (after : ℕ) (p : ℕ → Bool) (waits : List Wait) → list_all (λ x. p x.who) waits ≡ true → IfSome (ended_in c after waits) (λ x. p x.0 ≡ true)
+ended_passes c after p [] all = tt
+ended_passes c after p (x ∷ xs) all =
+    let parts = and_parts (p x.who) (list_all (λ y. p y.who) xs) all in
+    let rest = ended_passes c after p xs parts.1 in
+    elim (cases_Bool (is_ended c after x)) [
+      | inl e ↦ rw e (closer_keeps (λ y. p y.0 ≡ true) (Some (x.who, x.clause)) (ended_in c after xs) parts.0 rest)
+      | inr e ↦ rw e rest
+    ]
+
+-- who is told has a seat
+pub ended_seated : (ends : List End) (waits others : List Wait) (seats : List ℕ) (after : ℕ) (found : Option (ℕ × ℕ)) → list_all (may_wait seats) waits ≡ true → others ≡ waits → found ≡ ended_in (of_ends ends) after others → IfSome found (λ x. has seats x.0 ≡ true)
+ended_seated ends waits others seats after found all same is =
+    rw (is, same) (ended_passes (of_ends ends) after (has seats) waits (all_weaker (may_wait seats) (λ x. has seats x.who) (λ x both. (and_parts (has seats x.who) (nat_lt x.clause most_clauses) both).0) waits all))

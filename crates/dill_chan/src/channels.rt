@@ -1,4 +1,4 @@
-ghost use Rattle.std.specs.Prelude.{◌≡◌, ◌+◌, ◌*◌, ◌<◌, ◌≤◌, ◌==◌, [], filter, length, true, false, not, nat_lt, IfOk, OnOk, OnErr, vec_capacity, vec_len};
+ghost use Rattle.std.specs.Prelude.{◌≡◌, ◌+◌, ◌*◌, ◌<◌, ◌≤◌, ◌==◌, [], filter, length, true, false, not, nat_lt, IfOk, IfSome, OnOk, OnErr, vec_capacity, vec_len};
 ghost use Rattle.std.specs.List.{list_all};
 ghost use Rattle.dill_slots.specs.Pairs.{each_pair};
 ghost use Rattle.dill_chan.specs.Channels as channels;
@@ -247,6 +247,7 @@ impl Channels {
     /// The least waiter above a number that has its end (EPIPE), with the least of its clauses that has it.
     pub fn next_ended<L: Ledger>(&self, after: u64, steps: &mut Steps<L>) -> Option<(u64, u8)>
         ensures next { result ≡ next_ended self.now.channels after }
+        ensures seat { IfSome result (λ x. has_seat self.now x.0 ≡ true) }
         ensures counted { steps.old < steps.new }
     {
         steps.tick();
