@@ -38,9 +38,10 @@ use Rattle.laws_queue.proofs.Crew.{close_all_crew}
 use Rattle.laws_sound.specs.Laws.{is_closing}
 use Rattle.laws_sound.proofs.Turns.{entered_plain}
 use Rattle.laws_debt.proofs.Flagging.{all_picked}
-use Rattle.laws_debt.proofs.Lists.{all_append, all_to, found_changed}
+use Rattle.laws_debt.proofs.Lists.{all_append, all_to}
 use Rattle.laws_debt.proofs.Tracking.{all_by_key}
 use Rattle.laws_debt.proofs.Tree.{drop_same}
+use Rattle.laws_queue.proofs.Numbers.{found_changed}
 
 -- if it is closing it was before
 abbrev pub OldFlag : Scopes → Bundle → Type 0

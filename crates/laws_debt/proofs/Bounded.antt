@@ -12,8 +12,10 @@ use Rattle.laws_queue.specs.Well.{IsAlive, Lives, Numbered, bit, occurs, is_at, 
 use Rattle.laws_sound.specs.Laws.{is_resting}
 use Rattle.laws_debt.specs.Owed.{share_by}
 use Rattle.laws_debt.specs.Says.{LowersIn, AllLower}
-use Rattle.laws_debt.proofs.Lists.{total, all_to, equal_number, above_of, above}
+use Rattle.laws_debt.proofs.Lists.{all_to, equal_number, above_of}
 use Rattle.laws_debt.proofs.Walking.{unlike}
+use Rattle.laws_queue.proofs.Numbers.{above}
+use Rattle.laws_sound.specs.Orderly.{weigh}
 
 left_most : (l m : ℕ) → (1 ≤ l → l ≤ m) → l ≤ m
 left_most zero m h = omega arith
@@ -31,17 +33,17 @@ module _ {V : Type 0} (p : Program V) (law : IsLawful p) (early : ℕ → Bool) 
   share_few : (c : Coroutine V) → IsAlive p c → share_by p early c ≤ 2 ^ 32
   share_few c a = share_at (is_ending c.mode) (early c.number) (p.most c.body) (p.left c.body) (2 ^ 32) (law.small c.body a.real) (left_most (p.left c.body) (p.most c.body) (law.within c.body a.real))
 
-  all_few : (cs : List (Coroutine V)) → Lives p cs → total (share_by p early) cs ≤ length cs * 2 ^ 32
+  all_few : (cs : List (Coroutine V)) → Lives p cs → weigh (share_by p early) cs ≤ length cs * 2 ^ 32
   all_few [] l = omega arith
-  all_few (c ∷ cs) l = more (length cs) (share_by p early c) (total (share_by p early) cs) (2 ^ 32) (share_few c l.0) (all_few cs l.1)
+  all_few (c ∷ cs) l = more (length cs) (share_by p early c) (weigh (share_by p early) cs) (2 ^ 32) (share_few c l.0) (all_few cs l.1)
 
 times : (n s : ℕ) → n ≤ 65536 → s ≤ n * 4294967296 → s ≤ 281474976710656
 times n s e f = omega (arith, e, f)
 
 module _ {V : Type 0} (p : Program V) (law : IsLawful p) (early : ℕ → Bool) where
   -- the bound of all that can be owed
-  pub owes_few : (cs : List (Coroutine V)) → Lives p cs → length cs ≤ 65536 → total (share_by p early) cs ≤ 2 ^ 48
-  owes_few cs l n = times (length cs) (total (share_by p early) cs) n (all_few p law early cs l)
+  pub owes_few : (cs : List (Coroutine V)) → Lives p cs → length cs ≤ 65536 → weigh (share_by p early) cs ≤ 2 ^ 48
+  owes_few cs l n = times (length cs) (weigh (share_by p early) cs) n (all_few p law early cs l)
 
 module _ {V : Type 0} where
   -- each is found by its number

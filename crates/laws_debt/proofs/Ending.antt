@@ -28,7 +28,7 @@ use Rattle.laws_sound.specs.PlainLaws.{SettlesPlainly}
 use Rattle.laws_queue.specs.Well.{Numbered, bit, occurs, IsQueue, IsWell}
 use Rattle.laws_sound.specs.Laws.{is_closing, CancelsAll, RootGoesOn}
 use Rattle.laws_sound.specs.Order.{IsInOrder}
-use Rattle.laws_sound.specs.Orderly.{IsOrderly}
+use Rattle.laws_sound.specs.Orderly.{IsOrderly, weigh}
 use Rattle.laws_debt.specs.Closing.{IsStable, IsClosing}
 use Rattle.laws_debt.specs.Laws.{KeepsStable, EndsClosing, turn_until}
 use Rattle.laws_debt.specs.Owed.{share_by, is_early, owed}
@@ -40,12 +40,13 @@ use Rattle.laws_debt.proofs.Bounded.{owes_few, all_early}
 use Rattle.laws_debt.proofs.Keeping.{root_flags, good_stable, sits_resumed, turn_is}
 use Rattle.laws_queue.proofs.Lining.{lined_pending}
 use Rattle.laws_sound.proofs.Leaving.{lined_ends}
-use Rattle.laws_debt.proofs.Lists.{total, is_total, all_found, all_to, found_passes, equal_number, found_changed}
+use Rattle.laws_debt.proofs.Lists.{is_total, all_found, all_to, found_passes, equal_number}
 use Rattle.laws_debt.proofs.Lowering.{all_calm, owed_evolves, lowers_evolves, owed_lined, all_lower_lined, others_lower, share_falls, answered_owes, called_falls, ended_falls, first_gone, others_same}
 use Rattle.laws_debt.proofs.Settling.{AllSit, leads_sits, settle_one_leads, settle_leads}
 use Rattle.laws_debt.proofs.Shutting.{settle_shut, AllHold, Lasts, settle_one_shut, go_on_shut}
 use Rattle.laws_debt.proofs.Turning.{given_is, Went, called, ended, go_on_went, went_leads, found_number, all_resumed}
 use Rattle.laws_debt.proofs.Walking.{Leads, unlike}
+use Rattle.laws_queue.proofs.Numbers.{found_changed}
 
 -- steps within a step keep a world in order
 pub record KeepsWithin {V : Type 0} (p : Program V) : Type 0 where
@@ -209,7 +210,7 @@ module _ {V : Type 0} (p : Program V) (law : IsLawful p) (plainly : MakesPlain p
     holds : AllHold (IsShutAs 0) 0 v
     settled : IsSettled v
     lowers : AllLower (early_of (early - 1) rest) v.coroutines
-    falls : total (share_by p (early_of (early - 1) rest)) v.coroutines < total (share_by p (early_of early (who ∷ rest))) w.coroutines
+    falls : weigh (share_by p (early_of (early - 1) rest)) v.coroutines < weigh (share_by p (early_of early (who ∷ rest))) w.coroutines
 
   module _ (settling_ends : SettlesPlainly V) where
     -- what a step comes to behind its settling
@@ -233,9 +234,9 @@ module _ {V : Type 0} (p : Program V) (law : IsLawful p) (plainly : MakesPlain p
     record MovesOff (w : World V) (early : ℕ) (who : ℕ) (rest : List ℕ) (v : World V) : Type 0 where
       in_closing : InClosing v
       lowers_moved : AllLower (early_of (early - 1) rest) v.coroutines
-      falls_moved : total (share_by p (early_of (early - 1) rest)) v.coroutines < total (share_by p (early_of early (who ∷ rest))) w.coroutines
+      falls_moved : weigh (share_by p (early_of (early - 1) rest)) v.coroutines < weigh (share_by p (early_of early (who ∷ rest))) w.coroutines
 
-    went_falls : (w : World V) (early who : ℕ) (rest : List ℕ) (c : Coroutine V) (v : World V) → coroutine_of w who ≡ Some c → is_answered c.mode ≡ true → 1 ≤ p.left c.body → SaysIn (p.said c.body) c.mode → IsLowering (early_of early (who ∷ rest)) c → Numbered 0 w.coroutines w.last_coroutine → early_of (early - 1) rest who ≡ false → Went p law all_calm (begin w) who c (given_of c.mode).1 v → total (share_by p (early_of (early - 1) rest)) v.coroutines < total (share_by p (early_of early (who ∷ rest))) w.coroutines
+    went_falls : (w : World V) (early who : ℕ) (rest : List ℕ) (c : Coroutine V) (v : World V) → coroutine_of w who ≡ Some c → is_answered c.mode ≡ true → 1 ≤ p.left c.body → SaysIn (p.said c.body) c.mode → IsLowering (early_of early (who ∷ rest)) c → Numbered 0 w.coroutines w.last_coroutine → early_of (early - 1) rest who ≡ false → Went p law all_calm (begin w) who c (given_of c.mode).1 v → weigh (share_by p (early_of (early - 1) rest)) v.coroutines < weigh (share_by p (early_of early (who ∷ rest))) w.coroutines
     went_falls w early who rest c v found answered some says lowers numbered gone (called word view goes leads) =
         let now = early_of early (who ∷ rest) in
         let less = early_of (early - 1) rest in
@@ -250,7 +251,7 @@ module _ {V : Type 0} (p : Program V) (law : IsLawful p) (plainly : MakesPlain p
         let owes = answered_owes p now less who gone (others_same who rest early) c answered some in
         let here = found_changed (is_coroutine who) (as_running view) c w.coroutines (λ d. refl) found in
         let falls = ended_falls p now less who gone (others_same who rest early) c view outcome w.coroutines w.last_coroutine numbered found here owes in
-        subst (λ cs. total (share_by p less) cs < total (share_by p now) w.coroutines) (sym same) falls
+        subst (λ cs. weigh (share_by p less) cs < weigh (share_by p now) w.coroutines) (sym same) falls
 
     moves_off : (k : Kept V) (lack : Option LackPlace) (who : ℕ) (rest : List ℕ) → IsClosing p k → k.ready ≡ who ∷ rest → (may : MayTurn p k.world who) → MovesOff k.world k.early who rest (go_on p lack (begin k.world) who may.one.body)
     moves_off k lack who rest s e may =
@@ -351,8 +352,8 @@ module _ {V : Type 0} (p : Program V) (law : IsLawful p) (plainly : MakesPlain p
           early = let m = length_more rest (fresh v) in omega (arith, less, m);
           lowers = subst (λ f. AllLower f after.world.coroutines) (sym same) (all_lower_lined (early_of (k.early - 1) rest) v.coroutines off.lowers);
         } in
-        let now : owed p after ≡ total (share_by p (early_of (k.early - 1) rest)) v.coroutines = is_total (share_by p (is_early after)) after.world.coroutines ∙ ap (λ f. total (share_by p f) after.world.coroutines) same ∙ owed_lined p (early_of (k.early - 1) rest) v.coroutines in
-        let was : owed p k ≡ total (share_by p (early_of k.early (who ∷ rest))) k.world.coroutines = is_total (share_by p (is_early k)) k.world.coroutines ∙ ap (λ q. total (share_by p (λ n. list_any (λ m. m == n) (take k.early q))) k.world.coroutines) e in
+        let now : owed p after ≡ weigh (share_by p (early_of (k.early - 1) rest)) v.coroutines = is_total (share_by p (is_early after)) after.world.coroutines ∙ ap (λ f. weigh (share_by p f) after.world.coroutines) same ∙ owed_lined p (early_of (k.early - 1) rest) v.coroutines in
+        let was : owed p k ≡ weigh (share_by p (early_of k.early (who ∷ rest))) k.world.coroutines = is_total (share_by p (is_early k)) k.world.coroutines ∙ ap (λ q. weigh (share_by p (λ n. list_any (λ m. m == n) (take k.early q))) k.world.coroutines) e in
         let falls = off.falls in
         let lower : owed p after < owed p k = omega (arith, now, was, falls) in
         subst (λ (l : Kept V). IsClosing p l × (owed p l < owed p k)) (sym is) (closing, lower)

@@ -12,7 +12,10 @@ use Rattle.dill_rules.specs.declared.coroutine.Mode.TheVariants as modes
 use Rattle.dill_rules.specs.World.{is_coroutine, with_mode, is_ending}
 use Rattle.laws_sound.specs.Plain.{may_wait}
 use Rattle.laws_queue.specs.Well.{Numbered}
-use Rattle.laws_debt.proofs.Lists.{all_append, all_without, all_change, total, total_without, total_change, total_more, numbered_change, numbered_without, numbered_append}
+use Rattle.laws_debt.proofs.Lists.{all_append, all_without, all_change, total_more}
+use Rattle.laws_queue.proofs.Numbers.{numbered_change, numbered_without, numbered_append}
+use Rattle.laws_sound.specs.Orderly.{weigh}
+use Rattle.laws_sound.proofs.Counting.{weigh_without, weigh_change}
 
 -- How a coroutine may stand next: it waits for the call that its program made, or has the answer of that call, which lowers where the coroutine is one of the calm, or it is ending.
 abbrev pub Suits : {V : Type 0} → Program V → (ℕ → Bool) → Coroutine V → Mode → Type 0
@@ -54,13 +57,13 @@ module _ {V : Type 0} (p : Program V) (calm : ℕ → Bool) where
   evolves_all P moved born cs es k m (goes_on {ds = ds} {l = l} e f) a = evolves_all P moved born ds es l m f (evolves_all P moved born cs ds k l e a)
 
   -- a sum isn't raised, to which who isn't among the calm adds nothing, and who stands elsewhere no more than before
-  pub evolves_total : (f : Coroutine V → ℕ) → ((c : Coroutine V) (mode : Mode) → is_ending c.mode ≡ false → f (with_mode mode c) ≤ f c) → ((number : ℕ) (view : V) → calm number ≡ false → f (newborn number view) ≡ 0) → (cs ds : List (Coroutine V)) (k l : ℕ) → Evolves p calm cs k ds l → total f ds ≤ total f cs
+  pub evolves_total : (f : Coroutine V → ℕ) → ((c : Coroutine V) (mode : Mode) → is_ending c.mode ≡ false → f (with_mode mode c) ≤ f c) → ((number : ℕ) (view : V) → calm number ≡ false → f (newborn number view) ≡ 0) → (cs ds : List (Coroutine V)) (k l : ℕ) → Evolves p calm cs k ds l → weigh f ds ≤ weigh f cs
   evolves_total f moved born cs _ k _ stays = omega arith
   evolves_total f moved born cs _ k _ (turns who mode c e i g) =
-      let both = total_change f (is_coroutine who) (with_mode mode) c cs e in
+      let both = weigh_change f (is_coroutine who) (with_mode mode) cs c e in
       let less = moved c mode i in
       omega (arith, both, less)
-  evolves_total f moved born cs _ k _ (leaves who) = total_without f (is_coroutine who) cs
+  evolves_total f moved born cs _ k _ (leaves who) = weigh_without f (is_coroutine who) cs
   evolves_total f moved born cs _ k _ (begins view b q) = total_more f cs (newborn (k + 1) view) (born (k + 1) view q)
   evolves_total f moved born cs es k m (goes_on {ds = ds} {l = l} e g) =
       let one = evolves_total f moved born cs ds k l e in

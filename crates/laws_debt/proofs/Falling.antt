@@ -31,7 +31,7 @@ use Rattle.laws_debt.proofs.Ending.{KeepsWithin, IsShutAs, shut_lasts}
 use Rattle.laws_debt.proofs.Evolving.{Evolves, Suits, newborn, evolves_all, evolves_total}
 use Rattle.laws_debt.proofs.Holding.{new_outside as new_outside_of}
 use Rattle.laws_debt.proofs.Keeping.{good_stable, sits_resumed, turn_is}
-use Rattle.laws_debt.proofs.Lists.{total, total_change, all_found, all_to, found_passes, found_changed, number_of, some_same}
+use Rattle.laws_debt.proofs.Lists.{all_found, all_to, found_passes, number_of, some_same}
 use Rattle.laws_debt.proofs.Lowering.{less_at, others_lower, others_share, share_falls, answered_owes}
 use Rattle.laws_debt.proofs.Settling.{leads_sits}
 use Rattle.laws_debt.proofs.Shutting.{go_on_shut}
@@ -39,6 +39,9 @@ use Rattle.laws_debt.proofs.Tracking.{tracks_self, all_by_key}
 use Rattle.laws_debt.proofs.Tree.{InTree, tree_same, tree_off, tree_leads, settled_tree, facts_of, closing_found, go_on_tracks}
 use Rattle.laws_debt.proofs.Turning.{given_is, Went, called, ended, go_on_went, went_leads, found_number, all_resumed, total_resumed}
 use Rattle.laws_debt.proofs.Walking.{unlike}
+use Rattle.laws_queue.proofs.Numbers.{found_changed}
+use Rattle.laws_sound.specs.Orderly.{weigh}
+use Rattle.laws_sound.proofs.Counting.{weigh_change}
 
 -- ---- sums over those inside
 
@@ -62,7 +65,7 @@ module _ {V : Type 0} (p : Program V) (tree : ℕ → Bool) (early : ℕ → Boo
   in_born number view e = ap (λ t. if t then share_by p early (newborn number view) else 0) e
 
   -- steps besides the turn raise nothing
-  pub owed_tree : (cs ds : List (Coroutine V)) (k l : ℕ) → Evolves p tree cs k ds l → total share_in ds ≤ total share_in cs
+  pub owed_tree : (cs ds : List (Coroutine V)) (k l : ℕ) → Evolves p tree cs k ds l → weigh share_in ds ≤ weigh share_in cs
   owed_tree cs ds k l e = evolves_total p tree share_in in_moved in_born cs ds k l e
 
   suits_lowers : (c : Coroutine V) (mode : Mode) → Suits p tree c mode → LowersAt (with_mode mode c)
@@ -128,10 +131,10 @@ module _ {V : Type 0} (p : Program V) (law : IsLawful p) (plainly : MakesPlain p
   pub record Falls (w : World V) (b : ℕ) (early less : ℕ → Bool) (v : World V) : Type 0 where
     pub places : (n : ℕ) → IsThere v.scopes n → is_inside v.scopes b n ≡ is_inside w.scopes b n
     pub lowers : AllByRecursion (LowersAt p (is_inside w.scopes b) less) v.coroutines
-    pub owes : total (share_in p (is_inside w.scopes b) less) v.coroutines ≤ total (share_in p (is_inside w.scopes b) early) w.coroutines
+    pub owes : weigh (share_in p (is_inside w.scopes b) less) v.coroutines ≤ weigh (share_in p (is_inside w.scopes b) early) w.coroutines
 
   -- settling behind what has been done
-  pub settle_falls : (w moved : World V) (b : ℕ) (forest : IsForest w.scopes) (early less : ℕ → Bool) → InTree p w.scopes b forest moved → AllByRecursion (LowersAt p (is_inside w.scopes b) less) moved.coroutines → total (share_in p (is_inside w.scopes b) less) moved.coroutines ≤ total (share_in p (is_inside w.scopes b) early) w.coroutines → Falls w b early less (settle moved)
+  pub settle_falls : (w moved : World V) (b : ℕ) (forest : IsForest w.scopes) (early less : ℕ → Bool) → InTree p w.scopes b forest moved → AllByRecursion (LowersAt p (is_inside w.scopes b) less) moved.coroutines → weigh (share_in p (is_inside w.scopes b) less) moved.coroutines ≤ weigh (share_in p (is_inside w.scopes b) early) w.coroutines → Falls w b early less (settle moved)
   settle_falls w moved b forest early less i l o =
       let v = settle moved in
       let after = settled_tree p w.scopes b forest moved i in
@@ -164,7 +167,7 @@ module _ {V : Type 0} (p : Program V) (law : IsLawful p) (plainly : MakesPlain p
     none_left true = refl
     none_left false = refl
 
-    went_owes : (w : World V) (c : Coroutine V) (v : World V) → coroutine_of w who ≡ Some c → is_answered c.mode ≡ true → 1 ≤ p.left c.body → SaysIn (p.said c.body) c.mode → (tree c.number ≡ true → IsLowering early c) → Numbered 0 w.coroutines w.last_coroutine → (b : Bool) → tree c.number ≡ b → Went p law tree (begin w) who c (given_of c.mode).1 v → Owes (total (share_in p tree less) v.coroutines) (total (share_in p tree early) w.coroutines) b
+    went_owes : (w : World V) (c : Coroutine V) (v : World V) → coroutine_of w who ≡ Some c → is_answered c.mode ≡ true → 1 ≤ p.left c.body → SaysIn (p.said c.body) c.mode → (tree c.number ≡ true → IsLowering early c) → Numbered 0 w.coroutines w.last_coroutine → (b : Bool) → tree c.number ≡ b → Went p law tree (begin w) who c (given_of c.mode).1 v → Owes (weigh (share_in p tree less) v.coroutines) (weigh (share_in p tree early) w.coroutines) b
     went_owes w c v found answered some says lowers numbered true i (called word view goes leads) =
         let number = found_number who w.coroutines c found in
         let share = share_falls p early less who gone same c view word number answered says (lowers i) goes in
@@ -183,15 +186,15 @@ module _ {V : Type 0} (p : Program V) (law : IsLawful p) (plainly : MakesPlain p
         let owes = answered_owes p early less who gone same c answered some in
         let here = found_changed (is_coroutine who) (as_running view) c w.coroutines (λ d. refl) found in
         let one = total_resumed who view (share_in p tree early) (share_in p tree less) c w.coroutines 0 w.last_coroutine numbered found others_in in
-        let two = total_change (share_in p tree less) (is_coroutine who) (with_mode (modes.Ending outcome)) (as_running view c) (change (is_coroutine who) (as_running view) w.coroutines) here in
+        let two = weigh_change (share_in p tree less) (is_coroutine who) (with_mode (modes.Ending outcome)) (change (is_coroutine who) (as_running view) w.coroutines) (as_running view c) here in
         let last_share : share_in p tree less (with_mode (modes.Ending outcome) (as_running view c)) ≡ 0 = none_left (tree c.number) in
-        let over = by_end b (total (share_in p tree less) (change (is_coroutine who) (with_mode (modes.Ending outcome)) (change (is_coroutine who) (as_running view) w.coroutines))) (total (share_in p tree less) (change (is_coroutine who) (as_running view) w.coroutines)) (total (share_in p tree early) w.coroutines) (share_in p tree less (as_running view c)) (share_in p tree less (with_mode (modes.Ending outcome) (as_running view c))) (share_in p tree early c) (share_by p early c) one two last_share (in_is early c b i) owes in
-        subst (λ cs. Owes (total (share_in p tree less) cs) (total (share_in p tree early) w.coroutines) b) (sym ends) over
+        let over = by_end b (weigh (share_in p tree less) (change (is_coroutine who) (with_mode (modes.Ending outcome)) (change (is_coroutine who) (as_running view) w.coroutines))) (weigh (share_in p tree less) (change (is_coroutine who) (as_running view) w.coroutines)) (weigh (share_in p tree early) w.coroutines) (share_in p tree less (as_running view c)) (share_in p tree less (with_mode (modes.Ending outcome) (as_running view c))) (share_in p tree early c) (share_by p early c) one two last_share (in_is early c b i) owes in
+        subst (λ cs. Owes (weigh (share_in p tree less) cs) (weigh (share_in p tree early) w.coroutines) b) (sym ends) over
 
   -- the turn of the first of the queue, and whether what is owed fell
   pub record TurnFalls (w : World V) (b : ℕ) (early less : ℕ → Bool) (who : ℕ) (v : World V) : Type 0 where
     pub falling : Falls w b early less v
-    pub strictly : is_inside w.scopes b who ≡ true → total (share_in p (is_inside w.scopes b) less) v.coroutines < total (share_in p (is_inside w.scopes b) early) w.coroutines
+    pub strictly : is_inside w.scopes b who ≡ true → weigh (share_in p (is_inside w.scopes b) less) v.coroutines < weigh (share_in p (is_inside w.scopes b) early) w.coroutines
 
   module _ (keeps : KeepsWell p) (within : KeepsWithin p) where
     pub turn_falls : (k : Kept V) (lack : Option LackPlace) (who : ℕ) (rest : List ℕ) (b : ℕ) (early less : ℕ → Bool) → (s : IsStable p k) → k.ready ≡ who ∷ rest → is_closing k.world.scopes b ≡ true → less who ≡ false → ((n : ℕ) → (n == who) ≡ false → less n ≡ early n) → AllByRecursion (LowersAt p (is_inside k.world.scopes b) early) k.world.coroutines → TurnFalls k.world b early less who (turn p lack k.world who)
@@ -228,5 +231,5 @@ module _ {V : Type 0} (p : Program V) (law : IsLawful p) (plainly : MakesPlain p
         let settled = settle_falls w moved b forest early less in_moved lower owes.no_more in
         let after = tree_leads p w.scopes b forest moved in_moved in
         let kept = owed_tree p tree less moved.coroutines (settle moved).coroutines moved.last_coroutine (settle moved).last_coroutine after in
-        let strictly : tree who ≡ true → total (share_in p tree less) (settle moved).coroutines < total (share_in p tree early) w.coroutines = λ t. let f = owes.falls (ap tree number ∙ t) in omega (arith, kept, f) in
+        let strictly : tree who ≡ true → weigh (share_in p tree less) (settle moved).coroutines < weigh (share_in p tree early) w.coroutines = λ t. let f = owes.falls (ap tree number ∙ t) in omega (arith, kept, f) in
         subst (TurnFalls w b early less who) (sym (turn_is p law plainly lack w who c may.found)) (record { falling = settled; strictly = strictly })

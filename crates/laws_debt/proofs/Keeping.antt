@@ -36,11 +36,12 @@ use Rattle.laws_debt.specs.Says.{SaysIn, Says, AllSay}
 use Rattle.laws_debt.proofs.Entering.{start_only}
 use Rattle.laws_debt.proofs.Flagging.{all_picked, ranked_change}
 use Rattle.laws_queue.proofs.Lining.{lined_pending, numbered_lined}
-use Rattle.laws_debt.proofs.Lists.{all_change, all_map, all_to, numbered_change, number_of}
+use Rattle.laws_debt.proofs.Lists.{all_change, all_map, all_to, number_of}
 use Rattle.laws_debt.proofs.Settling.{Sits, AllSit, leads_sits, leads_numbered, settle_leads, expire_leads}
 use Rattle.laws_debt.proofs.Shutting.{AllHold, Lasts, settle_shut, expire_one_shut, go_on_shut}
 use Rattle.laws_debt.proofs.Turning.{go_on_went, went_leads}
 use Rattle.laws_debt.proofs.Walking.{Leads}
+use Rattle.laws_queue.proofs.Numbers.{numbered_change}
 
 -- nobody is among the calm
 abbrev pub nobody_calm : ℕ → Bool

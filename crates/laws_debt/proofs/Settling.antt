@@ -1,7 +1,6 @@
 -- Settling and expiring change the coroutines as told, and what is given to the calm lowers.
-use Rattle.std.proofs.Common.{◌≡◌, ◌∙◌, ◌<◌, ℕ, zero, suc, List, [], ◌∷◌, length, fold, find, Bool, true, false, Option, Some, None, refl, sym, ap, subst, arith}
+use Rattle.std.proofs.Common.{◌≡◌, ◌∙◌, ℕ, zero, suc, List, [], ◌∷◌, length, fold, find, Bool, true, false, Option, Some, None, refl, sym, ap, subst}
 use Rattle.std.specs.List.{AllByRecursion}
-use Rattle.std.specs.Option.{option_or}
 use Rattle.dill_calls.specs.declared.answer.Answer.{Answer}
 use Rattle.dill_calls.specs.declared.call.Call.{Call}
 use Rattle.dill_calls.specs.declared.call.Call.TheVariants as calls
@@ -16,7 +15,6 @@ use Rattle.dill_rules.specs.declared.coroutine.Mode.TheVariants as modes
 use Rattle.dill_rules.specs.World.{World, is_coroutine, coroutine_of, call_of, with_mode, pending_call, is_ending}
 use Rattle.dill_rules.specs.Owning.{is_dead_as, free_bundle}
 use Rattle.dill_rules.specs.Taking.{is_cancelled}
-use Rattle.dill_rules.specs.Answers.{answer_of}
 use Rattle.dill_rules.specs.Entering.{late_answer}
 use Rattle.dill_rules.specs.Expiring.{expire_one}
 use Rattle.dill_rules.specs.Giving.{give}
@@ -27,8 +25,9 @@ use Rattle.laws_debt.specs.Says.{SaysIn, Says}
 use Rattle.laws_queue.proofs.Crew.{bare_crew, free_dead_crew, keep_end_last}
 use Rattle.laws_debt.proofs.Entering.{start_only, answer_lowers}
 use Rattle.laws_debt.proofs.Evolving.{Evolves, stays, leaves, Suits, newborn, evolves_all, evolves_numbered}
-use Rattle.laws_debt.proofs.Lists.{some_same, all_found, found_passes, number_of, equal_number, above_of}
+use Rattle.laws_debt.proofs.Lists.{some_same, all_found, found_passes, number_of}
 use Rattle.laws_debt.proofs.Walking.{Leads, crew_leads, leads_then, Runs, LowersCalm, reply_leads, reply_behind}
+use Rattle.laws_queue.proofs.Stepping.{due_first}
 
 -- it waits in a call that may, and what its program made last is that call or the one that it is answered
 abbrev pub Sits : {V : Type 0} → Program V → Coroutine V → Type 0
@@ -106,38 +105,7 @@ module _ {V : Type 0} (p : Program V) (calm : ℕ → Bool) where
       let gone : Evolves p calm bare.coroutines bare.last_coroutine (without (is_coroutine c.number) bare.coroutines) bare.last_coroutine = leaves c.number in
       leads_then p calm w bare (finish w c) (crew_leads p calm w bare same) (subst (λ k. Evolves p calm bare.coroutines bare.last_coroutine (without (is_coroutine c.number) bare.coroutines) k) (sym (keep_end_last bare c)) gone)
 
--- the answer that is due of somebody
-pub record IsDue {V : Type 0} (w : World V) (cs : List (Coroutine V)) (x : ℕ × Call × Answer) : Type 0 where
-  pub one : Coroutine V
-  pub found : find (is_coroutine x.0) cs ≡ Some one
-  pub call : pending_call one.mode ≡ Some x.1
-  pub answer : answer_of w x.0 x.1 ≡ Some x.2
-
 module _ {V : Type 0} where
-  due_pending : (w : World V) (c : Coroutine V) (o : Option Call) (x : ℕ × Call × Answer) → pending_call c.mode ≡ o → if_some o None (λ call. if_some (answer_of w c.number call) None (λ a. Some (c.number, call, a))) ≡ Some x → (pending_call c.mode ≡ Some x.1) × (c.number ≡ x.0) × (answer_of w x.0 x.1 ≡ Some x.2)
-  due_pending w c None x i e = cc
-  due_pending w c (Some call) x i e = at (answer_of w c.number call) refl e
-    where
-      at : (r : Option Answer) → answer_of w c.number call ≡ r → if_some r None (λ a. Some (c.number, call, a)) ≡ Some x → (pending_call c.mode ≡ Some x.1) × (c.number ≡ x.0) × (answer_of w x.0 x.1 ≡ Some x.2)
-      at None j f = cc
-      at (Some a) j f =
-          let it : ◌≡◌ {A = ℕ × Call × Answer} (c.number, call, a) x = cc in
-          (i ∙ ap (λ y. Some y.1) it, ap (λ y. y.0) it, subst (λ y. answer_of w y.0 y.1 ≡ Some y.2) it j)
-
-  pub due_first : (w : World V) (low high : ℕ) (cs : List (Coroutine V)) (x : ℕ × Call × Answer) → Numbered low cs high → first_some (answer_due w) cs ≡ Some x → (low < x.0) × IsDue w cs x
-  due_first w low high [] x n e = cc
-  due_first w low high (c ∷ cs) x n e = at (answer_due w c) refl e (due_first w c.number high cs x n.1)
-    where
-      at : (o : Option (ℕ × Call × Answer)) → answer_due w c ≡ o → option_or o (first_some (answer_due w) cs) ≡ Some x → (first_some (answer_due w) cs ≡ Some x → (c.number < x.0) × IsDue w cs x) → (low < x.0) × IsDue w (c ∷ cs) x
-      at None i f rest =
-          let r = rest f in
-          let l = n.0 in
-          let m = r.0 in
-          (omega (arith, l, m), record { one = r.1.one; found = rw (above_of c.number x.0 r.0) r.1.found; call = r.1.call; answer = r.1.answer })
-      at (Some y) i f rest =
-          let d = due_pending w c (pending_call c.mode) x refl (i ∙ f) in
-          (subst (λ k. low < k) d.1 n.0, record { one = c; found = rw (equal_number c.number x.0 d.1) refl; call = d.0; answer = d.2 })
-
   pass_call : (w : World V) (o : Option Call) (c : Coroutine V) → pending_call c.mode ≡ o → if_some o true may_wait ≡ true → pass_one w c ≡ w
   pass_call w None c e h = rw e refl
   pass_call w (Some (calls.Msleep deadline)) c e h = rw e refl

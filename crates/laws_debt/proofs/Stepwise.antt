@@ -30,12 +30,15 @@ use Rattle.laws_debt.proofs.Falling.{share_in, LowersAt, Falls, ranked_bound}
 use Rattle.laws_debt.proofs.Flagging.{both_all}
 use Rattle.laws_sound.proofs.Leaving.{lined_ends}
 use Rattle.laws_debt.proofs.Lining.{lowers_lined}
-use Rattle.laws_debt.proofs.Lists.{total, is_total, total_map, all_found, all_append, all_to, find_append, found_passes, number_of, some_same}
+use Rattle.laws_debt.proofs.Lists.{is_total, all_found, all_append, all_to, found_passes, number_of, some_same}
 use Rattle.laws_debt.proofs.Shutting.{AllHold, Lasts}
 use Rattle.laws_debt.proofs.Stamping.{stamped_from, find_behind, is_less, came, came_before, queued_stamp, unqueued, new_closings, closing_stamped, open_unstamped, stamps_low}
 use Rattle.laws_debt.proofs.Tracking.{all_by_key}
 use Rattle.laws_debt.proofs.Tree.{closing_found}
 use Rattle.laws_debt.proofs.Walking.{unlike}
+use Rattle.laws_queue.proofs.Numbers.{find_append}
+use Rattle.laws_sound.specs.Orderly.{weigh}
+use Rattle.laws_sound.proofs.Counting.{weigh_alike}
 
 -- an answer that was given in this step lowers
 abbrev pub LowersFresh : Mode → Type 0
@@ -110,15 +113,15 @@ module _ {V : Type 0} where
       all_to (λ c. find (is_coroutine c.number) w.coroutines ≡ Some c) (λ c. IsThere w.scopes c.number) w.coroutines (λ c e. there_is w c.number o.fits (ap (λ (q : Option (Coroutine V)). is_some q) e))
       (each_found w.coroutines 0 w.last_coroutine o.fits.numbered)
 
-total_filter : {X : Type 0} (f : X → ℕ) (test : X → Bool) (xs : List X) → total f (filter test xs) ≡ total (λ x. if test x then f x else 0) xs
+total_filter : {X : Type 0} (f : X → ℕ) (test : X → Bool) (xs : List X) → weigh f (filter test xs) ≡ weigh (λ x. if test x then f x else 0) xs
 total_filter f test [] = refl
 total_filter f test (x ∷ xs) = at (test x) (total_filter f test xs)
   where
-    at : (b : Bool) → total f (filter test xs) ≡ total (λ y. if test y then f y else 0) xs → total f (cond b (x ∷ filter test xs) (filter test xs)) ≡ (if b then f x else 0) + total (λ y. if test y then f y else 0) xs
+    at : (b : Bool) → weigh f (filter test xs) ≡ weigh (λ y. if test y then f y else 0) xs → weigh f (cond b (x ∷ filter test xs) (filter test xs)) ≡ (if b then f x else 0) + weigh (λ y. if test y then f y else 0) xs
     at true r = ap (λ n. f x + n) r
     at false r = omega (arith, r)
 
-pub total_all : {X : Type 0} (f g : X → ℕ) (xs : List X) → AllByRecursion (λ x. f x ≡ g x) xs → total f xs ≡ total g xs
+pub total_all : {X : Type 0} (f g : X → ℕ) (xs : List X) → AllByRecursion (λ x. f x ≡ g x) xs → weigh f xs ≡ weigh g xs
 total_all f g [] a = refl
 total_all f g (x ∷ xs) a = let one = a.0 in let r = total_all f g xs a.1 in omega (arith, one, r)
 
@@ -140,11 +143,11 @@ fresh_lowers (modes.Ending outcome) b l h e = tt
 
 module _ {V : Type 0} (p : Program V) where
   -- the debt, as a sum over all
-  pub debt_total : (w : World V) (s : State V) (b : ℕ) → w ≡ wordless s.world → debt p s b ≡ total (share_in p (is_inside w.scopes b) (is_early s b)) w.coroutines
+  pub debt_total : (w : World V) (s : State V) (b : ℕ) → w ≡ wordless s.world → debt p s b ≡ weigh (share_in p (is_inside w.scopes b) (is_early s b)) w.coroutines
   debt_total w s b e =
       is_total (share_by p (is_early s b)) (filter (λ c. is_inside s.world.scopes b c.number) s.world.coroutines)
       ∙ total_filter (share_by p (is_early s b)) (λ c. is_inside s.world.scopes b c.number) s.world.coroutines
-      ∙ ap (λ (u : World V). total (share_in p (is_inside u.scopes b) (is_early s b)) u.coroutines) (sym e)
+      ∙ ap (λ (u : World V). weigh (share_in p (is_inside u.scopes b) (is_early s b)) u.coroutines) (sym e)
 
 module _ {V : Type 0} (p : Program V) (law : IsLawful p) (plainly : MakesPlain p) where
   -- who was early and isn't gone
@@ -320,14 +323,14 @@ module _ {V : Type 0} (p : Program V) (law : IsLawful p) (plainly : MakesPlain p
     share_lined tree f c = ap (λ e. if tree c.number then (if e then 0 else (if f c.number then 1 + p.most c.body else p.left c.body)) else 0) (lined_ends c.mode)
 
     -- the debt behind the step
-    pub debt_after : (b : ℕ) → is_closing k.world.scopes b ≡ true → debt p next_state b ≡ total (share_in p (is_inside k.world.scopes b) (less_early s b gone)) v.coroutines
+    pub debt_after : (b : ℕ) → is_closing k.world.scopes b ≡ true → debt p next_state b ≡ weigh (share_in p (is_inside k.world.scopes b) (less_early s b gone)) v.coroutines
     debt_after b c =
         let f = step.falls b c in
         let pointwise = both_all (λ (x : Coroutine V). IsThere v.scopes x.number) (λ x. IsThere v.scopes x.number) (λ x. share_in p (is_inside v.scopes b) (is_early next_state b) (lined x) ≡ share_in p (is_inside k.world.scopes b) (less_early s b gone) (lined x)) v.coroutines
         (λ x there _. ap (λ t. if t then share_by p (is_early next_state b) (lined x) else 0) (f.places x.number there) ∙ ap (λ e. if is_inside k.world.scopes b x.number then (if is_ending (lined_mode x.mode) then 0 else (if e then 1 + p.most x.body else p.left x.body)) else 0) (early_kept b c x.number)) there_after there_after in
         debt_total p (queued v ready early).world next_state b stands_after.world
         ∙ total_all (share_in p (is_inside v.scopes b) (is_early next_state b)) (share_in p (is_inside k.world.scopes b) (less_early s b gone)) (map lined v.coroutines) (all_remap (λ x. share_in p (is_inside v.scopes b) (is_early next_state b) x ≡ share_in p (is_inside k.world.scopes b) (less_early s b gone) x) lined v.coroutines pointwise)
-        ∙ total_map (share_in p (is_inside k.world.scopes b) (less_early s b gone)) lined v.coroutines (share_lined (is_inside k.world.scopes b) (less_early s b gone))
+        ∙ weigh_alike (share_in p (is_inside k.world.scopes b) (less_early s b gone)) lined v.coroutines (share_lined (is_inside k.world.scopes b) (less_early s b gone))
 
     -- who is there is inside exactly where it was
     pub places_after : (b : ℕ) → is_closing k.world.scopes b ≡ true → (n : ℕ) → is_there next_state.world n ≡ true → is_inside next_state.world.scopes b n ≡ is_inside s.world.scopes b n

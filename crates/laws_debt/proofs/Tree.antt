@@ -54,10 +54,11 @@ use Rattle.laws_debt.proofs.Flagging.{closed_names}
 use Rattle.laws_debt.proofs.Holding.{Facts, tracks_drop, tracks_ended, enter_tracks, end_tracks}
 use Rattle.laws_debt.proofs.Lists as lists
 use Rattle.laws_debt.proofs.Lists.{equal_number, number_of, all_to}
-use Rattle.laws_debt.proofs.Settling.{AllSit, leads_sits, settle_one_leads, settle_leads, pass_nothing, due_first, pending_runs}
+use Rattle.laws_debt.proofs.Settling.{AllSit, leads_sits, settle_one_leads, settle_leads, pass_nothing, pending_runs}
 use Rattle.laws_debt.proofs.Shutting.{AllHold, settle_one_shut}
 use Rattle.laws_debt.proofs.Tracking.{Tracks, inside_same}
 use Rattle.laws_debt.proofs.Walking.{Leads}
+use Rattle.laws_queue.proofs.Stepping.{due_first}
 
 -- ---- what is known of a world in order
 

@@ -23,8 +23,10 @@ use Rattle.laws_queue.proofs.Crew.{close_all_crew}
 use Rattle.laws_sound.proofs.Turns.{entered_plain}
 use Rattle.laws_debt.proofs.Entering.{plain_waits, plain_meets, word_entered, entered_passes, lack_lowers}
 use Rattle.laws_debt.proofs.Evolving.{Evolves, turns}
-use Rattle.laws_debt.proofs.Lists.{found_changed, found_passes, number_of, some_same, above_other, total}
+use Rattle.laws_debt.proofs.Lists.{found_passes, number_of, some_same, above_other}
 use Rattle.laws_debt.proofs.Walking.{Leads, Runs, Enters, reply_leads, enter_leads}
+use Rattle.laws_queue.proofs.Numbers.{found_changed}
+use Rattle.laws_sound.specs.Orderly.{weigh}
 
 -- where a coroutine is found by its number, it has it
 pub found_number : {V : Type 0} (who : ℕ) (cs : List (Coroutine V)) (c : Coroutine V) → find (is_coroutine who) cs ≡ Some c → c.number ≡ who
@@ -121,7 +123,7 @@ module _ {V : Type 0} (who : ℕ) (view : V) where
           (g c i, below P Q cs c.number high (omega (arith, same)) n.1 h a.1)
       at false i rest = (h c i a.0, rest)
 
-  same_below : (f g : Coroutine V → ℕ) (cs : List (Coroutine V)) (low high : ℕ) → who ≤ low → Numbered low cs high → ((x : Coroutine V) → (x.number == who) ≡ false → g x ≡ f x) → total g cs ≡ total f cs
+  same_below : (f g : Coroutine V → ℕ) (cs : List (Coroutine V)) (low high : ℕ) → who ≤ low → Numbered low cs high → ((x : Coroutine V) → (x.number == who) ≡ false → g x ≡ f x) → weigh g cs ≡ weigh f cs
   same_below f g [] low high l n h = refl
   same_below f g (c ∷ cs) low high l n h =
       let m = n.0 in
@@ -130,11 +132,11 @@ module _ {V : Type 0} (who : ℕ) (view : V) where
       omega (arith, one, rest)
 
   -- a sum behind the turn, to which each other adds as before
-  pub total_resumed : (f g : Coroutine V → ℕ) (c : Coroutine V) (cs : List (Coroutine V)) (low high : ℕ) → Numbered low cs high → find (is_coroutine who) cs ≡ Some c → ((x : Coroutine V) → (x.number == who) ≡ false → g x ≡ f x) → total g (change (is_coroutine who) (as_running view) cs) + f c ≡ total f cs + g (as_running view c)
+  pub total_resumed : (f g : Coroutine V → ℕ) (c : Coroutine V) (cs : List (Coroutine V)) (low high : ℕ) → Numbered low cs high → find (is_coroutine who) cs ≡ Some c → ((x : Coroutine V) → (x.number == who) ≡ false → g x ≡ f x) → weigh g (change (is_coroutine who) (as_running view) cs) + f c ≡ weigh f cs + g (as_running view c)
   total_resumed f g c [] low high n e h = cc
   total_resumed f g c (x ∷ cs) low high n e h = at (x.number == who) refl e (λ d. total_resumed f g c cs x.number high n.1 d h)
     where
-      at : (b : Bool) → (x.number == who) ≡ b → cond b (Some x) (find (is_coroutine who) cs) ≡ Some c → (find (is_coroutine who) cs ≡ Some c → total g (change (is_coroutine who) (as_running view) cs) + f c ≡ total f cs + g (as_running view c)) → total g (cond b (as_running view x ∷ cs) (x ∷ change (is_coroutine who) (as_running view) cs)) + f c ≡ f x + total f cs + g (as_running view c)
+      at : (b : Bool) → (x.number == who) ≡ b → cond b (Some x) (find (is_coroutine who) cs) ≡ Some c → (find (is_coroutine who) cs ≡ Some c → weigh g (change (is_coroutine who) (as_running view) cs) + f c ≡ weigh f cs + g (as_running view c)) → weigh g (cond b (as_running view x ∷ cs) (x ∷ change (is_coroutine who) (as_running view) cs)) + f c ≡ f x + weigh f cs + g (as_running view c)
       at true i d rest =
           let it = some_same x c d in
           let same = number_of x.number who i in

@@ -23,8 +23,8 @@ use Rattle.laws_queue.proofs.Acting.{Gives, Acts, idles, answered, waits, meets,
 use Rattle.laws_queue.proofs.Stepping.{bearing}
 use Rattle.laws_debt.proofs.Entering.{refusal_lowers, unrefused_lowers, starts_nobody}
 use Rattle.laws_debt.proofs.Evolving.{Evolves, stays, turns, begins, goes_on, newborn}
-use Rattle.laws_debt.proofs.Lists.{found_changed, find_append}
 use Rattle.laws_queue.proofs.Walking.{unrefused_known}
+use Rattle.laws_queue.proofs.Numbers.{found_changed, find_append}
 
 -- the coroutines of one world evolve to those of the other
 abbrev pub Leads : {V : Type 0} → Program V → (ℕ → Bool) → World V → World V → Type 0

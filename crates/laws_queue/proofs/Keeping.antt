@@ -24,9 +24,10 @@ use Rattle.laws_queue.specs.Laws.{MayTurn, HasPlaces, StepsKeepWell}
 use Rattle.laws_queue.specs.Well.{has_more, Lives, Numbered, bit, IsQueue, IsWell}
 use Rattle.laws_queue.proofs.Besides.{besides_crew, heat_all_besides}
 use Rattle.laws_queue.proofs.Lining.{well_queued, room_queued}
-use Rattle.laws_queue.proofs.Resuming.{found_running, numbered_running, lives_running, first_there, queue_rest}
+use Rattle.laws_queue.proofs.Resuming.{lives_running, first_there, queue_rest}
 use Rattle.laws_queue.proofs.Stepping.{lives_found, enter_leads, end_leads, heard_leads, expire_leads, settle_leads, lives_leads, numbered_leads}
 use Rattle.laws_queue.proofs.Walking.{Leads, leads_then, Runs, reply_leads}
+use Rattle.laws_queue.proofs.Numbers.{found_changed, numbered_change}
 
 answered_more : (mode : Mode) → is_answered mode ≡ true → has_more mode ≡ true
 answered_more (modes.Answered word answer) e = refl
@@ -49,7 +50,7 @@ module _ {V : Type 0} (p : Program V) (law : IsLawful p) where
     leads : Leads p (resume w who view) v
 
   runs_resumed : (w : World V) (who : ℕ) (view : V) (c : Coroutine V) → coroutine_of w who ≡ Some c → 1 ≤ p.left view → Runs p (resume w who view) who
-  runs_resumed w who view c e l = record { one = as_running view c; found = found_running view who c w.coroutines e; mode = refl; some = l }
+  runs_resumed w who view c e l = record { one = as_running view c; found = found_changed (is_coroutine who) (as_running view) c w.coroutines (λ d. refl) e; mode = refl; some = l }
 
   from_move : (lack : Option LackPlace) (w : World V) (who : ℕ) (c : Coroutine V) (answer : Answer) (next : V × Move) → coroutine_of w who ≡ Some c → Lives p w.coroutines → Moves p c.body answer next → TurnFrom w who (if is_build lack && may_lack_build next.1 then lack_move (resume w who (p.short c.body answer)) who next.1 else make_move p (is_entry lack) (resume w who next.0) who next.0 next.1)
   from_move lack w who c answer (new, Calls call) e l m = at (is_build lack && build_takes_memory (word_of call))
@@ -68,7 +69,7 @@ module _ {V : Type 0} (p : Program V) (law : IsLawful p) where
   from_move lack w who c answer (new, Ends outcome) e l m = at (is_build lack)
     where
       ended : TurnFrom w who (make_move p (is_entry lack) (resume w who new) who new (Ends outcome))
-      ended = record { view = new; real = m; leads = end_leads p (resume w who new) who outcome (as_running new c) (found_running new who c w.coroutines e) refl }
+      ended = record { view = new; real = m; leads = end_leads p (resume w who new) who outcome (as_running new c) (found_changed (is_coroutine who) (as_running new) c w.coroutines (λ d. refl) e) refl }
 
       at : (b : Bool) → TurnFrom w who (if b && false then resume w who (p.short c.body answer) else make_move p (is_entry lack) (resume w who new) who new (Ends outcome))
       at true = ended
@@ -83,7 +84,7 @@ module _ {V : Type 0} (p : Program V) (law : IsLawful p) where
       let from : TurnFrom b who (go_on p lack b who c.body) = from_move lack b who c answer (p.next c.body answer) may.found l (law.moves c.body answer may.real may.some) in
       let moved = go_on p lack b who c.body in
       let lives_r = lives_running from.view p who w.coroutines from.real l in
-      let numbered_r = numbered_running from.view who w.coroutines 0 w.last_coroutine n in
+      let numbered_r = numbered_change (is_coroutine who) (as_running from.view) w.coroutines 0 w.last_coroutine (λ d. refl) n in
       let settled : Leads p (resume b who from.view) (settle moved) = leads_then p (resume b who from.view) moved (settle moved) from.leads
       (settle_leads p moved (lives_leads p (resume b who from.view) moved from.leads lives_r) (numbered_leads p (resume b who from.view) moved from.leads numbered_r)) in
       let is : settle moved ≡ turn p lack w who = sym (ap (λ o. if_some o w (λ d. settle (go_on p lack (begin w) who d.body))) may.found) in
@@ -95,14 +96,14 @@ module _ {V : Type 0} (p : Program V) (law : IsLawful p) where
       let from = turn_from lack k.world who well.lives well.numbered may in
       let queue = queue_rest from.view who rest k.world.coroutines may.one may.found may.answered (subst (λ r. IsQueue r k.world.coroutines) e well.queue) in
       well_queued p (resume k.world who from.view) (turn p lack k.world who) rest (k.early - 1)
-      (lives_running from.view p who k.world.coroutines from.real well.lives) (numbered_running from.view who k.world.coroutines 0 k.world.last_coroutine well.numbered) queue from.leads
+      (lives_running from.view p who k.world.coroutines from.real well.lives) (numbered_change (is_coroutine who) (as_running from.view) k.world.coroutines 0 k.world.last_coroutine (λ d. refl) well.numbered) queue from.leads
 
   turn_places : (k : Kept V) (lack : Option LackPlace) (who : ℕ) (rest : List ℕ) → IsWell p k → k.ready ≡ who ∷ rest → HasPlaces rest (turn p lack k.world who)
   turn_places k lack who rest well e =
       let may = first k who rest well e in
       let from = turn_from lack k.world who well.lives well.numbered may in
       let queue = queue_rest from.view who rest k.world.coroutines may.one may.found may.answered (subst (λ r. IsQueue r k.world.coroutines) e well.queue) in
-      room_queued p (resume k.world who from.view) (turn p lack k.world who) rest (numbered_running from.view who k.world.coroutines 0 k.world.last_coroutine well.numbered) queue from.leads
+      room_queued p (resume k.world who from.view) (turn p lack k.world who) rest (numbered_change (is_coroutine who) (as_running from.view) k.world.coroutines 0 k.world.last_coroutine (λ d. refl) well.numbered) queue from.leads
 
   turned : (k : Kept V) (lack : Option LackPlace) → IsWell p k → IsWell p (kept_turn p lack k)
   turned k lack well = at k.ready refl

@@ -1,3 +1,4 @@
+pub mod Numbers
 pub mod Evolving
 pub mod Answered
 pub mod Crew

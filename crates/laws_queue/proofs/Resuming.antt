@@ -6,31 +6,15 @@ use Rattle.dill_base.specs.Maps.{if_some, change}
 use Rattle.dill_rules.specs.declared.coroutine.Coroutine.{Coroutine}
 use Rattle.dill_rules.specs.Turning.{as_running}
 use Rattle.dill_rules.specs.World.{is_coroutine, is_answered}
-use Rattle.laws_queue.specs.Well.{Lives, Numbered, bit, occurs, is_at, counts, IsQueue}
+use Rattle.laws_queue.specs.Well.{Lives, bit, occurs, is_at, counts, IsQueue}
 use Rattle.laws_queue.proofs.Answered.{some_same, number_of}
 use Rattle.laws_queue.proofs.Lining.{bit_one}
-use Rattle.laws_queue.proofs.Stepping.{equal_number}
+use Rattle.laws_queue.proofs.Numbers.{found_changed, equal_number}
 
 other_of : (a b n : ℕ) → (a == n) ≡ false → b ≡ n → (a == b) ≡ false
 other_of a b n e f = grind (arith, nat_tests)
 
 module _ {V : Type 0} (view : V) where
-  pub found_running : (who : ℕ) (c : Coroutine V) (cs : List (Coroutine V)) → find (is_coroutine who) cs ≡ Some c → find (is_coroutine who) (change (is_coroutine who) (as_running view) cs) ≡ Some (as_running view c)
-  found_running who c [] e = cc
-  found_running who c (x ∷ cs) e = at (is_coroutine who x) refl e (found_running who c cs)
-    where
-      at : (b : Bool) → is_coroutine who x ≡ b → cond b (Some x) (find (is_coroutine who) cs) ≡ Some c → (find (is_coroutine who) cs ≡ Some c → find (is_coroutine who) (change (is_coroutine who) (as_running view) cs) ≡ Some (as_running view c)) → find (is_coroutine who) (cond b (as_running view x ∷ cs) (x ∷ change (is_coroutine who) (as_running view) cs)) ≡ Some (as_running view c)
-      at true i f rest = rw i (ap (λ y. Some (as_running view y)) (some_same x c f))
-      at false i f rest = rw i (rest f)
-
-  pub numbered_running : (who : ℕ) (cs : List (Coroutine V)) (low high : ℕ) → Numbered low cs high → Numbered low (change (is_coroutine who) (as_running view) cs) high
-  numbered_running who [] low high h = h
-  numbered_running who (x ∷ cs) low high h = at (is_coroutine who x) (numbered_running who cs x.number high h.1)
-    where
-      at : (b : Bool) → Numbered x.number (change (is_coroutine who) (as_running view) cs) high → Numbered low (cond b (as_running view x ∷ cs) (x ∷ change (is_coroutine who) (as_running view) cs)) high
-      at true rest = (h.0, h.1)
-      at false rest = (h.0, rest)
-
   pub lives_running : (p : Program V) (who : ℕ) (cs : List (Coroutine V)) → p.real view ≡ true → Lives p cs → Lives p (change (is_coroutine who) (as_running view) cs)
   lives_running p who [] r l = tt
   lives_running p who (x ∷ cs) r l = at (is_coroutine who x) (lives_running p who cs r l.1)
@@ -80,7 +64,7 @@ module _ {V : Type 0} where
   rest_once : (view : V) (who n : ℕ) (rest : List ℕ) (cs : List (Coroutine V)) (c : Coroutine V) (t : Bool) → (who == n) ≡ t → find (is_coroutine who) cs ≡ Some c → is_answered c.mode ≡ true → IsQueue (who ∷ rest) cs → occurs n rest ≡ bit (is_at is_answered (change (is_coroutine who) (as_running view) cs) n)
   rest_once view who n rest cs c true e f g q =
       let same : who ≡ n = number_of who n e in
-      let now : is_at is_answered (change (is_coroutine who) (as_running view) cs) n ≡ false = subst (λ k. is_at is_answered (change (is_coroutine who) (as_running view) cs) k ≡ false) same (ap (λ o. if_some o false (λ d. is_answered d.mode)) (found_running view who c cs f)) in
+      let now : is_at is_answered (change (is_coroutine who) (as_running view) cs) n ≡ false = subst (λ k. is_at is_answered (change (is_coroutine who) (as_running view) cs) k ≡ false) same (ap (λ o. if_some o false (λ d. is_answered d.mode)) (found_changed (is_coroutine who) (as_running view) c cs (λ d. refl) f)) in
       let was : is_at is_answered cs n ≡ true = subst (λ k. is_at is_answered cs k ≡ true) same (ap (λ o. if_some o false (λ d. is_answered d.mode)) f ∙ g) in
       let one : bit (who == n) ≡ 1 = ap bit e in
       let before : bit (is_at is_answered cs n) ≡ 1 = ap bit was in

@@ -15,9 +15,9 @@ use Rattle.laws_queue.specs.Well.{bit, Numbered, counts}
 use Rattle.laws_queue.proofs.Acting.{give_gives}
 use Rattle.laws_queue.proofs.Answered.{some_same}
 use Rattle.laws_queue.proofs.Crew.{bare_crew, keep_end_last}
-use Rattle.laws_queue.proofs.Evolving.{numbered_change, numbered_without}
 use Rattle.laws_queue.proofs.Stepping.{by_number, passes, due_first}
 use Rattle.laws_queue.specs.Settled.{SettlesAll}
+use Rattle.laws_queue.proofs.Numbers.{numbered_change, numbered_without}
 
 -- pending or ending: something may still be due of it
 rests : Mode → Bool
@@ -95,7 +95,7 @@ module _ {V : Type 0} where
           let left : (settle_one w).coroutines ≡ without (is_coroutine c.number) w.coroutines = ap (λ (v : World V). v.coroutines) is ∙ ap (without (is_coroutine c.number)) same.coroutines in
           let last : (settle_one w).last_coroutine ≡ w.last_coroutine = ap (λ (v : World V). v.last_coroutine) is ∙ keep_end_last _ c ∙ same.last in
           fewer (ap (λ cs. counts rests cs + 1) left ∙ count_removed rests c.number c w.coroutines here ends)
-          (subst (λ cs. Numbered 0 cs (settle_one w).last_coroutine) (sym left) (subst (Numbered 0 (without (is_coroutine c.number) w.coroutines)) (sym last) (numbered_without c.number w.coroutines 0 w.last_coroutine n)))
+          (subst (λ cs. Numbered 0 cs (settle_one w).last_coroutine) (sym left) (subst (Numbered 0 (without (is_coroutine c.number) w.coroutines)) (sym last) (numbered_without (is_coroutine c.number) w.coroutines 0 w.last_coroutine n)))
       at None e None f = done (record { endings = e; answers = f }) (ap (λ o. if_some o (give_first w) (finish w)) e ∙ ap (λ r. if_some r w (λ x. give w x.0 x.1 x.2)) f)
       at None e (Some x) f =
           let is : settle_one w ≡ give w x.0 x.1 x.2 = ap (λ o. if_some o (give_first w) (finish w)) e ∙ ap (λ r. if_some r w (λ y. give w y.0 y.1 y.2)) f in
@@ -105,7 +105,7 @@ module _ {V : Type 0} where
           let now : (settle_one w).coroutines ≡ change (is_coroutine x.0) (with_mode mode) w.coroutines = ap (λ (v : World V). v.coroutines) is ∙ g.coroutines in
           let last : (settle_one w).last_coroutine ≡ w.last_coroutine = ap (λ (v : World V). v.last_coroutine) is ∙ g.last in
           fewer (ap (λ cs. counts rests cs + 1) now ∙ count_moved rests x.0 mode due.one w.coroutines (rests_fresh (word_of x.1) g.answer) due.found (pending_waits due.one.mode x.1 due.call))
-          (subst (λ cs. Numbered 0 cs (settle_one w).last_coroutine) (sym now) (subst (Numbered 0 (change (is_coroutine x.0) (with_mode mode) w.coroutines)) (sym last) (numbered_change x.0 mode w.coroutines 0 w.last_coroutine n)))
+          (subst (λ cs. Numbered 0 cs (settle_one w).last_coroutine) (sym now) (subst (Numbered 0 (change (is_coroutine x.0) (with_mode mode) w.coroutines)) (sym last) (numbered_change (is_coroutine x.0) (with_mode mode) w.coroutines 0 w.last_coroutine (λ d. refl) n)))
 
   within_same : (k : ℕ) (w : World V) → settle_one w ≡ w → settle_within k w ≡ w
   within_same zero w e = refl

@@ -1,5 +1,5 @@
 -- Calls, replies of the kernel, settling, turns and expiries change the coroutines only as told.
-use Rattle.std.proofs.Common.{◌≡◌, ◌∙◌, ◌==◌, ◌<◌, ℕ, zero, suc, List, [], ◌∷◌, length, find, Bool, true, false, ◌&&◌, cond, Option, Some, None, if◌then◌else◌, refl, sym, ap, subst, arith, eq-eqb}
+use Rattle.std.proofs.Common.{◌≡◌, ◌∙◌, ◌==◌, ◌<◌, ℕ, zero, suc, List, [], ◌∷◌, length, find, Bool, true, false, ◌&&◌, cond, Option, Some, None, if◌then◌else◌, refl, sym, ap, subst, arith}
 use Rattle.std.specs.Option.{option_or}
 use Rattle.std.proofs.lemmas.Bool.Decides.{nat_tests}
 use Rattle.dill_base.specs.declared.errno.Errno.{Errno}
@@ -34,9 +34,7 @@ use Rattle.laws_queue.proofs.Crew.{close_all_crew, bare_crew, keep_end_last}
 use Rattle.laws_queue.proofs.Evolving.{Evolves, stays, turns, leaves, begins, evolves_numbered}
 use Rattle.laws_queue.proofs.Besides.{besides_crew, pass_all_besides}
 use Rattle.laws_queue.proofs.Walking.{Leads, crew_leads, leads_then, Runs, runs_crew, runs_replied, reply_leads, pend_leads, runs_born, told_length, Known, unrefused_known}
-
-pub equal_number : (a b : ℕ) → a ≡ b → (a == b) ≡ true
-equal_number a b e = eq-eqb a b e
+use Rattle.laws_queue.proofs.Numbers.{equal_number, above}
 
 module _ {V : Type 0} (p : Program V) where
   lives_found_at : (test : Coroutine V → Bool) (found : Bool) (x c : Coroutine V) (cs : List (Coroutine V)) → cond found (Some x) (find test cs) ≡ Some c → IsAlive p x → (find test cs ≡ Some c → IsAlive p c) → IsAlive p c
@@ -161,14 +159,6 @@ above_of : (a b : ℕ) → a < b → (a == b) ≡ false
 above_of a b h = grind (arith, nat_tests)
 
 module _ {V : Type 0} where
-  above_cons : (low : ℕ) (x c : Coroutine V) (t : Bool) (rest : Option (Coroutine V)) → cond t (Some x) rest ≡ Some c → low < x.number → (rest ≡ Some c → x.number < c.number) → low < c.number
-  above_cons low x c true rest e l f = let it : x ≡ c = cc in subst (λ d. low < d.number) it l
-  above_cons low x c false rest e l f = let r = f e in omega (arith, l, r)
-
-  above : (low high : ℕ) (test : Coroutine V → Bool) (cs : List (Coroutine V)) (c : Coroutine V) → find test cs ≡ Some c → Numbered low cs high → low < c.number
-  above low high test [] c e h = cc
-  above low high test (x ∷ cs) c e h = above_cons low x c (test x) (find test cs) e h.0 (λ f. above x.number high test cs c f h.1)
-
   by_cons : (test : Coroutine V → Bool) (high : ℕ) (x c : Coroutine V) (cs : List (Coroutine V)) (t : Bool) → cond t (Some x) (find test cs) ≡ Some c → Numbered x.number cs high → (find test cs ≡ Some c → find (is_coroutine c.number) cs ≡ Some c) → find (is_coroutine c.number) (x ∷ cs) ≡ Some c
   by_cons test high x c cs true e h rest = let it : x ≡ c = cc in rw (equal_number x.number c.number (ap (λ d. d.number) it)) e
   by_cons test high x c cs false e h rest = rw (above_of x.number c.number (above x.number high test cs c e h)) (rest e)
@@ -204,18 +194,21 @@ module _ {V : Type 0} (p : Program V) where
 
 module _ {V : Type 0} where
   -- whose answer is due is pending
-  due_pending : (w : World V) (c : Coroutine V) (o : Option Call) (x : ℕ × Call × Answer) → pending_call c.mode ≡ o → if_some o None (λ call. if_some (answer_of w c.number call) None (λ a. Some (c.number, call, a))) ≡ Some x → (pending_call c.mode ≡ Some x.1) × (c.number ≡ x.0)
+  due_pending : (w : World V) (c : Coroutine V) (o : Option Call) (x : ℕ × Call × Answer) → pending_call c.mode ≡ o → if_some o None (λ call. if_some (answer_of w c.number call) None (λ a. Some (c.number, call, a))) ≡ Some x → (pending_call c.mode ≡ Some x.1) × (c.number ≡ x.0) × (answer_of w x.0 x.1 ≡ Some x.2)
   due_pending w c None x i e = cc
-  due_pending w c (Some call) x i e = at (answer_of w c.number call) e
+  due_pending w c (Some call) x i e = at (answer_of w c.number call) refl e
     where
-      at : (r : Option Answer) → if_some r None (λ a. Some (c.number, call, a)) ≡ Some x → (pending_call c.mode ≡ Some x.1) × (c.number ≡ x.0)
-      at None f = cc
-      at (Some a) f = let it : ◌≡◌ {A = ℕ × Call × Answer} (c.number, call, a) x = cc in (i ∙ ap (λ y. Some y.1) it, ap (λ y. y.0) it)
+      at : (r : Option Answer) → answer_of w c.number call ≡ r → if_some r None (λ a. Some (c.number, call, a)) ≡ Some x → (pending_call c.mode ≡ Some x.1) × (c.number ≡ x.0) × (answer_of w x.0 x.1 ≡ Some x.2)
+      at None j f = cc
+      at (Some a) j f =
+          let it : ◌≡◌ {A = ℕ × Call × Answer} (c.number, call, a) x = cc in
+          (i ∙ ap (λ y. Some y.1) it, ap (λ y. y.0) it, subst (λ y. answer_of w y.0 y.1 ≡ Some y.2) it j)
 
   pub record DueAt (w : World V) (cs : List (Coroutine V)) (x : ℕ × Call × Answer) : Type 0 where
     pub one : Coroutine V
     pub found : find (is_coroutine x.0) cs ≡ Some one
     pub call : pending_call one.mode ≡ Some x.1
+    pub answer : answer_of w x.0 x.1 ≡ Some x.2
 
   pub due_first : (w : World V) (low high : ℕ) (cs : List (Coroutine V)) (x : ℕ × Call × Answer) → Numbered low cs high → first_some (answer_due w) cs ≡ Some x → (low < x.0) × DueAt w cs x
   due_first w low high [] x n e = cc
@@ -224,10 +217,10 @@ module _ {V : Type 0} where
       at : (o : Option (ℕ × Call × Answer)) → answer_due w c ≡ o → option_or o (first_some (answer_due w) cs) ≡ Some x → (first_some (answer_due w) cs ≡ Some x → (c.number < x.0) × DueAt w cs x) → (low < x.0) × DueAt w (c ∷ cs) x
       at None i f rest =
           let r = rest f in
-          (omega (arith, n.0, r.0), record { one = r.1.one; found = rw (above_of c.number x.0 r.0) r.1.found; call = r.1.call })
+          (omega (arith, n.0, r.0), record { one = r.1.one; found = rw (above_of c.number x.0 r.0) r.1.found; call = r.1.call; answer = r.1.answer })
       at (Some y) i f rest =
           let d = due_pending w c (pending_call c.mode) x refl (i ∙ f) in
-          (subst (λ k. low < k) d.1 n.0, record { one = c; found = rw (equal_number c.number x.0 d.1) refl; call = d.0 })
+          (subst (λ k. low < k) d.1 n.0, record { one = c; found = rw (equal_number c.number x.0 d.1) refl; call = d.0; answer = d.2 })
 
 module _ {V : Type 0} (p : Program V) where
   give_first_leads : (w : World V) → Lives p w.coroutines → Numbered 0 w.coroutines w.last_coroutine → Leads p w (give_first w)

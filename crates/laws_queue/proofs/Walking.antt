@@ -1,5 +1,5 @@
 -- Every step changes the coroutines as told: one that has no answer stands elsewhere or is gone, or a new one begins.
-use Rattle.std.proofs.Common.{◌≡◌, ◌∙◌, ◌+◌, ◌≤◌, ℕ, suc, List, [], ◌∷◌, ◌++◌, length, find, Bool, true, false, not, ◌&&◌, ◌||◌, cond, Option, Some, None, refl, sym, ap, subst}
+use Rattle.std.proofs.Common.{◌≡◌, ◌∙◌, ◌+◌, ◌≤◌, ℕ, suc, List, [], ◌∷◌, length, find, Bool, true, false, not, ◌&&◌, ◌||◌, cond, Option, Some, None, refl, sym, ap, subst}
 use Rattle.dill_base.specs.declared.errno.Errno.{Errno}
 use Rattle.dill_base.specs.declared.errno.Errno.TheVariants as errnos
 use Rattle.dill_calls.specs.declared.answer.Answer.{Answer}
@@ -21,6 +21,7 @@ use Rattle.dill_rules.specs.Refusals.{refuse, has_twice, holds, is_invalid, is_r
 use Rattle.dill_rules.specs.Effects.{told, bear}
 use Rattle.laws_queue.proofs.Crew.{SameCrew}
 use Rattle.laws_queue.proofs.Evolving.{Evolves, stays, turns, goes_on}
+use Rattle.laws_queue.proofs.Numbers.{find_append}
 
 -- the coroutines of one world evolve to those of the other
 abbrev pub Leads : {V : Type 0} → Program V → World V → World V → Type 0
@@ -79,14 +80,6 @@ module _ {V : Type 0} (p : Program V) where
   runs_replied w who n word answer r =
       let there = runs_mode w who n (modes.Fresh word answer) refl r in
       record { one = there.one; found = there.found; mode = there.mode; some = there.some }
-
-  find_append : (test : Coroutine V → Bool) (cs ds : List (Coroutine V)) (c : Coroutine V) → find test cs ≡ Some c → find test (cs ++ ds) ≡ Some c
-  find_append test [] ds c e = cc
-  find_append test (x ∷ cs) ds c e = at (test x) e (find_append test cs ds c)
-    where
-      at : (found : Bool) → cond found (Some x) (find test cs) ≡ Some c → (find test cs ≡ Some c → find test (cs ++ ds) ≡ Some c) → cond found (Some x) (find test (cs ++ ds)) ≡ Some c
-      at true f rest = f
-      at false f rest = rest f
 
   -- a new coroutine begins, and the caller may be answered still
   pub runs_born : (w : World V) (who : ℕ) (view : V) (home : ℕ) → Runs w who → Runs (bear w view home) who

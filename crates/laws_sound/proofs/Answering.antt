@@ -2,7 +2,6 @@
 use Rattle.std.proofs.Common.{◌≡◌, ◌∙◌, ℕ, zero, suc, ◌+◌, ◌==◌, List, [], ◌∷◌, length, map, find, fold, Bool, true, false, not, ◌&&◌, ◌||◌, ◌≤◌, Option, Some, None, if◌then◌else◌, refl, sym, ap, subst, arith, lit≤}
 use Rattle.std.specs.Prelude.{is_some, filter, reverse}
 use Rattle.std.specs.List.{list_all}
-use Rattle.std.specs.Option.{option_or}
 use Rattle.std.proofs.lemmas.Bool.{and_parts, or_right}
 use Rattle.dill_base.specs.declared.errno.Errno.{Errno}
 use Rattle.dill_calls.specs.declared.answer.Answer.{Answer}
@@ -392,26 +391,6 @@ module _ {V : Type 0} where
   close_due : (w : World V) (number : ℕ) (answer : Answer) → when_empty w (bundle_dead_as w number) ≡ Some answer → (x : Closing) → find (is_dead_as number) w.closings ≡ Some x → is_empty w.scopes x.bundle ≡ true
   close_due w number answer e x f = when_some (is_empty w.scopes x.bundle) _ answer (ap (λ o. when_empty w (if_some o None (λ y. Some y.bundle))) (sym f) ∙ e)
 
-  -- the answer of whoever is due
-  record Due (w : World V) (x : ℕ × Call × Answer) : Type 0 where
-    answer : answer_of w x.0 x.1 ≡ Some x.2
-
-  due_answer : (w : World V) (n : ℕ) (o : Option Call) (x : ℕ × Call × Answer) → if_some o None (λ call. if_some (answer_of w n call) None (λ a. Some (n, call, a))) ≡ Some x → Due w x
-  due_answer w n None x e = cc
-  due_answer w n (Some call) x e = at (answer_of w n call) refl e
-    where
-      at : (r : Option Answer) → answer_of w n call ≡ r → if_some r None (λ a. Some (n, call, a)) ≡ Some x → Due w x
-      at None f g = cc
-      at (Some a) f g = let it : ◌≡◌ {A = ℕ × Call × Answer} (n, call, a) x = cc in subst (Due w) it (record { answer = f })
-
-  due_found : (w : World V) (cs : List (Coroutine V)) (x : ℕ × Call × Answer) → first_some (answer_due w) cs ≡ Some x → Due w x
-  due_found w [] x e = cc
-  due_found w (c ∷ cs) x e = at (answer_due w c) refl e (due_found w cs x)
-    where
-      at : (o : Option (ℕ × Call × Answer)) → answer_due w c ≡ o → option_or o (first_some (answer_due w) cs) ≡ Some x → (first_some (answer_due w) cs ≡ Some x → Due w x) → Due w x
-      at None f g rest = rest g
-      at (Some y) f g rest = due_answer w c.number (pending_call c.mode) x (f ∙ g)
-
   give_first_good : (w : World V) → IsOrderly w → Goes w (give_first w)
   give_first_good w g = some_good (first_some (answer_due w) w.coroutines) w (λ x. give w x.0 x.1 x.2) g due
     where
@@ -419,8 +398,7 @@ module _ {V : Type 0} where
       due x e =
           let d = (due_first w 0 w.last_coroutine w.coroutines x g.order.fits.numbered e).1 in
           let c = found_call w x.0 x.1 (ap (λ q. if_some q None (λ h. pending_call h.mode)) d.found ∙ d.call) in
-          let answer = due_found w w.coroutines x e in
-          give_good w x.0 x.1 x.2 c.0 g c.1 c.2 (λ number s y f. close_due w number x.2 (ap (answer_of w x.0) (sym s) ∙ answer.answer) y f)
+          give_good w x.0 x.1 x.2 c.0 g c.1 c.2 (λ number s y f. close_due w number x.2 (ap (answer_of w x.0) (sym s) ∙ d.answer) y f)
 
   pub fold_handles : {A : Type 0} (f : World V → A → World V) (xs : List A) (w : World V) → ((v : World V) (a : A) → Stays v.handles (f v a).handles) → Stays w.handles (fold f w xs).handles
   fold_handles f [] w h = λ n e. e

@@ -25,7 +25,7 @@ use Rattle.dill_rules.specs.Settling.{outcome_of, leave}
 use Rattle.dill_rules.specs.Taking.{bundle_of}
 use Rattle.dill_rules.specs.World.{World, at_start, is_coroutine, coroutine_of, from_start}
 use Rattle.laws_queue.specs.Well.{Numbered}
-use Rattle.laws_queue.proofs.Evolving.{numbered_without}
+use Rattle.laws_queue.proofs.Numbers.{numbered_without}
 use Rattle.laws_sound.specs.Order.{is_there, has_bundle, is_held, FitsTogether}
 use Rattle.laws_sound.proofs.Counting.{found_push, length_without, length_push, keys_without}
 use Rattle.laws_sound.proofs.Crews.{gone_without, other_without}
@@ -80,7 +80,7 @@ module _ {V : Type 0} where
       forest = ended_keeps w.scopes who f.forest none;
       bundles = f.bundles;
       crew = keys_without (λ (x : Home). x.who) who w.scopes.homes ∙ ap (without (λ n. n == who)) f.crew ∙ sym (keys_without (λ (x : Coroutine V). x.number) who w.coroutines);
-      numbered = numbered_without who w.coroutines 0 w.last_coroutine f.numbered;
+      numbered = numbered_without (is_coroutine who) w.coroutines 0 w.last_coroutine f.numbered;
       begun = f.begun;
       few = let l = length_without (is_coroutine who) w.coroutines c e in let m = f.few in omega (arith, l, m);
       main = main;

@@ -7,6 +7,7 @@ use Rattle.std.proofs.lemmas.Bool.Decides.{nat_tests}
 use Rattle.dill_base.specs.Maps.{if_some, change, without}
 use Rattle.laws_queue.specs.Well.{bit, occurs}
 use Rattle.laws_sound.specs.Orderly.{weigh}
+use Rattle.laws_queue.proofs.Numbers.{find_append}
 
 -- it is this number
 abbrev pub holds : Option ℕ → ℕ → Bool
@@ -146,12 +147,7 @@ module _ {X : Type 0} where
       at false false h i j rest = rw h (rest j f)
 
   pub found_push : (pick : X → Bool) (xs : List X) (y x : X) → find pick xs ≡ Some x → find pick (xs ++ y ∷ []) ≡ Some x
-  found_push pick [] y x e = cc
-  found_push pick (z ∷ xs) y x e = at (pick z) e (found_push pick xs y x)
-    where
-      at : (t : Bool) → cond t (Some z) (find pick xs) ≡ Some x → (find pick xs ≡ Some x → find pick (xs ++ y ∷ []) ≡ Some x) → cond t (Some z) (find pick (xs ++ y ∷ [])) ≡ Some x
-      at true f rest = f
-      at false f rest = rest f
+  found_push pick xs y x e = find_append pick xs (y ∷ []) x e
 
   pub pushed_found : (pick : X → Bool) (xs : List X) (y : X) → find pick xs ≡ None → pick y ≡ true → find pick (xs ++ y ∷ []) ≡ Some y
   pushed_found pick [] y e f = rw f refl

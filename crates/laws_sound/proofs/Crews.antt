@@ -19,14 +19,6 @@ module _ {V : Type 0} where
         at true r = ap (λ n. n ∷ map (λ d. d.number) cs) (same c)
         at false r = ap (λ ns. c.number ∷ ns) r
 
-    pub change_numbered : (who : ℕ) (cs : List (Coroutine V)) (low high : ℕ) → Numbered low cs high → Numbered low (change (is_coroutine who) f cs) high
-    change_numbered who [] low high n = n
-    change_numbered who (c ∷ cs) low high n = at (is_coroutine who c) (change_numbered who cs c.number high n.1)
-      where
-        at : (t : Bool) → Numbered c.number (change (is_coroutine who) f cs) high → Numbered low (cond t (f c ∷ cs) (c ∷ change (is_coroutine who) f cs)) high
-        at true r = (subst (λ k. low < k) (sym (same c)) n.0, subst (λ k. Numbered k cs high) (sym (same c)) n.1)
-        at false r = (n.0, r)
-
     pub change_here : (who : ℕ) (cs : List (Coroutine V)) (c : Coroutine V) → find (is_coroutine who) cs ≡ Some c → find (is_coroutine who) (change (is_coroutine who) f cs) ≡ Some (f c)
     change_here who [] c e = cc
     change_here who (x ∷ cs) c e = at (is_coroutine who x) refl e (change_here who cs c)

@@ -27,9 +27,10 @@ use Rattle.laws_queue.specs.Well.{Numbered, bit, occurs}
 use Rattle.laws_sound.specs.Order.{is_there, has_bundle, is_held, FitsTogether}
 use Rattle.laws_sound.specs.Orderly.{weigh}
 use Rattle.laws_sound.proofs.Counting.{holds, weigh_map, weigh_filter}
-use Rattle.laws_sound.proofs.Crews.{change_numbers, change_numbered, change_length}
+use Rattle.laws_sound.proofs.Crews.{change_numbers, change_length}
 use Rattle.laws_sound.proofs.Lists.{all_follow, all_from}
 use Rattle.laws_sound.proofs.Sound.{same_there, there_home}
+use Rattle.laws_queue.proofs.Numbers.{numbered_change}
 
 -- a live number names the bundle
 abbrev pub names_it : ℕ → Entry Thing → Bool
@@ -114,7 +115,7 @@ module _ {V : Type 0} where
   pub fits_set : (w : World V) (who : ℕ) (mode : Mode) → FitsTogether w → FitsTogether (set_mode w who mode)
   fits_set w who mode f =
       fits_crew w (change (is_coroutine who) (with_mode mode) w.coroutines) (change_numbers (with_mode mode) (λ c. refl) who w.coroutines)
-      (change_numbered (with_mode mode) (λ c. refl) who w.coroutines 0 w.last_coroutine f.numbered) (change_length (with_mode mode) (λ c. refl) who w.coroutines) f
+      (numbered_change (is_coroutine who) (with_mode mode) w.coroutines 0 w.last_coroutine (λ c. refl) f.numbered) (change_length (with_mode mode) (λ c. refl) who w.coroutines) f
 
   -- numbers are kept for an answer
   pub fits_keep : (w : World V) (count : ℕ) → length w.handles.entries + w.handles.kept + count ≤ 65536 → FitsTogether w → FitsTogether (record w { handles = handles.keep w.handles count })

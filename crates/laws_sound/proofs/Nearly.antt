@@ -18,10 +18,11 @@ use Rattle.laws_queue.specs.Well.{Numbered, is_at}
 use Rattle.laws_queue.proofs.Answered.{none_below}
 use Rattle.laws_sound.proofs.Lists.{all_found, all_follow, all_from}
 use Rattle.laws_sound.specs.Order.{closes, waits_for, is_kept_open, has_waiter, has_closing, FitsTogether, IsInOrder}
-use Rattle.laws_sound.proofs.Crews.{change_numbers, change_numbered, change_length, change_other}
+use Rattle.laws_sound.proofs.Crews.{change_numbers, change_length, change_other}
 use Rattle.laws_sound.proofs.Fitting.{fits_crew}
 use Rattle.laws_sound.proofs.Handing.{equal, unequal, same_number}
 use Rattle.laws_sound.proofs.Owners.{owns}
+use Rattle.laws_queue.proofs.Numbers.{numbered_change}
 
 pub or_false : (a b : Bool) → (a || b) ≡ true → a ≡ false → b ≡ true
 or_false true b e f = cc
@@ -99,7 +100,7 @@ module _ {V : Type 0} where
       let v = record w { coroutines = ds } in
       let other : (test : Mode → Bool) (n : ℕ) → (n ≡ who → ⊥) → is_at test ds n ≡ is_at test w.coroutines n = λ test n ne. ap (at_as test) (change_other f same who n w.coroutines ne) in
       record {
-        fits = fits_crew w ds (change_numbers f same who w.coroutines) (change_numbered f same who w.coroutines 0 w.last_coroutine near.fits.numbered) (change_length f same who w.coroutines) near.fits;
+        fits = fits_crew w ds (change_numbers f same who w.coroutines) (numbered_change (is_coroutine who) f w.coroutines 0 w.last_coroutine same near.fits.numbered) (change_length f same who w.coroutines) near.fits;
         closings = all_follow (λ x. mine_or who (owner_of w.scopes x.bundle) (is_at (waits_for x.number) w.coroutines)) (λ x. mine_or who (owner_of w.scopes x.bundle) (is_at (waits_for x.number) ds)) w.closings
             (λ x e. mine_as who (owner_of w.scopes x.bundle) (is_at (waits_for x.number) w.coroutines) (is_at (waits_for x.number) ds) (other (waits_for x.number)) e) near.closings;
         waiters = all_change_at (λ c. c.number == who || has_closing w c) (is_coroutine who) f w.coroutines (λ c e. ap (λ n. n == who || has_closing w (f c)) (same c) ∙ ap (λ b. b || has_closing w (f c)) e) near.waiters;
