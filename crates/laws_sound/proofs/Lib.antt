@@ -32,3 +32,4 @@ pub mod Hearing
 pub mod Stepping
 pub mod Resting
 pub mod Calming
+pub mod Numbering

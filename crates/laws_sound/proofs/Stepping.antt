@@ -137,7 +137,7 @@ module _ {V : Type 0} where
 
   -- ---- the steps
 
-  order_queued : (w : World V) (ready : List ℕ) (early : ℕ) → IsOrderly w → IsOrderly (queued w ready early).world
+  pub order_queued : (w : World V) (ready : List ℕ) (early : ℕ) → IsOrderly w → IsOrderly (queued w ready early).world
   order_queued w ready early g = record {
     order = order_lined w g.order;
     sockets = all_map (is_socketed w.handles) lined w.coroutines (λ c f. ap (λ o. if_some o true (λ call. if is_on_stack (word_of call) then if_some (named_by call) true (is_no_bundle w.handles) else true)) (lined_pending c.mode) ∙ f) g.sockets;
@@ -206,13 +206,17 @@ module _ {V : Type 0} where
   settled : (k : Kept V) → IsOrderly k.world → IsOrderly (queued (settle k.world) k.ready k.early).world
   settled k g = order_queued (settle k.world) k.ready k.early (settle_goes k.world g).good
 
+  -- the deadlines of others stay, once the answers have their places
+  pub expire_lined : (k : Kept V) (who n : ℕ) → is_timed k.world n ≡ true → is_timed (kept_expire_next k who).world n ≡ true
+  expire_lined k who n e = ap timed (calls_lined (expire_one k.world who).coroutines n) ∙ expire_timed k.world who n e
+
   expire_all : (xs : List ℕ) (k : Kept V) → IsOrderly k.world → list_all (is_timed k.world) xs ≡ true → IsOrderly (fold kept_expire_next k xs).world
   expire_all [] k g t = g
   expire_all (x ∷ xs) k g t =
       let b = and_parts (is_timed k.world x) (list_all (is_timed k.world) xs) t in
       let next = kept_expire_next k x in
       expire_all xs next (expires k x g b.0)
-      (all_follow (is_timed k.world) (is_timed next.world) xs (λ n e. ap timed (calls_lined (expire_one k.world x).coroutines n) ∙ expire_timed k.world x n e) b.1)
+      (all_follow (is_timed k.world) (is_timed next.world) xs (λ n e. expire_lined k x n e) b.1)
 
   expired : (k : Kept V) → IsOrderly k.world → IsOrderly (kept_expired k).world
   expired k g = settled (kept_late k) (expire_all (passed k.world) (record k { world = begin k.world }) (begins k.world g) (passed_timed k.world g.order))

@@ -3,3 +3,4 @@ pub mod PlainLaws
 pub mod Order
 pub mod Orderly
 pub mod Laws
+pub mod Numbers

@@ -1,4 +1,5 @@
 ghost use Rattle.laws_sound.specs.PlainLaws.{KeepsPlain, FollowsPlainly, SettlesPlainly};
+ghost use Rattle.laws_sound.specs.Numbers.{NumbersOnce};
 ghost use Rattle.laws_sound.specs.Laws.{KeepsOrder, NotesNumbers, KeepsRest, KeepsSettled, OrderIsSound, CancelsAll, GoesOn, RootGoesOn, BundleGoesOn};
 
 use dill_calls::Body;
@@ -54,6 +55,12 @@ pub fn steps_keep_order<B: Body>()
 /// often as before.
 pub fn steps_note_numbers<B: Body>()
     ensures { NotesNumbers B.means }
+{}
+
+/// Over any steps each number that was given is live, of a closing, or was noted as dead, exactly one of these and once: none
+/// is given again, and each is noted as dead at most once.
+pub fn numbers_once<B: Body>()
+    ensures { NumbersOnce B.means }
 {}
 
 /// Each step leads from rest to rest, whatever is called: nobody is making a call, and whoever was answered is queued.
