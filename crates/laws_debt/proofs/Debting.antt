@@ -37,7 +37,7 @@ use Rattle.laws_sound.proofs.Plainly.{begin_plain}
 use Rattle.laws_sound.proofs.Turns.{closed_plain, go_on_plain}
 use Rattle.laws_sound.specs.Laws.{is_closing, is_timed, HasGoing}
 use Rattle.laws_sound.specs.Order.{IsInOrder}
-use Rattle.laws_sound.proofs.Going.{closing_goes_on}
+use Rattle.laws_sound.proofs.Going.{closing_goes_on, plain_long}
 use Rattle.laws_sound.proofs.Sound.{rooted_inside}
 use Rattle.laws_sound.proofs.Stepping.{steps_keep_order, passed_timed, expire_timed}
 use Rattle.laws_debt.specs.Closing.{IsStable}
@@ -427,7 +427,7 @@ module _ {V : Type 0} (p : Program V) (law : IsLawful p) (plainly : MakesPlain p
       let same = st.even.stands.world in
       let here : is_closing k.world.scopes b ≡ true = subst (λ (w : World V). is_closing w.scopes b ≡ true) (sym same) c in
       let full : is_empty k.world.scopes b ≡ false = subst (λ (w : World V). is_empty w.scopes b ≡ false) (sym same) e in
-      let g = closing_goes_on V k.world b st.even.stable.order.order st.even.stable.plain st.settled st.even.stable.rest here full in
+      let g = closing_goes_on V k.world b st.even.stable.order.order (plain_long k.world st.even.stable.plain) st.settled st.even.stable.rest here full in
       let there : HasGoing (wordless s.world) b = subst (λ w. HasGoing w b) same g in
       record { who = there.who; inside = there.inside; answered = there.answered }
 

@@ -47,6 +47,7 @@ use Rattle.laws_debt.proofs.Shutting.{settle_shut, AllHold, Lasts, settle_one_sh
 use Rattle.laws_debt.proofs.Turning.{given_is, Went, called, ended, go_on_went, went_leads, found_number, all_resumed}
 use Rattle.laws_debt.proofs.Walking.{Leads, unlike}
 use Rattle.laws_queue.proofs.Numbers.{found_changed}
+use Rattle.laws_sound.proofs.Going.{plain_long}
 
 -- steps within a step keep a world in order
 pub record KeepsWithin {V : Type 0} (p : Program V) : Type 0 where
@@ -373,7 +374,7 @@ module _ {V : Type 0} (p : Program V) (law : IsLawful p) (plainly : MakesPlain p
         at (who ∷ rest) e h = (turned_first k lack who rest keeps s e).1
 
     goes_on : (k : Kept V) → IsClosing p k → k.world.ended ≡ None → has_answer k.ready ≡ true
-    goes_on k s e = goes k s.stable.well s.stable.plain s.stable.order.order s.settled s.stable.rest s.closing e
+    goes_on k s e = goes k s.stable.well (plain_long k.world s.stable.plain) s.stable.order.order s.settled s.stable.rest s.closing e
 
     stays_ended : (k : Kept V) (lacks : List (Option LackPlace)) → is_some k.world.ended ≡ true → is_some (fold (turn_until p) k lacks).world.ended ≡ true
     stays_ended k [] e = e

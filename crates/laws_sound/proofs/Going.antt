@@ -1,6 +1,6 @@
 -- Where a bundle is closing in which somebody lives, somebody inside it has an answer: else each of them would wait for one deeper.
 use Rattle.std.proofs.Common.{◌≡◌, ◌∙◌, ℕ, zero, suc, ◌+◌, ◌<◌, ◌==◌, List, [], ◌∷◌, length, get_or, map, find, Bool, true, false, not, ◌&&◌, ◌||◌, cond, ◌⊎◌, inl, inr, Option, Some, None, refl, sym, ap, subst, arith}
-use Rattle.std.proofs.lemmas.Bool.{and_parts}
+use Rattle.std.proofs.lemmas.Bool.{and_from, and_parts}
 use Rattle.std.specs.Prelude.{is_some, is_none, option_map, option_and_then, filter}
 use Rattle.std.specs.List.{list_all, list_any}
 use Rattle.std.specs.List.Sorted.{IsStrictlyIncreasing}
@@ -22,7 +22,9 @@ use Rattle.dill_rules.specs.declared.coroutine.Closing.{Closing}
 use Rattle.dill_rules.specs.declared.coroutine.Coroutine.{Coroutine}
 use Rattle.dill_rules.specs.declared.coroutine.Mode.{Mode}
 use Rattle.dill_rules.specs.declared.coroutine.Mode.TheVariants as modes
-use Rattle.dill_rules.specs.Answers.{answer_of, when, when_empty}
+use Rattle.dill_base.specs.declared.errno.Errno.TheVariants.{Ecanceled, Ebadf}
+use Rattle.dill_calls.specs.declared.answer.Answer.TheVariants.{Fault}
+use Rattle.dill_rules.specs.Answers.{answer_of, when, when_empty, lost_its_number, own_answer}
 use Rattle.dill_rules.specs.Owning.{is_dead_as}
 use Rattle.dill_rules.specs.Settling.{can_finish, is_clear, answer_due, IsSettled}
 use Rattle.dill_rules.specs.Taking.{is_cancelled}
@@ -30,9 +32,10 @@ use Rattle.dill_rules.specs.World.{World, is_coroutine, coroutine_of, pending_ca
 use Rattle.laws_sound.specs.Plain.{may_wait, waits_plainly, IsPlain}
 use Rattle.laws_queue.specs.Kept.{has_answer}
 use Rattle.laws_queue.specs.Well.{Numbered, bit, occurs}
-use Rattle.laws_sound.proofs.Lists.{all_found}
+use Rattle.laws_sound.proofs.Lists.{all_found, all_follow}
 use Rattle.laws_queue.proofs.Stepping.{passes}
-use Rattle.laws_sound.specs.Laws.{is_closing, is_resting, IsAtRest, HasGoing, GoesOn, RootGoesOn, BundleGoesOn}
+use Rattle.dill_calls.specs.CallTable.{word_of, blocks}
+use Rattle.laws_sound.specs.Laws.{is_closing, is_resting, waits_long, WaitsLong, IsAtRest, HasGoing, GoesOn, RootGoesOn, BundleGoesOn}
 use Rattle.laws_sound.specs.Order.{is_there, has_bundle, has_closing, closes, FitsTogether, IsInOrder}
 use Rattle.laws_sound.proofs.Sound.{owner_is, same_there, inside_cancelled, there_inside}
 
@@ -101,6 +104,10 @@ module _ {X : Type 0} (key : X → ℕ) (test : X → Bool) where
       at false f g =
           let r = picked (key x) xs (climbing (key x) (map key xs) i) g in
           record { one = r.one; found = rw (above_not (key x) (key r.one) r.above) r.found; passed = r.passed }
+
+or_last : (b : Bool) → (b || false) ≡ true → b ≡ true
+or_last true e = refl
+or_last false e = cc
 
 not_not : (b : Bool) → not b ≡ false → b ≡ true
 not_not true e = refl
@@ -177,8 +184,13 @@ module _ {V : Type 0} where
       at None g = refl
       at (Some a) g = cc
 
-  not_cancelled : (w : World V) (who : ℕ) (rest : Option Answer) (b : Bool) (answer : Answer) → option_or (when (true && is_cancelled w who) answer) rest ≡ None → is_cancelled w who ≡ true → ⊥
-  not_cancelled w who rest b answer e f = let n = none_when (is_cancelled w who) answer (or_none (when (is_cancelled w who) answer) rest e).0 in cc
+  -- a call that blocks has no answer only where its caller isn't cancelled
+  not_cancelled : (w : World V) (who : ℕ) (call : Call) → answer_of w who call ≡ None → is_cancelled w who ≡ true → blocks (word_of call) ≡ true → ⊥
+  not_cancelled w who call e f g = at (blocks (word_of call) && is_cancelled w who) (and_from (blocks (word_of call)) (is_cancelled w who) g f) (or_none (when (blocks (word_of call) && is_cancelled w who) (Fault Ecanceled)) (option_or (when (lost_its_number w call) (Fault Ebadf)) (own_answer w call)) e).0
+    where
+      at : (b : Bool) → b ≡ true → when b (Fault Ecanceled) ≡ None → ⊥
+      at true h i = cc
+      at false h i = cc
 
   closes_deeper : (w : World V) (who number : ℕ) → if_some (find (is_dead_as number) w.closings) false (λ x. has_bundle w who x.bundle) ≡ true → when_empty w (if_some (find (is_dead_as number) w.closings) None (λ x. Some x.bundle)) ≡ None → Deeper w who
   closes_deeper w who number e f = at (find (is_dead_as number) w.closings) e f
@@ -220,7 +232,7 @@ module _ {V : Type 0} where
   -- who waits in order, at rest and settled, is answered or has a bundle that somebody lives in
   record Waits (w : World V) : Type 0 where
     order : IsInOrder w
-    plain : IsPlain w
+    long : WaitsLong w
     settled : IsSettled w
     rest : IsAtRest w
 
@@ -229,18 +241,16 @@ module _ {V : Type 0} where
   stands w who c (modes.Ending outcome) h e f g =
       let n : can_finish w c ≡ false = none_passes (can_finish w) (is_coroutine who) w.coroutines c h.settled.endings e in
       inr (ending_deeper w who h.order.fits (ap (is_clear w) (sym (its_number w who c e)) ∙ ap (λ m. is_ending m && is_clear w c.number) (sym g) ∙ n))
-  stands w who c (modes.Pending call) h e f g = inr (pending call g (ap (λ m. if_some (pending_call m) true may_wait) (sym g) ∙ all_found waits_plainly (is_coroutine who) w.coroutines c h.plain.calls e))
+  stands w who c (modes.Pending call) h e f g = inr (pending call g (ap waits_long (sym g) ∙ all_found (λ d. waits_long d.mode) (is_coroutine who) w.coroutines c h.long e))
     where
       none : (call : Call) → c.mode ≡ modes.Pending call → answer_of w who call ≡ None
       none call i = ap (λ n. answer_of w n call) (sym (its_number w who c e)) ∙ no_answer w who c call h.settled e i
 
-      pending : (call : Call) → c.mode ≡ modes.Pending call → may_wait call ≡ true → Deeper w who
-      pending (calls.Msleep deadline) i j = absurd (not_cancelled w who _ true _ (none (calls.Msleep deadline) i) f)
-      pending (calls.BundleWait number deadline) i j = absurd (not_cancelled w who _ true _ (none (calls.BundleWait number deadline) i) f)
+      pending : (call : Call) → c.mode ≡ modes.Pending call → waits_long (modes.Pending call) ≡ true → Deeper w who
       pending (calls.Hclose number) i j =
           let held : if_some (find (is_dead_as number) w.closings) false (λ x. has_bundle w c.number x.bundle) ≡ true = ap (λ m. if_some (closes m) true (λ n. if_some (find (is_dead_as n) w.closings) false (λ x. has_bundle w c.number x.bundle))) (sym i) ∙ all_found (has_closing w) (is_coroutine who) w.coroutines c h.order.waiters e in
           closes_deeper w who number (ap (λ n. if_some (find (is_dead_as number) w.closings) false (λ x. has_bundle w n x.bundle)) (sym (its_number w who c e)) ∙ held) (none (calls.Hclose number) i)
-      pending _ i j = cc
+      pending call i j = absurd (not_cancelled w who call (none call i) f (or_last (blocks (word_of call)) j))
   stands w who c modes.Running h e f g = let r : is_resting c.mode ≡ true = all_found (λ d. is_resting d.mode) (is_coroutine who) w.coroutines c h.rest e in cc
   stands w who c (modes.Fresh word answer) h e f g = let r : is_resting c.mode ≡ true = all_found (λ d. is_resting d.mode) (is_coroutine who) w.coroutines c h.rest e in cc
 
@@ -262,10 +272,21 @@ module _ {V : Type 0} where
           let other : low.name ≡ 0 → ⊥ = λ z. let o : owner_of w.scopes 0 ≡ Some who = subst (λ n. owner_of w.scopes n ≡ Some who) z low.owned in let n = h.order.fits.forest.forest.root in cc in
           next r.who (omega (arith, l)) (climb w.scopes 0 r.who low.name who d r.home other low.owned ∙ f) (under who (parent_is w.scopes r.who low.name who r.home low.owned) i) r.there
 
+-- without channels and links it is so
+pub plain_long : {V : Type 0} (w : World V) → IsPlain w → WaitsLong w
+plain_long w plain = all_follow waits_plainly (λ c. waits_long c.mode) w.coroutines (λ c e. by_mode c.mode e) plain.calls
+  where
+    by_mode : (mode : Mode) → if_some (pending_call mode) true may_wait ≡ true → waits_long mode ≡ true
+    by_mode (modes.Pending (calls.Msleep deadline)) e = refl
+    by_mode (modes.Pending (calls.BundleWait number deadline)) e = refl
+    by_mode (modes.Pending (calls.Hclose number)) e = refl
+    by_mode (modes.Pending _) e = cc
+    by_mode _ e = refl
+
 pub closing_goes_on : (V : Type 0) → GoesOn V
-closing_goes_on V w name order plain settled rest e lived =
+closing_goes_on V w name order long settled rest e lived =
     let r = resident w name order.fits lived in
-    deeper w name (record { order = order; plain = plain; settled = settled; rest = rest }) e (length w.scopes.homes) 0 r.who (omega arith) refl (lives r.home) r.there
+    deeper w name (record { order = order; long = long; settled = settled; rest = rest }) e (length w.scopes.homes) 0 r.who (omega arith) refl (lives r.home) r.there
 
 queued_one : (ready : List ℕ) (who : ℕ) → occurs who ready ≡ 1 → has_answer ready ≡ true
 queued_one [] who e = absurd (omega arith)
@@ -275,12 +296,12 @@ main_there : {V : Type 0} (w : World V) → FitsTogether w → w.ended ≡ None 
 main_there w fits e = sym fits.main ∙ ap is_none e
 
 pub root_goes_on : {V : Type 0} (p : Program V) → RootGoesOn p
-root_goes_on p k well plain order settled rest e lives_on =
+root_goes_on p k well long order settled rest e lives_on =
     let there = main_there k.world order.fits lives_on in
-    let one = deeper k.world 0 (record { order = order; plain = plain; settled = settled; rest = rest }) e (length k.world.scopes.homes) 0 1 (omega arith) refl (there_inside k.world 1 order.fits there) there in
+    let one = deeper k.world 0 (record { order = order; long = long; settled = settled; rest = rest }) e (length k.world.scopes.homes) 0 1 (omega arith) refl (there_inside k.world 1 order.fits there) there in
     queued_one k.ready one.who (well.queue.once one.who ∙ ap bit one.answered)
 
 pub bundle_goes_on : {V : Type 0} (p : Program V) → BundleGoesOn p
-bundle_goes_on {V} p k name well plain order settled rest e lived =
-    let one = closing_goes_on V k.world name order plain settled rest e lived in
+bundle_goes_on {V} p k name well long order settled rest e lived =
+    let one = closing_goes_on V k.world name order long settled rest e lived in
     record { who = one.who; inside = one.inside; queued = well.queue.once one.who ∙ ap bit one.answered }

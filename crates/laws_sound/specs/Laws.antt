@@ -1,7 +1,8 @@
 -- Laws of worlds in order: each step keeps them so, and where a bundle is closing somebody inside it has an answer.
-use Rattle.std.specs.Prelude.{◌≡◌, ℕ, List, Bool, true, false, Option, Some, None, find, is_some}
+use Rattle.std.specs.Prelude.{◌≡◌, ℕ, List, Bool, true, false, ◌||◌, Option, Some, None, find, is_some}
 use Rattle.std.specs.List.{list_all}
 use Rattle.dill_calls.specs.declared.ran.LackPlace.{LackPlace}
+use Rattle.dill_calls.specs.CallTable.{word_of, blocks}
 use Rattle.dill_calls.specs.Program.{Program, IsLawful}
 use Rattle.dill_plain.specs.Plain.{MakesPlain}
 use Rattle.dill_kernel.specs.declared.ready.Ready.{Ready}
@@ -19,11 +20,11 @@ use Rattle.dill_rules.specs.Expiring.{due_of, expire_one}
 use Rattle.dill_rules.specs.Hearing.{heard}
 use Rattle.dill_rules.specs.Trying.{Try}
 use Rattle.dill_rules.specs.Turning.{turn}
-use Rattle.dill_rules.specs.World.{World, begin, call_of, coroutine_of, is_answered}
+use Rattle.dill_rules.specs.World.{World, begin, call_of, coroutine_of, is_answered, pending_call}
 use Rattle.laws_queue.specs.Kept.{Kept, has_answer, opening_kept, queued, kept_turn, kept_hear, kept_expire_next, kept_expired, root_closed, kept_shut, kept_woke}
 use Rattle.laws_sound.specs.Plain.{IsPlain}
 use Rattle.laws_queue.specs.Well.{occurs, is_at, IsWell}
-use Rattle.laws_sound.specs.Order.{is_there, IsInOrder}
+use Rattle.laws_sound.specs.Order.{closes, is_there, IsInOrder}
 use Rattle.laws_sound.specs.Orderly.{IsOrderly, NotesOnce}
 
 -- the closing of a bundle has begun
@@ -39,6 +40,13 @@ is_resting _ = false
 
 abbrev pub IsAtRest : {V : Type 0} → World V → Type 0
 IsAtRest w = list_all (λ c. is_resting c.mode) w.coroutines ≡ true
+
+-- what it is pending in blocks, or is an `hclose`; there is no other call that stays pending, but where a detach that never blocks were to wait
+abbrev pub waits_long : Mode → Bool
+waits_long mode = if_some (pending_call mode) true (λ call. blocks (word_of call) || is_some (closes mode))
+
+abbrev pub WaitsLong : {V : Type 0} → World V → Type 0
+WaitsLong w = list_all (λ c. waits_long c.mode) w.coroutines ≡ true
 
 -- what it is pending in has a deadline, if it is pending
 abbrev pub is_timed : {V : Type 0} → World V → ℕ → Bool
@@ -110,11 +118,11 @@ pub record HasGoing {V : Type 0} (w : World V) (name : ℕ) : Type 0 where
 
 -- where a bundle is closing in which somebody lives, somebody inside it has an answer once nothing is due
 abbrev pub GoesOn : (V : Type 0) → Type 0
-GoesOn V = (w : World V) (name : ℕ) → IsInOrder w → IsPlain w → IsSettled w → IsAtRest w → is_closing w.scopes name ≡ true → is_empty w.scopes name ≡ false → HasGoing w name
+GoesOn V = (w : World V) (name : ℕ) → IsInOrder w → WaitsLong w → IsSettled w → IsAtRest w → is_closing w.scopes name ≡ true → is_empty w.scopes name ≡ false → HasGoing w name
 
 -- where the root is closing and `main` hasn't ended, somebody is queued
 abbrev pub RootGoesOn : {V : Type 0} → Program V → Type 0
-RootGoesOn {V} p = (k : Kept V) → IsWell p k → IsPlain k.world → IsInOrder k.world → IsSettled k.world → IsAtRest k.world → is_closing k.world.scopes 0 ≡ true → k.world.ended ≡ None → has_answer k.ready ≡ true
+RootGoesOn {V} p = (k : Kept V) → IsWell p k → WaitsLong k.world → IsInOrder k.world → IsSettled k.world → IsAtRest k.world → is_closing k.world.scopes 0 ≡ true → k.world.ended ≡ None → has_answer k.ready ≡ true
 
 -- somebody inside a bundle is queued with an answer
 pub record HasQueued {V : Type 0} (k : Kept V) (name : ℕ) : Type 0 where
@@ -124,4 +132,4 @@ pub record HasQueued {V : Type 0} (k : Kept V) (name : ℕ) : Type 0 where
 
 -- where a bundle is closing in which somebody lives, somebody inside it is queued
 abbrev pub BundleGoesOn : {V : Type 0} → Program V → Type 0
-BundleGoesOn {V} p = (k : Kept V) (name : ℕ) → IsWell p k → IsPlain k.world → IsInOrder k.world → IsSettled k.world → IsAtRest k.world → is_closing k.world.scopes name ≡ true → is_empty k.world.scopes name ≡ false → HasQueued k name
+BundleGoesOn {V} p = (k : Kept V) (name : ℕ) → IsWell p k → WaitsLong k.world → IsInOrder k.world → IsSettled k.world → IsAtRest k.world → is_closing k.world.scopes name ≡ true → is_empty k.world.scopes name ≡ false → HasQueued k name

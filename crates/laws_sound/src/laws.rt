@@ -37,12 +37,12 @@ pub fn closing_goes_on<B: Body>()
 {}
 
 /// Where the root is closing and `main` has not ended, somebody is queued with an answer, once nothing is due.
-pub fn root_goes_on<B: PlainBody>()
+pub fn root_goes_on<B: Body>()
     ensures { RootGoesOn B.means }
 {}
 
 /// Where a bundle is closing in which somebody lives, somebody inside it is queued with an answer, once nothing is due.
-pub fn bundle_goes_on<B: PlainBody>()
+pub fn bundle_goes_on<B: Body>()
     ensures { BundleGoesOn B.means }
 {}
 
