@@ -31,7 +31,8 @@ use Rattle.laws_queue.specs.Lending.{wordless}
 use Rattle.laws_queue.specs.Stands.{StandsFor}
 use Rattle.laws_queue.specs.Well.{bit}
 use Rattle.laws_queue.proofs.Following.{next_is, nobody_next}
-use Rattle.laws_sound.proofs.PlainLaws.{follows_plainly, expired_next, settled_after, settles_plainly}
+use Rattle.laws_sound.proofs.PlainLaws.{follows_plainly, expired_next, settled_after}
+use Rattle.laws_sound.proofs.Apart.{plain_apart, settles_apart}
 use Rattle.laws_queue.proofs.Keeping.{steps_keep_well}
 use Rattle.laws_sound.proofs.Plainly.{begin_plain}
 use Rattle.laws_sound.proofs.Turns.{closed_plain, go_on_plain}
@@ -105,7 +106,7 @@ module _ {V : Type 0} (p : Program V) (law : IsLawful p) (plainly : MakesPlain p
       let moved = go_on p lack (begin w) who c.body in
       let plain_move = plainly c.body (answer_given (begin w) who).1 may.real may.some in
       let good = good_moved p law plainly lack w who may c may.found may.some may.real (good_stable p k s) in
-      subst IsSettled (sym (turn_is p law plainly lack w who c may.found)) (settles_plainly V moved (go_on_plain p lack (begin w) who c.body plain_move (begin_plain w s.plain)) good.numbered)
+      subst IsSettled (sym (turn_is p law plainly lack w who c may.found)) (settles_apart V moved (plain_apart moved (go_on_plain p lack (begin w) who c.body plain_move (begin_plain w s.plain))) good.numbered)
 
   turn_settled : (lack : Option LackPlace) (k : Kept V) (who : ℕ) (rest : List ℕ) → IsStable p k → k.ready ≡ who ∷ rest → IsSettled (queued (turn p lack k.world who) rest (k.early - 1)).world
   turn_settled lack k who rest s e =
@@ -202,7 +203,7 @@ module _ {V : Type 0} (p : Program V) (law : IsLawful p) (plainly : MakesPlain p
       let good = good_closed p law plainly keeps (steps_keep_order p law) k.world (good_stable p k even.stable) in
       record {
         even = other_even s even (settle r) steps (length k.ready) (stable_steps.shut k even.stable) _ (follows.shut k s even.stable.plain even.stands);
-        settled = settled_queued p (settle r) k.ready (length k.ready) (good_settle p r good).sits (settles_plainly V r (closed_plain k.world even.stable.plain) good.numbered);
+        settled = settled_queued p (settle r) k.ready (length k.ready) (good_settle p r good).sits (settles_apart V r (plain_apart r (closed_plain k.world even.stable.plain)) good.numbered);
       }
 
   shut_comes : (s : State V) (b : ℕ) → IsSteady p s → is_closing s.world.scopes b ≡ true → Comes s (shut s) b
@@ -290,7 +291,7 @@ module _ {V : Type 0} (p : Program V) (law : IsLawful p) (plainly : MakesPlain p
       let good = good_stable p k even.stable in
       record {
         even = other_even late even (settle k.world) (settle_steps p law plainly k late even.stable even.stands even.stamps even.lowers) k.early (stable_steps.settled k even.stable) (settle late.world) (settled_after k late even.stable.plain even.stands);
-        settled = settled_queued p (settle k.world) k.ready k.early (good_settle p k.world good).sits (settles_plainly V k.world even.stable.plain good.numbered);
+        settled = settled_queued p (settle k.world) k.ready k.early (good_settle p k.world good).sits (settles_apart V k.world (plain_apart k.world even.stable.plain) good.numbered);
       }
 
   expired_comes : (s : State V) (b : ℕ) → IsSteady p s → is_closing s.world.scopes b ≡ true → Comes s (expired s) b

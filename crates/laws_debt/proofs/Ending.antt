@@ -24,9 +24,9 @@ use Rattle.dill_rules.specs.Turning.{as_running, resume, given_of, answer_given,
 use Rattle.laws_queue.specs.Kept.{Kept, has_answer, queued, turn_first, kept_turn, kept_shut, root_closed}
 use Rattle.laws_queue.specs.Laws.{MayTurn, KeepsWell}
 use Rattle.laws_sound.specs.Plain.{may_wait, IsPlain}
-use Rattle.laws_sound.specs.PlainLaws.{SettlesPlainly}
+use Rattle.laws_sound.proofs.Apart.{plain_apart}
 use Rattle.laws_queue.specs.Well.{Numbered, bit, occurs, IsQueue, IsWell}
-use Rattle.laws_sound.specs.Laws.{is_closing, CancelsAll, RootGoesOn}
+use Rattle.laws_sound.specs.Laws.{SettlesApart, is_closing, CancelsAll, RootGoesOn}
 use Rattle.laws_sound.specs.Order.{IsInOrder}
 use Rattle.laws_sound.specs.Orderly.{IsOrderly, weigh}
 use Rattle.laws_debt.specs.Closing.{IsStable, IsClosing}
@@ -213,7 +213,7 @@ module _ {V : Type 0} (p : Program V) (law : IsLawful p) (plainly : MakesPlain p
     lowers : AllLower (early_of (early - 1) rest) v.coroutines
     falls : weigh (share_by p (early_of (early - 1) rest)) v.coroutines < weigh (share_by p (early_of early (who ∷ rest))) w.coroutines
 
-  module _ (settling_ends : SettlesPlainly V) where
+  module _ (settling_ends : SettlesApart V) where
     -- what a step comes to behind its settling
     record Settles (w : World V) (v : World V) : Type 0 where
       sits_then : AllSit p v.coroutines
@@ -227,7 +227,7 @@ module _ {V : Type 0} (p : Program V) (law : IsLawful p) (plainly : MakesPlain p
         record {
           sits_then = leads_sits p all_calm w (settle w) e i.sits;
           holds_then = settling_holds w i;
-          settled_then = settling_ends w i.plain i.order.order.fits.numbered;
+          settled_then = settling_ends w (plain_apart w i.plain) i.order.order.fits.numbered;
           leads_then_to = e;
         }
 
@@ -305,7 +305,7 @@ module _ {V : Type 0} (p : Program V) (law : IsLawful p) (plainly : MakesPlain p
         } in
         subst (TurnsOff w k.early who rest) (sym (turn_is p law plainly lack w who may.one may.found)) done
 
-  module _ (settling_ends : SettlesPlainly V) (stable : KeepsStable p) (goes : RootGoesOn p) where
+  module _ (settling_ends : SettlesApart V) (stable : KeepsStable p) (goes : RootGoesOn p) where
     few : (k : Kept V) → IsClosing p k → owed p k ≤ 2 ^ 48
     few k s = subst (λ n. n ≤ 2 ^ 48) (sym (is_total (share_by p (is_early k)) k.world.coroutines)) (owes_few p law (is_early k) k.world.coroutines s.stable.well.lives s.stable.order.order.fits.few)
 

@@ -1,5 +1,5 @@
 -- Settling and expiring change the coroutines as told, and what is given to the calm lowers.
-use Rattle.std.proofs.Common.{◌≡◌, ◌∙◌, ℕ, zero, suc, List, [], ◌∷◌, length, fold, find, Bool, true, false, Option, Some, None, refl, sym, ap, subst}
+use Rattle.std.proofs.Common.{◌≡◌, ◌∙◌, ℕ, zero, suc, List, [], ◌∷◌, length, find, Bool, true, false, Option, Some, None, refl, sym, ap, subst}
 use Rattle.std.specs.List.{AllByRecursion}
 use Rattle.dill_calls.specs.declared.answer.Answer.{Answer}
 use Rattle.dill_calls.specs.declared.call.Call.{Call}
@@ -18,7 +18,7 @@ use Rattle.dill_rules.specs.Taking.{is_cancelled}
 use Rattle.dill_rules.specs.Entering.{late_answer}
 use Rattle.dill_rules.specs.Expiring.{expire_one}
 use Rattle.dill_rules.specs.Giving.{give}
-use Rattle.dill_rules.specs.Settling.{can_finish, free_all, release_all, finish, answer_due, give_first, settle_one, settle_within, pass_one, pass_all, settle}
+use Rattle.dill_rules.specs.Settling.{can_finish, free_all, release_all, finish, answer_due, give_first, settle_one, settle_within, pass_all, settle}
 use Rattle.laws_sound.specs.Plain.{may_wait, waits_plainly}
 use Rattle.laws_queue.specs.Well.{Numbered}
 use Rattle.laws_debt.specs.Says.{SaysIn, Says}
@@ -28,6 +28,10 @@ use Rattle.laws_debt.proofs.Evolving.{Evolves, stays, leaves, Suits, newborn, ev
 use Rattle.laws_debt.proofs.Lists.{some_same, all_found, found_passes, number_of}
 use Rattle.laws_debt.proofs.Walking.{Leads, crew_leads, leads_then, Runs, LowersCalm, reply_leads, reply_behind}
 use Rattle.laws_queue.proofs.Stepping.{due_first}
+use Rattle.std.specs.List.{list_all}
+use Rattle.std.proofs.lemmas.Bool.{and_from}
+use Rattle.laws_sound.specs.Laws.{is_apart}
+use Rattle.laws_sound.proofs.Apart.{waits_apart, pass_apart}
 
 -- it waits in a call that may, and what its program made last is that call or the one that it is answered
 abbrev pub Sits : {V : Type 0} → Program V → Coroutine V → Type 0
@@ -106,20 +110,13 @@ module _ {V : Type 0} (p : Program V) (calm : ℕ → Bool) where
       leads_then p calm w bare (finish w c) (crew_leads p calm w bare same) (subst (λ k. Evolves p calm bare.coroutines bare.last_coroutine (without (is_coroutine c.number) bare.coroutines) k) (sym (keep_end_last bare c)) gone)
 
 module _ {V : Type 0} where
-  pass_call : (w : World V) (o : Option Call) (c : Coroutine V) → pending_call c.mode ≡ o → if_some o true may_wait ≡ true → pass_one w c ≡ w
-  pass_call w None c e h = rw e refl
-  pass_call w (Some (calls.Msleep deadline)) c e h = rw e refl
-  pass_call w (Some (calls.Hclose number)) c e h = rw e refl
-  pass_call w (Some (calls.BundleWait number deadline)) c e h = rw e refl
-  pass_call w (Some _) c e h = cc
-
-  pass_list : (p : Program V) (w : World V) (cs : List (Coroutine V)) → AllSit p cs → fold pass_one w cs ≡ w
-  pass_list p w [] a = refl
-  pass_list p w (c ∷ cs) a = ap (λ v. fold pass_one v cs) (pass_call w (pending_call c.mode) c refl a.0.0) ∙ pass_list p w cs a.1
+  sits_apart : (p : Program V) (cs : List (Coroutine V)) → AllSit p cs → list_all (λ c. is_apart c.mode) cs ≡ true
+  sits_apart p [] a = refl
+  sits_apart p (c ∷ cs) a = and_from (is_apart c.mode) (list_all (λ d. is_apart d.mode) cs) (waits_apart c.mode a.0.0) (sits_apart p cs a.1)
 
   -- nobody's stack is looked at
   pub pass_nothing : (p : Program V) (w : World V) → AllSit p w.coroutines → pass_all w ≡ w
-  pass_nothing p w a = pass_list p w w.coroutines a
+  pass_nothing p w a = pass_apart w (sits_apart p w.coroutines a)
 
 -- Worlds in which the calm are cancelled, as they settle.
 module _ {V : Type 0} (p : Program V) (calm : ℕ → Bool) (In : World V → Type 0) (off : (w : World V) (who : ℕ) (c : Coroutine V) → In w → coroutine_of w who ≡ Some c → calm who ≡ true → is_cancelled w who ≡ true) where

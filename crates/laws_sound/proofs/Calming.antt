@@ -30,7 +30,8 @@ use Rattle.laws_sound.specs.Plain.{may_wait, waits_plainly, IsPlain}
 use Rattle.laws_queue.specs.Well.{Numbered, IsWell}
 use Rattle.laws_queue.proofs.Keeping.{steps_keep_well}
 use Rattle.laws_sound.proofs.Plainly.{begin_plain}
-use Rattle.laws_sound.proofs.PlainLaws.{settles_plainly, steps_keep_plain}
+use Rattle.laws_sound.proofs.Apart.{plain_apart, settles_apart}
+use Rattle.laws_sound.proofs.PlainLaws.{steps_keep_plain}
 use Rattle.laws_sound.proofs.Steps.{settle_plain}
 use Rattle.laws_sound.proofs.Turns.{closed_plain, go_on_plain}
 use Rattle.laws_sound.specs.Laws.{StepsKeepSettled}
@@ -95,7 +96,7 @@ module _ {V : Type 0} where
 
   -- what settles
   queued_settled : (w : World V) (ready : List ℕ) (early : ℕ) → IsPlain w → Numbered 0 w.coroutines w.last_coroutine → IsSettled (queued (settle w) ready early).world
-  queued_settled w ready early plain n = settled_lined (settle w) (settle_plain w plain) (settles_plainly V w plain n)
+  queued_settled w ready early plain n = settled_lined (settle w) (settle_plain w plain) (settles_apart V w (plain_apart w plain) n)
 
   begin_settled : (w : World V) → list_all waits_plainly w.coroutines ≡ true → IsSettled w → IsSettled (begin w)
   begin_settled w calls s = settled_anyway w w.channels w.links w.place w.wrote w.random w.moment [] calls s

@@ -2,6 +2,7 @@ pub mod Lists
 pub mod Plainly
 pub mod Blind
 pub mod Settles
+pub mod Apart
 pub mod Steps
 pub mod Turns
 pub mod Untried

@@ -11,7 +11,7 @@ use Rattle.dill_rules.specs.World.{World, begin, coroutine_of}
 use Rattle.dill_rules.specs.Expiring.{expire_one, passed}
 use Rattle.dill_rules.specs.Hearing.{heat_ready}
 use Rattle.dill_rules.specs.Seen.{lend}
-use Rattle.dill_rules.specs.Settling.{settle, settle_within, IsSettled}
+use Rattle.dill_rules.specs.Settling.{settle}
 use Rattle.dill_rules.specs.State.{State, lined, after, turned, expire_next, expired, shut}
 use Rattle.dill_rules.specs.Turning.{move_of, answer_given, turn}
 use Rattle.laws_queue.specs.Following.{Follows}
@@ -23,19 +23,13 @@ use Rattle.laws_queue.specs.Well.{IsWell}
 use Rattle.laws_queue.proofs.Following.{follows_states, stands_queued}
 use Rattle.laws_queue.proofs.Keeping.{steps_keep_well}
 use Rattle.laws_queue.proofs.Lining.{lined_pending}
-use Rattle.laws_queue.proofs.Settling.{settles_all}
 use Rattle.laws_sound.specs.Plain.{may_wait, waits_plainly, IsPlain}
-use Rattle.laws_sound.specs.PlainLaws.{StepsKeepPlain, FollowsStatesPlainly, SettlesPlainly}
+use Rattle.laws_sound.specs.PlainLaws.{StepsKeepPlain, FollowsStatesPlainly}
 use Rattle.laws_sound.proofs.Lists.{all_map}
 use Rattle.laws_sound.proofs.Plainly.{plain_with, begin_plain}
-use Rattle.laws_sound.proofs.Steps.{within_plain, pass_plain, settle_plain, settle_blind}
+use Rattle.laws_sound.proofs.Steps.{settle_plain, settle_blind}
 use Rattle.laws_sound.proofs.Turns.{turn_plain, turn_blind, expire_one_plain, expire_one_blind, closed_plain, shut_blind}
 use Rattle.laws_sound.proofs.Untried.{ask_none}
-
-pub settles_plainly : (V : Type 0) → SettlesPlainly V
-settles_plainly V w plain n =
-    let done = settle_within (length w.coroutines) w in
-    subst IsSettled (sym (pass_plain done (within_plain (length w.coroutines) w plain))) (settles_all V w n)
 
 module _ {V : Type 0} where
   queued_plain : (w : World V) (ready : List ℕ) (early : ℕ) → IsPlain w → IsPlain (queued w ready early).world

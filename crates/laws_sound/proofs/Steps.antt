@@ -1,5 +1,5 @@
 -- The steps of a plain world look at no random number, and leave it plain.
-use Rattle.std.proofs.Common.{◌≡◌, ◌∙◌, ◌==◌, ℕ, zero, suc, List, [], ◌∷◌, length, fold, filter, reverse, find, Bool, true, false, Option, Some, None, if◌then◌else◌, refl, sym, ap, subst}
+use Rattle.std.proofs.Common.{◌≡◌, ◌∙◌, ◌==◌, ℕ, zero, suc, List, [], ◌∷◌, length, filter, reverse, find, Bool, true, false, Option, Some, None, if◌then◌else◌, refl, sym, ap, subst}
 use Rattle.std.proofs.lemmas.Bool.{and_parts}
 use Rattle.std.specs.List.{list_all}
 use Rattle.std.specs.Option.{option_or}
@@ -15,13 +15,14 @@ use Rattle.dill_rules.specs.World.{World, is_coroutine, coroutine_of, call_of, p
 use Rattle.dill_rules.specs.Owning.{free_bundle, release, is_dead_as}
 use Rattle.dill_rules.specs.Answers.{answer_of}
 use Rattle.dill_rules.specs.Giving.{give}
-use Rattle.dill_rules.specs.Settling.{can_finish, highest_first, is_owned_by, free_all, release_all, outcome_of, keep_end, leave, finish, answer_due, give_first, settle_one, settle_within, pass_one, pass_all, settle}
+use Rattle.dill_rules.specs.Settling.{can_finish, highest_first, is_owned_by, free_all, release_all, outcome_of, keep_end, leave, finish, answer_due, give_first, settle_one, settle_within, pass_all, settle}
 use Rattle.laws_queue.specs.Lending.{lent}
 use Rattle.laws_sound.specs.Plain.{may_wait, waits_plainly, IsPlain}
 use Rattle.laws_sound.proofs.Blind.{some_blind}
 use Rattle.laws_sound.proofs.Lists.{all_without, all_found}
 use Rattle.laws_sound.proofs.Plainly.{plain_with, reply_plain, release_plain, free_bundle_plain, fold_plain}
 use Rattle.laws_sound.proofs.Settles.{first_blind, give_blind, finish_blind}
+use Rattle.laws_sound.proofs.Apart.{pass_apart, plain_apart}
 
 pub some_blind_at : {V A : Type 0} (u : Stream) (o : Option A) (n w : World V) (g f : A → World V) → n ≡ (lent u) w → ((a : A) → o ≡ Some a → g a ≡ (lent u) (f a)) → if_some o n g ≡ (lent u) (if_some o w f)
 some_blind_at u None n w g f e h = e
@@ -115,22 +116,9 @@ module _ {V : Type 0} where
   within_blind u zero w plain = refl
   within_blind u (suc n) w plain = ap (settle_within n) ((settle_one_blind u) w plain) ∙ (within_blind u) n (settle_one w) (settle_one_plain w plain)
 
-  pass_call : (w : World V) (o : Option Call) (c : Coroutine V) → pending_call c.mode ≡ o → if_some o true may_wait ≡ true → pass_one w c ≡ w
-  pass_call w None c e h = rw e refl
-  pass_call w (Some (calls.Msleep deadline)) c e h = rw e refl
-  pass_call w (Some (calls.Hclose number)) c e h = rw e refl
-  pass_call w (Some (calls.BundleWait number deadline)) c e h = rw e refl
-  pass_call w (Some _) c e h = cc
-
-  pass_list : (w : World V) (cs : List (Coroutine V)) → list_all waits_plainly cs ≡ true → fold pass_one w cs ≡ w
-  pass_list w [] e = refl
-  pass_list w (c ∷ cs) e =
-      let h = and_parts (waits_plainly c) (list_all waits_plainly cs) e in
-      ap (λ v. fold pass_one v cs) (pass_call w (pending_call c.mode) c refl h.0) ∙ pass_list w cs h.1
-
   -- in a plain world nobody's stack is looked at
   pub pass_plain : (w : World V) → IsPlain w → pass_all w ≡ w
-  pass_plain w plain = pass_list w w.coroutines plain.calls
+  pass_plain w plain = pass_apart w (plain_apart w plain)
 
   pub settle_plain : (w : World V) → IsPlain w → IsPlain (settle w)
   settle_plain w plain =

@@ -1,5 +1,5 @@
 -- Laws of worlds in order: each step keeps them so, and where a bundle is closing somebody inside it has an answer.
-use Rattle.std.specs.Prelude.{◌≡◌, ℕ, List, Bool, true, false, ◌||◌, Option, Some, None, find, is_some}
+use Rattle.std.specs.Prelude.{◌≡◌, ℕ, List, Bool, true, false, not, ◌||◌, Option, Some, None, find, is_some}
 use Rattle.std.specs.List.{list_all}
 use Rattle.dill_calls.specs.declared.ran.LackPlace.{LackPlace}
 use Rattle.dill_calls.specs.CallTable.{word_of, blocks}
@@ -23,7 +23,8 @@ use Rattle.dill_rules.specs.Turning.{turn}
 use Rattle.dill_rules.specs.World.{World, begin, call_of, coroutine_of, is_answered, pending_call}
 use Rattle.laws_queue.specs.Kept.{Kept, has_answer, opening_kept, queued, kept_turn, kept_hear, kept_expire_next, kept_expired, root_closed, kept_shut, kept_woke}
 use Rattle.laws_sound.specs.Plain.{IsPlain}
-use Rattle.laws_queue.specs.Well.{occurs, is_at, IsWell}
+use Rattle.dill_rules.specs.LinkAnswers.{is_on_stack}
+use Rattle.laws_queue.specs.Well.{occurs, is_at, Numbered, IsWell}
 use Rattle.laws_sound.specs.Order.{closes, is_there, IsInOrder}
 use Rattle.laws_sound.specs.Orderly.{IsOrderly, NotesOnce}
 
@@ -47,6 +48,17 @@ waits_long mode = if_some (pending_call mode) true (λ call. blocks (word_of cal
 
 abbrev pub WaitsLong : {V : Type 0} → World V → Type 0
 WaitsLong w = list_all (λ c. waits_long c.mode) w.coroutines ≡ true
+
+-- what it is pending in isn't answered by a stack
+abbrev pub is_apart : Mode → Bool
+is_apart mode = if_some (pending_call mode) true (λ call. not (is_on_stack (word_of call)))
+
+abbrev pub IsApart : {V : Type 0} → World V → Type 0
+IsApart w = list_all (λ c. is_apart c.mode) w.coroutines ≡ true
+
+-- where nobody waits for a stack, settling with the looks behind it goes on until nothing is due
+abbrev pub SettlesApart : (V : Type 0) → Type 0
+SettlesApart V = (w : World V) → IsApart w → Numbered 0 w.coroutines w.last_coroutine → IsSettled (settle w)
 
 -- what it is pending in has a deadline, if it is pending
 abbrev pub is_timed : {V : Type 0} → World V → ℕ → Bool

@@ -5,14 +5,13 @@ use Rattle.dill_calls.specs.declared.ran.LackPlace.{LackPlace}
 use Rattle.dill_calls.specs.Program.{Program, IsLawful}
 use Rattle.dill_kernel.specs.declared.ready.Ready.{Ready}
 use Rattle.dill_plain.specs.Plain.{MakesPlain}
-use Rattle.dill_rules.specs.World.{World}
 use Rattle.dill_rules.specs.Seen.{turn_seen, ask_seen}
-use Rattle.dill_rules.specs.Settling.{IsSettled, settle}
+use Rattle.dill_rules.specs.Settling.{settle}
 use Rattle.dill_rules.specs.State.{State, opening_state, expired, shut, woke}
 use Rattle.laws_queue.specs.Following.{SeenAlike}
 use Rattle.laws_queue.specs.Kept.{Kept, opening_kept, queued, kept_turn, kept_expire_next, kept_expired, kept_shut, kept_woke}
 use Rattle.laws_queue.specs.Stands.{StandsFor}
-use Rattle.laws_queue.specs.Well.{Numbered, IsWell}
+use Rattle.laws_queue.specs.Well.{IsWell}
 use Rattle.laws_sound.specs.Plain.{IsPlain}
 
 pub record KeepsPlain {V : Type 0} (p : Program V) : Type 0 where
@@ -40,7 +39,3 @@ pub record FollowsPlainly {V : Type 0} (p : Program V) : Type 0 where
 
 abbrev pub FollowsStatesPlainly : {V : Type 0} → Program V → Type 0
 FollowsStatesPlainly p = IsLawful p → MakesPlain p → FollowsPlainly p
-
--- settling goes on until nothing is due
-abbrev pub SettlesPlainly : (V : Type 0) → Type 0
-SettlesPlainly V = (w : World V) → IsPlain w → Numbered 0 w.coroutines w.last_coroutine → IsSettled (settle w)

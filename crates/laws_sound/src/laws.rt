@@ -1,6 +1,6 @@
-ghost use Rattle.laws_sound.specs.PlainLaws.{KeepsPlain, FollowsPlainly, SettlesPlainly};
+ghost use Rattle.laws_sound.specs.PlainLaws.{KeepsPlain, FollowsPlainly};
 ghost use Rattle.laws_sound.specs.Numbers.{NumbersOnce};
-ghost use Rattle.laws_sound.specs.Laws.{KeepsOrder, NotesNumbers, KeepsRest, KeepsSettled, OrderIsSound, CancelsAll, GoesOn, RootGoesOn, BundleGoesOn};
+ghost use Rattle.laws_sound.specs.Laws.{KeepsOrder, NotesNumbers, KeepsRest, KeepsSettled, OrderIsSound, CancelsAll, GoesOn, RootGoesOn, BundleGoesOn, SettlesApart};
 
 use dill_calls::Body;
 use dill_plain::PlainBody;
@@ -16,9 +16,9 @@ pub fn follows_plainly<B: PlainBody>()
     ensures { FollowsPlainly B.means }
 {}
 
-/// Without channels and links nothing is due behind a whole settling.
-pub fn settles_plainly<B: Body>()
-    ensures { SettlesPlainly B }
+/// Where nobody waits for a stack nothing is due behind a whole settling, with the looks behind it.
+pub fn settles_apart<B: Body>()
+    ensures { SettlesApart B }
 {}
 
 /// A world in order is sound.

@@ -6,6 +6,6 @@ mod laws;
 
 pub use laws::{
     all_cancelled, bundle_goes_on, closing_goes_on, follows_plainly, numbers_once, order_is_sound,
-    root_goes_on, settles_plainly, steps_keep_order, steps_keep_plain, steps_keep_rest,
+    root_goes_on, settles_apart, steps_keep_order, steps_keep_plain, steps_keep_rest,
     steps_keep_settled, steps_note_numbers,
 };
