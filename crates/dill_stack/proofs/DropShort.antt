@@ -75,7 +75,7 @@ over_fine : (most : ℕ) (t : TermLayer) (u : List ℕ) (o : Outcome) (b : Bool)
 over_fine most t u o true f = record { short = λ h. not_fault Epipe h; given = λ h. no_answer h; stays = f.stays }
 over_fine most t u o false f = record { short = f.short; given = f.given; stays = f.stays }
 
-shown_short : (limit : ℕ) (ended : Bool) (ws : WsLayer) (u : List ℕ) → (shown limit ended ws u).said ≡ Need → (ws_front limit ws u ≡ Short) × ((shown limit ended ws u).used ≡ 0)
+pub shown_short : (limit : ℕ) (ended : Bool) (ws : WsLayer) (u : List ℕ) → (shown limit ended ws u).said ≡ Need → (ws_front limit ws u ≡ Short) × ((shown limit ended ws u).used ≡ 0)
 unfolding shown
 shown_short limit ended ws u e = by (ws_front limit ws u) e
   where

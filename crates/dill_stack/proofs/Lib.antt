@@ -28,3 +28,10 @@ pub mod Again
 pub mod DropAgain
 pub mod FrameShort
 pub mod DropShort
+pub mod StepReads
+pub mod Pongs
+pub mod FramePasses
+pub mod Passers
+pub mod FrameSees
+pub mod Seers
+pub mod ReadShort

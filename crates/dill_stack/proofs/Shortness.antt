@@ -27,14 +27,14 @@ use Rattle.dill_stack.specs.Receiving.{ws_of, read_of, broken_by, breaks}
 use Rattle.dill_stack.specs.Standing.{tower, base_layers, ws_layer, HasBase}
 use Rattle.dill_stack.specs.Taking.{FitsTop, HasHead, behind}
 
-exact_if : (layers : List Placed) (u : List ℕ) (ended b : Bool) (n : ℕ) → nat_lt (length u) n ≡ b → (if b then outcome 0 layers (if ended then Fault Epipe else Need) else outcome n layers (Given (Bytes (take n u)))).said ≡ Need → length u < n
+pub exact_if : (layers : List Placed) (u : List ℕ) (ended b : Bool) (n : ℕ) → nat_lt (length u) n ≡ b → (if b then outcome 0 layers (if ended then Fault Epipe else Need) else outcome n layers (Given (Bytes (take n u)))).said ≡ Need → length u < n
 exact_if layers u ended true n e h = ltb-true (length u) n e
 exact_if layers u ended false n e h = absurd (never h)
   where
     never : Given (Bytes (take n u)) ≡ Need → ⊥
     never h = cc
 
-no_fault : {A : Type 0} (e : Errno) → Fault e ≡ Need → A
+pub no_fault : {A : Type 0} (e : Errno) → Fault e ≡ Need → A
 no_fault e h = absurd (never h)
   where
     never : Fault e ≡ Need → ⊥
@@ -46,26 +46,14 @@ no_answer a h = absurd (never h)
     never : Given a ≡ Need → ⊥
     never h = cc
 
-by_front_short : (layers : List Placed) (u : List ℕ) (ended : Bool) (f : Front) (most : ℕ) → (f ≡ front.Need → length u < most) → (by_front layers u ended f).said ≡ Need → length u < most
+pub by_front_short : (layers : List Placed) (u : List ℕ) (ended : Bool) (f : Front) (most : ℕ) → (f ≡ front.Need → length u < most) → (by_front layers u ended f).said ≡ Need → length u < most
 by_front_short layers u ended (front.Whole x y z) most k h = no_answer (Bytes (take (y - x) (drop x u))) h
 by_front_short layers u ended front.Need most k h = k refl
 by_front_short layers u ended (front.Fault e) most k h = no_fault e h
 
-not_if : (b : Bool) (x y : Outcome) → x.said ≡ Fault Epipe → (if b then x else y).said ≡ Need → y.said ≡ Need
+pub not_if : (b : Bool) (x y : Outcome) → x.said ≡ Fault Epipe → (if b then x else y).said ≡ Need → y.said ≡ Need
 not_if true x y f h = no_fault Epipe (sym f ∙ h)
 not_if false x y f h = h
-
-message_short : (p : PrefixLaws) (s : SuffixLaws) (layers : List Placed) (u : List ℕ) (ended : Bool) (limit : ℕ) → IsStanding layers → HasMessages layers → ws_of layers ≡ None → (read_message layers u ended limit).said ≡ Need → length u < message_need limit layers
-message_short p s [] u ended limit k m w h = absurd m
-message_short p s (Prefix form ∷ below) u ended limit k m w h = by_front_short (Prefix form ∷ below) u ended (prefix_front form u limit) (limit + form.size) (p.waits form u limit) h
-message_short p s (Suffix end ∷ below) u ended limit k m w h = by_front_short (Suffix end ∷ below) u ended (suffix_front end u limit) (limit + length end) (s.waits end u limit) h
-message_short p s (Term t ∷ below) u ended limit k m w h =
-    let o = read_message below u ended limit in
-    let over : (over_term t o).said ≡ Need = not_if t.met (outcome 0 (Term t ∷ below) (Fault Epipe)) (over_term t o) refl h in
-    let said : o.said ≡ Need = not_if (is_terminal t o.said) (record o { layers = Term (record t { met = true }) ∷ o.layers; said = Fault Epipe }) (record o { layers = Term t ∷ o.layers }) refl over in
-    message_short p s below u ended limit k.1 k.0 w said
-message_short p s (Http http ∷ below) u ended limit k m w h = absurd m
-message_short p s (Ws ws ∷ below) u ended limit k m w h = cc
 
 given_short : (http : HttpLayer) (below : List Placed) (z : ℕ) (o : Option Answer) (u : List ℕ) → (given_line http below z o).said ≡ Need → length u < 8194
 given_short http below z (Some a) u h = no_answer a h
@@ -78,38 +66,13 @@ by_line_short l w http below u ended (front.Whole x y z) e h =
 by_line_short l w http below u ended front.Need e h = l.waits u (sym e)
 by_line_short l w http below u ended (front.Fault x) e h = no_fault x h
 
-line_short : (l : LineLaws) (w : Want) (layers : List Placed) (u : List ℕ) (ended : Bool) → HasHead layers → (read_line w layers u ended).said ≡ Need → length u < 8194
+pub line_short : (l : LineLaws) (w : Want) (layers : List Placed) (u : List ℕ) (ended : Bool) → HasHead layers → (read_line w layers u ended).said ≡ Need → length u < 8194
 line_short l w [] u ended k h = absurd k
 line_short l w (Prefix form ∷ below) u ended k h = absurd k
 line_short l w (Suffix end ∷ below) u ended k h = absurd k
 line_short l w (Term t ∷ below) u ended k h = absurd k
 line_short l w (Http http ∷ below) u ended k h = by_line_short l w http below u ended (front_of_line u) refl (not_if (is_behind http.receiving) (outcome 0 (Http http ∷ below) (Fault Epipe)) (by_line w http below u ended (front_of_line u)) refl h)
 line_short l w (Ws ws ∷ below) u ended k h = absurd k
-
-said_short : (p : PrefixLaws) (s : SuffixLaws) (l : LineLaws) (w : Want) (t : Held) → IsStanding t.layers → FitsTop w t.layers → (read_of w t).said ≡ Need → length t.unread < need w t
-unfolding read_list
-said_short p s l (want.Exact n) t k f h = exact_if t.layers t.unread t.receiving.done (nat_lt (length t.unread) n) n refl h
-said_short p s l (want.Message limit) t k f h = message_short p s t.layers t.unread t.receiving.done limit k f.0 f.1 h
-said_short p s l want.Request t k f h = line_short l want.Request t.layers t.unread t.receiving.done f h
-said_short p s l want.Status t k f h = line_short l want.Status t.layers t.unread t.receiving.done f h
-said_short p s l want.Field t k f h = line_short l want.Field t.layers t.unread t.receiving.done f h
-
-same_unread : (said : ReadOut) (t : Held) → (broken_by said t).unread ≡ t.unread
-same_unread (Given a) t = refl
-same_unread Need t = refl
-same_unread (Fault e) t = by_errno (breaks (Fault e))
-  where
-    by_errno : (b : Bool) → (if b then record t { receiving = record t.receiving { broken = true } } else t).unread ≡ t.unread
-    by_errno true = refl
-    by_errno false = refl
-
--- what stays unread
-pub unread_short : (p : PrefixLaws) (s : SuffixLaws) (l : LineLaws) (w : Want) (t : Held) (unread : List ℕ) → IsStanding t.layers → FitsTop w t.layers → unread ≡ (broken_by (read_of w t).said (behind (read_of w t) t)).unread → (read_of w t).said ≡ Need → length unread < need w t
-unread_short p s l w t unread k f e h =
-    let m : length t.unread < need w t = said_short p s l w t k f h in
-    let d : length (drop (read_of w t).used t.unread) ≡ length t.unread - (read_of w t).used = length-drop (read_of w t).used t.unread in
-    let n : unread ≡ drop (read_of w t).used t.unread = e ∙ same_unread (read_of w t).said (behind (read_of w t) t) in
-    omega (arith, m, d, ap length n)
 
 has_messages : (ts : List TermLayer) (layer : Placed) → HasMessages (layer ∷ []) → HasMessages (tower ts (layer ∷ []))
 has_messages [] layer h = h

@@ -256,6 +256,16 @@ pub reads_plain : (want : Want) (random : Stream) (s : Held) → DrawsNone (read
 unfolding read
 reads_plain want random s h = ap (λ (p : Held × Stream). record { stack = broken_by (read_of want s).said p.0; said = (read_of want s).said; random = p.1 }) (h random (record s { layers = (read_of want s).layers; unread = drop (read_of want s).used s.unread }))
 
+-- what a receive leaves that has passed frames first
+pub look_after : (want : Want) (random now : Stream) (from mid to : Stocked) (said : ReadOut) → mid ≡ record from { held = mid.held } → read want now mid.held ≡ read want random from.held → DrawsNone (read_of want mid.held) mid.held → said ≡ (read_of want mid.held).said → to ≡ after (read_of want mid.held) mid → to ≡ record from { held = (read want random from.held).stack; answer = room_after said from.answer; second = second_after said from.second }
+look_after want random now from mid to said r e d h t =
+    let o : Outcome = read_of want mid.held in
+    let held : broken_by o.said (record mid.held { layers = o.layers; unread = drop o.used mid.held.unread }) ≡ (read want random from.held).stack = sym (ap (λ l. l.stack) (reads_plain want now mid.held d)) ∙ ap (λ l. l.stack) e in
+    t
+    ∙ ap {A = Stocked} (λ s. record s { held = broken_by o.said (record mid.held { layers = o.layers; unread = drop o.used mid.held.unread }); answer = room_after o.said s.answer; second = second_after o.said s.second }) r
+    ∙ ap {A = Held} (λ k. record from { held = k; answer = room_after o.said from.answer; second = second_after o.said from.second }) held
+    ∙ ap {A = ReadOut} (λ x. record from { held = (read want random from.held).stack; answer = room_after x from.answer; second = second_after x from.second }) (sym h)
+
 pub need_tower : (ts : List TermLayer) (b : Base) (l : ℕ) → message_need l (tower ts (base_layers b)) ≡ base_need l b
 need_tower [] base.Bytes l = refl
 need_tower [] (base.Prefix form) l = refl

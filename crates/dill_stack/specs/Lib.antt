@@ -33,3 +33,6 @@ pub mod Doing
 pub mod Taking
 pub mod Leaving
 pub mod Again
+pub mod Stepping
+pub mod Framing
+pub mod Seeing

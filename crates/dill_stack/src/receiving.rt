@@ -1,13 +1,18 @@
-ghost use Rattle.std.specs.Prelude.{◌≡◌, ◌≤◌, ◌<◌, length, max, true, None, OnOk, OnErr, IfSome};
+ghost use Rattle.std.specs.Prelude.{◌≡◌, ◌≤◌, ◌<◌, length, max, is_some, true, None, OnOk, OnErr, IfSome};
 ghost use Rattle.dill_stack.specs.Needs.{need};
 ghost use Rattle.dill_stack.specs.declared.want.Want.TheVariants as want;
 ghost use Rattle.dill_stack.specs.Layers.{HasMessages, IsStanding};
 ghost use Rattle.dill_stack.specs.Read.{no_more};
 ghost use Rattle.dill_stack.specs.Receiving.{read, read_of, ws_of, broken_by};
+ghost use Rattle.dill_stack.specs.Refusals.{is_met};
+ghost use Rattle.dill_stack.specs.Seeing.{joined_given, joined_in};
+ghost use Rattle.dill_stack.specs.Stepping.{PassesNothing, next_pass};
 ghost use Rattle.dill_stack.specs.Standing.{FitsBase, HasJoinedRoom, IsDroppable};
 ghost use Rattle.dill_stack.specs.Taking.{DrawsNone, size_of, second_of, joined_of, base_need, Reserved, FitsTop, room_after, second_after, after, base_front, IsWithin, any_met, lowest, meet, taken};
 
 use crate::placed::{Base, TermLayer};
+use crate::refusals::has_met;
+use crate::seeing::Seen;
 use crate::stack::Stack;
 use crate::want::{ReadOut, Want};
 use dill_base::{Errno, Front, NoMemory};
@@ -187,19 +192,21 @@ impl Stack {
     /// EPIPE: an end stands there or was met before, or the peer has ended at a boundary; for bytes, fewer are there than
     /// asked. EPROTO: the peer has ended inside, or what stands there is refused. EMSGSIZE: it passes the limit. The last
     /// two break the receiving direction.
-    pub fn read<R: Rng>(&mut self, want: Want, _keys: &mut R) -> ReadOut
+    pub fn read<R: Rng>(&mut self, want: Want, keys: &mut R) -> ReadOut
         requires reserved { size_of want ≤ self.old.answer }
         requires second { second_of want ≤ self.old.second }
+        requires joined { joined_of want (ws_of self.old.held.layers) ≤ self.old.joined }
         requires fits { FitsTop want self.old.held.layers }
-        ensures said { result ≡ (read want (R.stream _keys.old) self.old.held).said }
-        ensures stack { self.new ≡ record self.old { held = (read want (R.stream _keys.old) self.old.held).stack; answer = room_after result self.old.answer; second = second_after result self.old.second } }
-        ensures random { R.stream _keys.new ≡ (read want (R.stream _keys.old) self.old.held).random }
+        ensures said { result ≡ (read want (R.stream keys.old) self.old.held).said }
+        ensures stack { self.new ≡ record self.old { held = (read want (R.stream keys.old) self.old.held).stack; answer = room_after result self.old.answer; second = second_after result self.old.second } }
+        ensures random { R.stream keys.new ≡ (read want (R.stream keys.old) self.old.held).random }
         ensures short { result ≡ ReadOut.Need → length self.new.held.unread < need want self.old.held }
     {
         prefix_laws();
         suffix_laws();
         http_laws();
         self.stands();
+        self.pass_frames(want, keys);
         self.look(want)
     }
 
@@ -214,11 +221,13 @@ impl Stack {
         let _ = &self.base;
     }
 
-    // The answer to this receive, which draws no random number.
+    // The answer to this receive, which passes nothing more and draws no random number.
     fn look(&mut self, want: Want) -> ReadOut
         requires reserved { size_of want ≤ self.old.answer }
         requires second { second_of want ≤ self.old.second }
+        requires joined { joined_of want (ws_of self.old.held.layers) ≤ self.old.joined }
         requires fits { FitsTop want self.old.held.layers }
+        requires last { PassesNothing want self.old.held }
         ensures said { result ≡ (read_of want self.old.held).said }
         ensures after { self.new ≡ after (read_of want self.old.held) self.old }
         ensures plain { DrawsNone (read_of want self.old.held) self.old.held }
@@ -252,6 +261,30 @@ impl Stack {
     #[tactic(auto, using(crate::proofs::TowerReads::draws_plain))]
     fn read_message(&mut self, limit: usize) -> ReadOut
         requires reserved { limit ≤ self.old.answer }
+        requires joined { joined_of (want.Message limit) (ws_of self.old.held.layers) ≤ self.old.joined }
+        requires fits { HasMessages self.old.held.layers }
+        requires last { next_pass limit self.old.held ≡ None }
+        ensures said { result ≡ (read_of (want.Message limit) self.old.held).said }
+        ensures after { self.new ≡ after (read_of (want.Message limit) self.old.held) self.old }
+        ensures plain { DrawsNone (read_of (want.Message limit) self.old.held) self.old.held }
+    {
+        if self.has_frames() {
+            return self.read_frames(limit);
+        }
+        self.read_framed(limit)
+    }
+
+    // A WebSocket layer is on the link.
+    fn has_frames(&self) -> bool
+        ensures { result ≡ is_some (ws_of self.now.held.layers) }
+    {
+        self.base.is_frames()
+    }
+
+    // A message in the framing on the link.
+    #[tactic(auto, using(crate::proofs::TowerReads::draws_plain))]
+    fn read_framed(&mut self, limit: usize) -> ReadOut
+        requires reserved { limit ≤ self.old.answer }
         requires fits { HasMessages self.old.held.layers }
         requires plain { ws_of self.old.held.layers ≡ None }
         ensures said { result ≡ (read_of (want.Message limit) self.old.held).said }
@@ -265,6 +298,55 @@ impl Stack {
             Front::Whole { from, to, used } => self.take_message(from, to, used),
             Front::Need => self.nothing_whole(true),
             Front::Fault(e) => self.refuse(e),
+        }
+    }
+
+    // A message of the WebSocket layer on the link, which passes nothing more.
+    fn read_frames(&mut self, limit: usize) -> ReadOut
+        requires reserved { limit ≤ self.old.answer }
+        requires joined { joined_of (want.Message limit) (ws_of self.old.held.layers) ≤ self.old.joined }
+        requires last { next_pass limit self.old.held ≡ None }
+        requires framed { is_some (ws_of self.old.held.layers) ≡ true }
+        ensures said { result ≡ (read_of (want.Message limit) self.old.held).said }
+        ensures after { self.new ≡ after (read_of (want.Message limit) self.old.held) self.old }
+        ensures plain { DrawsNone (read_of (want.Message limit) self.old.held) self.old.held }
+    {
+        self.stands();
+        if self.has_met() {
+            return ReadOut::Fault(Errno::Epipe);
+        }
+        match self.see(limit) {
+            Seen::Message => self.give_joined(),
+            Seen::Close => ReadOut::Fault(Errno::Epipe),
+            Seen::Open(boundary) => self.nothing_whole(boundary),
+            Seen::Refused(e) => self.refuse(e),
+        }
+    }
+
+    // The end of some layer was met.
+    fn has_met(&self) -> bool
+        ensures { result ≡ is_met self.now.held.layers }
+    {
+        has_met(self.terms.as_slice(), &self.base)
+    }
+
+    // The message that was joined is an end of a layer, or the answer.
+    fn give_joined(&mut self) -> ReadOut
+        requires { length (joined_in self.old.held.layers) ≤ self.old.answer }
+        ensures said { result ≡ (joined_given self.old.held).said }
+        ensures after { self.new ≡ after (joined_given self.old.held) self.old }
+    {
+        match lowest_of(self.terms.as_slice(), self.base.joined()) {
+            Some(at) => {
+                meet_at(&mut self.terms, at);
+                self.base.empty();
+                ReadOut::Fault(Errno::Epipe)
+            }
+            None => {
+                let given = self.answer.hand_out(self.base.joined());
+                self.base.empty();
+                ReadOut::Given(Answer::Bytes(given))
+            }
         }
     }
 

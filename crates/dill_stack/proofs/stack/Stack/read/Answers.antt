@@ -1,17 +1,22 @@
-use Rattle.std.proofs.Common.{◌∙◌, sym, ap}
+use Rattle.std.proofs.Common.{◌≡◌, ◌∙◌, sym, ap}
+use Rattle.dill_stack.specs.Held.{Held}
+use Rattle.dill_stack.specs.Receiving.{Looked, read}
 use Rattle.dill_stack.specs.Rooms.{Stocked}
-use Rattle.dill_stack.proofs.Shortness.{unread_short}
-use Rattle.dill_stack.proofs.TowerReads.{reads_plain}
+use Rattle.dill_stack.proofs.ReadShort.{read_short}
+use Rattle.dill_stack.proofs.TowerReads.{reads_plain, look_after}
 use Rattle.dill_stack.proofs.stack.Stack.read.Goals as goal
 
 pub returns-clause-said : goal.returns-clause-said
-returns-clause-said g c = c.look.ensures.said ∙ sym (ap (λ l. l.said) (reads_plain c.args.want (g.R.Rng.stream c.args._keys.now) c.args.self.now.held c.look.ensures.plain))
+returns-clause-said g c = c.look.ensures.said ∙ sym (ap (λ l. l.said) (reads_plain c.args.want (g.R.Rng.stream c.pass_frames.new.keys) c.pass_frames.new.self.held c.look.ensures.plain)) ∙ ap (λ (l : Looked). l.said) c.pass_frames.ensures.same
 
 pub returns-clause-stack : goal.returns-clause-stack
-returns-clause-stack g c = rw (reads_plain c.args.want (g.R.Rng.stream c.args._keys.now) c.args.self.now.held c.look.ensures.plain) (rw (c.look.ensures.said) c.look.ensures.after)
+returns-clause-stack g c = look_after c.args.want (g.R.Rng.stream c.args.keys.now) (g.R.Rng.stream c.pass_frames.new.keys) c.args.self.now c.pass_frames.new.self c.look.new.self c.look.result c.pass_frames.ensures.rest c.pass_frames.ensures.same c.look.ensures.plain c.look.ensures.said c.look.ensures.after
 
 pub returns-clause-random : goal.returns-clause-random
-returns-clause-random g c = sym (ap (λ l. l.random) (reads_plain c.args.want (g.R.Rng.stream c.args._keys.now) c.args.self.now.held c.look.ensures.plain))
+returns-clause-random g c = sym (ap (λ l. l.random) (reads_plain c.args.want (g.R.Rng.stream c.pass_frames.new.keys) c.pass_frames.new.self.held c.look.ensures.plain)) ∙ ap (λ (l : Looked). l.random) c.pass_frames.ensures.same
 
 pub returns-clause-short : goal.returns-clause-short
-returns-clause-short g c = λ h. unread_short c.prefix_laws.ensures c.suffix_laws.ensures c.http_laws.ensures.lines c.args.want c.args.self.now.held c.look.new.self.held.unread c.stands.ensures.standing c.requires.fits (ap {A = Stocked} (λ s. s.held.unread) c.look.ensures.after) (sym c.look.ensures.said ∙ h)
+returns-clause-short g c =
+    let stack = look_after c.args.want (g.R.Rng.stream c.args.keys.now) (g.R.Rng.stream c.pass_frames.new.keys) c.args.self.now c.pass_frames.new.self c.look.new.self c.look.result c.pass_frames.ensures.rest c.pass_frames.ensures.same c.look.ensures.plain c.look.ensures.said c.look.ensures.after in
+    let said = c.look.ensures.said ∙ sym (ap (λ l. l.said) (reads_plain c.args.want (g.R.Rng.stream c.pass_frames.new.keys) c.pass_frames.new.self.held c.look.ensures.plain)) ∙ ap (λ (l : Looked). l.said) c.pass_frames.ensures.same in
+    λ h. read_short c.prefix_laws.ensures c.suffix_laws.ensures c.http_laws.ensures.lines c.args.want (g.R.Rng.stream c.args.keys.now) c.args.self.now.held c.look.new.self.held c.stands.ensures.standing c.requires.fits (ap {A = Stocked} (λ s. s.held) stack) (sym said ∙ h)
