@@ -20,7 +20,7 @@ use Rattle.dill_rules.specs.Answers.{when, answer_of}
 use Rattle.dill_rules.specs.Refusals.{refuse, holds, is_called_off, is_refused_by_stack, order, giving_order}
 use Rattle.dill_rules.specs.Entering.{entered, lack_fault}
 use Rattle.laws_queue.proofs.Acting.{may_pend, may_meet}
-use Rattle.laws_queue.proofs.Walking.{picks_none}
+use Rattle.laws_queue.proofs.Walking.{none_behind}
 use Rattle.laws_sound.specs.Plain.{may_wait}
 
 by_quiet : (word : Word) (answer : Answer) → is_quiet word ≡ true → Lowers word answer
@@ -102,7 +102,7 @@ module _ {V : Type 0} (p : Program V) (w : World V) (who : ℕ) (view : V) (call
   not_off : gives_up (word_of call) ≡ false → refuse p w who view call ≡ None → (blocks (word_of call) ≡ false) × (makes (word_of call) ≡ false)
   not_off up e =
       let all : find (holds p w who view call) order ≡ None = ap (λ b. find (holds p w who view call) (if b then giving_order else order)) (sym up) ∙ e in
-      let none = (picks_none (holds p w who view call errnos.Ecanceled) errnos.Ecanceled (find (holds p w who view call) later) all).0 in
+      let none = none_behind (holds p w who view call) [] errnos.Ecanceled later all in
       called_first (is_cancelled w who) (blocks (word_of call)) (makes (word_of call)) (takes_anothers w who call) (or_parts (is_called_off w who call) (is_refused_by_stack w call errnos.Ecanceled) none).0 cancelled
 
   -- a cancelled caller starts nobody

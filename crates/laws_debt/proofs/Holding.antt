@@ -31,7 +31,7 @@ use Rattle.dill_rules.specs.Entering.{keep_for, perform, is_too_late, late_answe
 use Rattle.dill_rules.specs.Settling.{close_owned, end}
 use Rattle.laws_queue.proofs.Crew.{give_all_crew}
 use Rattle.dill_scope.proofs.Carrying.{inside_lives}
-use Rattle.laws_queue.proofs.Walking.{picks_none, or_false}
+use Rattle.laws_queue.proofs.Walking.{none_behind, or_false}
 use Rattle.laws_debt.proofs.Flagging.{all_picked}
 use Rattle.laws_debt.proofs.Lists.{all_append, all_without, all_found, all_to, found_passes, number_of, equal_number, some_same}
 use Rattle.laws_debt.proofs.Tracking.{NotOf, OwnerOk, BundleOk, HomeOk, Tracks}
@@ -100,14 +100,9 @@ module _ {V : Type 0} (p : Program V) where
   unrefused w who view call o e =
       let f = holds p w who view call in
       let all : find f order ≡ None = ap (find f) (sym o) ∙ e in
-      let one = picks_none (f errnos.Ecanceled) errnos.Ecanceled (find f (errnos.Ebadf ∷ errnos.Enotsup ∷ errnos.Einval ∷ errnos.Ebusy ∷ errnos.Epipe ∷ errnos.Econnreset ∷ errnos.Emsgsize ∷ errnos.Emfile ∷ [])) all in
-      let two = picks_none (f errnos.Ebadf) errnos.Ebadf (find f (errnos.Enotsup ∷ errnos.Einval ∷ errnos.Ebusy ∷ errnos.Epipe ∷ errnos.Econnreset ∷ errnos.Emsgsize ∷ errnos.Emfile ∷ [])) one.1 in
-      let three = picks_none (f errnos.Enotsup) errnos.Enotsup (find f (errnos.Einval ∷ errnos.Ebusy ∷ errnos.Epipe ∷ errnos.Econnreset ∷ errnos.Emsgsize ∷ errnos.Emfile ∷ [])) two.1 in
-      let four = picks_none (f errnos.Einval) errnos.Einval (find f (errnos.Ebusy ∷ errnos.Epipe ∷ errnos.Econnreset ∷ errnos.Emsgsize ∷ errnos.Emfile ∷ [])) three.1 in
-      let five = picks_none (f errnos.Ebusy) errnos.Ebusy (find f (errnos.Epipe ∷ errnos.Econnreset ∷ errnos.Emsgsize ∷ errnos.Emfile ∷ [])) four.1 in (
-        or_false (is_called_off w who call) (is_refused_by_stack w call errnos.Ecanceled) one.0,
-        or_false (is_busy w who call) (is_refused_by_stack w call errnos.Ebusy) five.0,
-      )
+      let off = none_behind f [] errnos.Ecanceled (errnos.Ebadf ∷ errnos.Enotsup ∷ errnos.Einval ∷ errnos.Ebusy ∷ errnos.Epipe ∷ errnos.Econnreset ∷ errnos.Emsgsize ∷ errnos.Emfile ∷ []) all in
+      let busy = none_behind f (errnos.Ecanceled ∷ errnos.Ebadf ∷ errnos.Enotsup ∷ errnos.Einval ∷ []) errnos.Ebusy (errnos.Epipe ∷ errnos.Econnreset ∷ errnos.Emsgsize ∷ errnos.Emfile ∷ []) all in
+      (or_false (is_called_off w who call) (is_refused_by_stack w call errnos.Ecanceled) off, or_false (is_busy w who call) (is_refused_by_stack w call errnos.Ebusy) busy)
 
 module _ {V : Type 0} (w : World V) (b : ℕ) (facts : Facts w b) where
   -- who isn't cancelled isn't inside

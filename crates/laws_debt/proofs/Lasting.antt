@@ -79,21 +79,26 @@ freed p x = record p { scopes = scopes.drop_bundle p.scopes x.bundle; closings =
 abbrev pub bundled : Parts → ℕ → Parts
 bundled p who = record (made p (things.Bundle (p.last_bundle + 1)) who) { scopes = scopes.bundle p.scopes (p.last_bundle + 1) who; last_bundle = p.last_bundle + 1 }
 
--- It lasts over each change. What is known of each live number may be used where that number is moved, or its bundle is closed.
-pub record Lasting (Known : ℕ → Entry Thing → Type 0) (I : Parts → Type 0) : Type 0 where
+-- It lasts over each change, over a closing where that may be. What is known of each live number may be used where that number is moved, or its bundle is closed.
+pub record Lasting (Known : ℕ → Entry Thing → Type 0) (C : Type 0) (I : Parts → Type 0) : Type 0 where
   pub known : (p : Parts) → I p → AllByRecursion (Known p.last_bundle) p.entries
   pub takes : (p : Parts) (name owner : ℕ) → I p → I (record p { scopes = scopes.take p.scopes name owner })
   pub owns : (p : Parts) (number owner : ℕ) → I p → I (record p { entries = change (handles.is_entry number) (handles.with_owner owner) p.entries })
   pub makes : (p : Parts) (thing : Thing) (owner : ℕ) → bundle_of thing ≡ None → I p → I (made p thing owner)
   pub moves : (p : Parts) (number owner : ℕ) (x : Entry Thing) → Known p.last_bundle x → I p → I (made (retired p number) x.thing owner)
   pub retires : (p : Parts) (number : ℕ) → I p → I (retired p number)
-  pub closes : (p : Parts) (owner name number : ℕ) (x : Entry Thing) → x.number ≡ number → bundle_of x.thing ≡ Some name → Known p.last_bundle x → I p → I (closed p owner name number)
+  pub closes : C → (p : Parts) (owner name number : ℕ) (x : Entry Thing) → x.number ≡ number → bundle_of x.thing ≡ Some name → Known p.last_bundle x → I p → I (closed p owner name number)
   pub frees : (p : Parts) (x : Closing) → I p → I (freed p x)
   pub bundles : (p : Parts) (who : ℕ) → I p → I (bundled p who)
   pub bears : (p : Parts) (home who : ℕ) → I p → I (record p { scopes = scopes.enter p.scopes home who })
   pub ends : (p : Parts) (who : ℕ) → I p → I (record p { scopes = scopes.ended p.scopes who })
 
-module _ {V : Type 0} (Known : ℕ → Entry Thing → Type 0) (I : Parts → Type 0) (l : Lasting Known I) where
+-- the call that closes a bundle
+abbrev pub closes_bundle : Call → Bool
+closes_bundle (calls.Hclose number) = true
+closes_bundle _ = false
+
+module _ {V : Type 0} (Known : ℕ → Entry Thing → Type 0) (C : Type 0) (I : Parts → Type 0) (l : Lasting Known C I) where
   abbrev Holds : World V → Type 0
   Holds w = I (parts w)
 
@@ -139,7 +144,7 @@ module _ {V : Type 0} (Known : ℕ → Entry Thing → Type 0) (I : Parts → Ty
   drop_lasts w (things.Socket link) h = h
   drop_lasts w (things.Value kind value) h = h
 
-  release_lasts : (w : World V) (number : ℕ) → Holds w → Holds (release w number)
+  pub release_lasts : (w : World V) (number : ℕ) → Holds w → Holds (release w number)
   release_lasts w number h =
       either (entry_of w number) w (λ x. note (drop (record w { handles = handles.retire w.handles number }) x.thing) (Freed number)) h
       (λ x e. drop_lasts (record w { handles = handles.retire w.handles number }) x.thing (l.retires (parts w) number h))
@@ -155,13 +160,13 @@ module _ {V : Type 0} (Known : ℕ → Entry Thing → Type 0) (I : Parts → Ty
       let given = give_all w (gifts_of args) (w.last_coroutine + 1) in
       l.bears (parts given) home (given.last_coroutine + 1) (give_all_lasts w (gifts_of args) (w.last_coroutine + 1) h)
 
-  close_thing_lasts : (w : World V) (who number : ℕ) (x : Entry Thing) (thing : Thing) → entry_of w number ≡ Some x → x.thing ≡ thing → Holds w → Holds (close_thing w who number thing)
-  close_thing_lasts w who number x (things.Bundle name) e f h =
-      l.closes (parts w) who name number x (number_of x.number number (found_passes (handles.is_entry number) w.handles.entries x e)) (ap bundle_of f) (known_of w number x e h) h
-  close_thing_lasts w who number x (things.End end) e f h = release_lasts w number h
-  close_thing_lasts w who number x (things.Listener link) e f h = release_lasts w number h
-  close_thing_lasts w who number x (things.Socket link) e f h = release_lasts w number h
-  close_thing_lasts w who number x (things.Value kind value) e f h = release_lasts w number h
+  close_thing_lasts : C → (w : World V) (who number : ℕ) (x : Entry Thing) (thing : Thing) → entry_of w number ≡ Some x → x.thing ≡ thing → Holds w → Holds (close_thing w who number thing)
+  close_thing_lasts c w who number x (things.Bundle name) e f h =
+      l.closes c (parts w) who name number x (number_of x.number number (found_passes (handles.is_entry number) w.handles.entries x e)) (ap bundle_of f) (known_of w number x e h) h
+  close_thing_lasts c w who number x (things.End end) e f h = release_lasts w number h
+  close_thing_lasts c w who number x (things.Listener link) e f h = release_lasts w number h
+  close_thing_lasts c w who number x (things.Socket link) e f h = release_lasts w number h
+  close_thing_lasts c w who number x (things.Value kind value) e f h = release_lasts w number h
 
   -- ---- channels
 
@@ -229,41 +234,41 @@ module _ {V : Type 0} (Known : ℕ → Entry Thing → Type 0) (I : Parts → Ty
 
   -- ---- calls
 
-  perform_lasts : (p : Program V) (w : World V) (who : ℕ) (view : V) (call : Call) → Holds w → Holds (perform p w who view call)
-  perform_lasts p w who view (calls.Print text) h = h
-  perform_lasts p w who view calls.Now h = h
-  perform_lasts p w who view calls.Yield h = h
-  perform_lasts p w who view (calls.Msleep deadline) h = h
-  perform_lasts p w who view (calls.Hmake kind value) h = l.makes (parts w) (things.Value kind value) who refl h
-  perform_lasts p w who view (calls.Hquery number kind) h = either (entry_of w number) w (λ x. reply w who words.Hquery (Number (value_of x.thing))) h (λ x e. h)
-  perform_lasts p w who view (calls.Hown number) h = move_lasts w number who h
-  perform_lasts p w who view (calls.Hclose number) h = either (entry_of w number) w (λ x. close_thing w who number x.thing) h (λ x e. close_thing_lasts w who number x x.thing e refl h)
-  perform_lasts p w who view calls.Bundle h = l.bundles (parts w) who h
-  perform_lasts p w who view (calls.Go program args) h = start_lasts p (add_bundle w who) view (w.last_bundle + 1) program args (l.bundles (parts w) who h)
-  perform_lasts p w who view (calls.BundleGo number program args) h = either (bundle_named w number) w (λ home. reply (start p w view home program args) who words.BundleGo (Number 0)) h (λ home e. start_lasts p w view home program args h)
-  perform_lasts p w who view (calls.BundleWait number deadline) h = h
-  perform_lasts p w who view calls.Chmake h =
+  perform_lasts : (p : Program V) (w : World V) (who : ℕ) (view : V) (call : Call) → (closes_bundle call ≡ true → C) → Holds w → Holds (perform p w who view call)
+  perform_lasts p w who view (calls.Print text) may h = h
+  perform_lasts p w who view calls.Now may h = h
+  perform_lasts p w who view calls.Yield may h = h
+  perform_lasts p w who view (calls.Msleep deadline) may h = h
+  perform_lasts p w who view (calls.Hmake kind value) may h = l.makes (parts w) (things.Value kind value) who refl h
+  perform_lasts p w who view (calls.Hquery number kind) may h = either (entry_of w number) w (λ x. reply w who words.Hquery (Number (value_of x.thing))) h (λ x e. h)
+  perform_lasts p w who view (calls.Hown number) may h = move_lasts w number who h
+  perform_lasts p w who view (calls.Hclose number) may h = either (entry_of w number) w (λ x. close_thing w who number x.thing) h (λ x e. close_thing_lasts (may refl) w who number x x.thing e refl h)
+  perform_lasts p w who view calls.Bundle may h = l.bundles (parts w) who h
+  perform_lasts p w who view (calls.Go program args) may h = start_lasts p (add_bundle w who) view (w.last_bundle + 1) program args (l.bundles (parts w) who h)
+  perform_lasts p w who view (calls.BundleGo number program args) may h = either (bundle_named w number) w (λ home. reply (start p w view home program args) who words.BundleGo (Number 0)) h (λ home e. start_lasts p w view home program args h)
+  perform_lasts p w who view (calls.BundleWait number deadline) may h = h
+  perform_lasts p w who view calls.Chmake may h =
       let ends = channels.next_ends w.channels in
       l.makes (made (parts w) (things.End ends.0) who) (things.End ends.1) who refl (l.makes (parts w) (things.End ends.0) who refl h)
-  perform_lasts p w who view (calls.Chsend number bytes deadline) h = channel_lasts w who (calls.Chsend number bytes deadline) h
-  perform_lasts p w who view (calls.Chrecv number size deadline) h = channel_lasts w who (calls.Chrecv number size deadline) h
-  perform_lasts p w who view (calls.Chdone number) h = either (end_named w number) w (λ end. done_at w who end) h (λ end e. done_at_lasts w who end h)
-  perform_lasts p w who view (calls.Choose deadline all) h = channel_lasts w who (calls.Choose deadline all) h
-  perform_lasts p w who view (calls.Pass word fault) h = h
-  perform_lasts p w who view call h = on_link_lasts w who call h
+  perform_lasts p w who view (calls.Chsend number bytes deadline) may h = channel_lasts w who (calls.Chsend number bytes deadline) h
+  perform_lasts p w who view (calls.Chrecv number size deadline) may h = channel_lasts w who (calls.Chrecv number size deadline) h
+  perform_lasts p w who view (calls.Chdone number) may h = either (end_named w number) w (λ end. done_at w who end) h (λ end e. done_at_lasts w who end h)
+  perform_lasts p w who view (calls.Choose deadline all) may h = channel_lasts w who (calls.Choose deadline all) h
+  perform_lasts p w who view (calls.Pass word fault) may h = h
+  perform_lasts p w who view call may h = on_link_lasts w who call h
 
-  meet_lasts : (w : World V) (who : ℕ) → Holds w → Holds (meet_deadline w who)
+  pub meet_lasts : (w : World V) (who : ℕ) → Holds w → Holds (meet_deadline w who)
   meet_lasts w who h =
       either (call_of w who) w (λ call. if is_too_late w who call then reply w who (word_of call) (late_answer call) else w) h
       (λ call e. which (is_too_late w who call) (reply w who (word_of call) (late_answer call)) w h h)
 
-  enter_lasts : (p : Program V) (lacks : Bool) (w : World V) (who : ℕ) (view : V) (call : Call) → Holds w → Holds (enter p lacks w who view call)
-  enter_lasts p lacks w who view call h = at (refuse p w who view call)
+  pub enter_lasts : (p : Program V) (lacks : Bool) (w : World V) (who : ℕ) (view : V) (call : Call) → (closes_bundle call ≡ true → C) → Holds w → Holds (enter p lacks w who view call)
+  enter_lasts p lacks w who view call may h = at (refuse p w who view call)
     where
       at : (o : Option Errno) → Holds (if_some o (if lacks && takes_memory (word_of call) then reply w who (word_of call) (Fault Enomem) else done p w who view call) (λ e. reply w who (word_of call) (Fault e)))
       at None =
           which (lacks && takes_memory (word_of call)) (reply w who (word_of call) (Fault Enomem)) (done p w who view call) h
-          (meet_lasts (perform p (keep_for w call) who view call) who (perform_lasts p (keep_for w call) who view call h))
+          (meet_lasts (perform p (keep_for w call) who view call) who (perform_lasts p (keep_for w call) who view call may h))
       at (Some e) = h
 
   -- ---- answers
@@ -301,16 +306,16 @@ module _ {V : Type 0} (Known : ℕ → Entry Thing → Type 0) (I : Parts → Ty
 
   -- ---- endings and settling
 
-  closes_owned : (who : ℕ) (xs : List (Entry Thing)) (w : World V) → AllByRecursion (Known w.last_bundle) xs → Holds w → Holds (fold (close_owned who) w xs)
-  closes_owned who [] w a h = h
-  closes_owned who (x ∷ xs) w a h = at (bundle_of x.thing) refl (closes_owned who xs)
+  closes_owned : C → (who : ℕ) (xs : List (Entry Thing)) (w : World V) → AllByRecursion (Known w.last_bundle) xs → Holds w → Holds (fold (close_owned who) w xs)
+  closes_owned c who [] w a h = h
+  closes_owned c who (x ∷ xs) w a h = at (bundle_of x.thing) refl (closes_owned c who xs)
     where
       at : (o : Option ℕ) → bundle_of x.thing ≡ o → ((v : World V) → AllByRecursion (Known v.last_bundle) xs → Holds v → Holds (fold (close_owned who) v xs)) → Holds (fold (close_owned who) (if_some o w (λ name. close_bundle w who name x.number)) xs)
       at None e rest = rest w a.1 h
-      at (Some name) e rest = rest (close_bundle w who name x.number) a.1 (l.closes (parts w) who name x.number x refl e a.0 h)
+      at (Some name) e rest = rest (close_bundle w who name x.number) a.1 (l.closes c (parts w) who name x.number x refl e a.0 h)
 
-  end_lasts : (w : World V) (who : ℕ) (outcome : Option Errno) → Holds w → Holds (end w who outcome)
-  end_lasts w who outcome h = closes_owned who (filter (handles.is_owned who) w.handles.entries) w (all_filter (Known w.last_bundle) (handles.is_owned who) w.handles.entries (l.known (parts w) h)) h
+  end_lasts : C → (w : World V) (who : ℕ) (outcome : Option Errno) → Holds w → Holds (end w who outcome)
+  end_lasts c w who outcome h = closes_owned c who (filter (handles.is_owned who) w.handles.entries) w (all_filter (Known w.last_bundle) (handles.is_owned who) w.handles.entries (l.known (parts w) h)) h
 
   finish_lasts : (w : World V) (c : Coroutine V) → Holds w → Holds (finish w c)
   finish_lasts w c h =
@@ -340,17 +345,17 @@ module _ {V : Type 0} (Known : ℕ → Entry Thing → Type 0) (I : Parts → Ty
 
   -- ---- turns
 
-  make_move_lasts : (p : Program V) (lacks : Bool) (w : World V) (who : ℕ) (view : V) (next : Move) → Holds w → Holds (make_move p lacks w who view next)
-  make_move_lasts p lacks w who view (Calls call) h = enter_lasts p lacks w who view (entered w.moment call) h
-  make_move_lasts p lacks w who view (Ends outcome) h = end_lasts w who outcome h
+  make_move_lasts : C → (p : Program V) (lacks : Bool) (w : World V) (who : ℕ) (view : V) (next : Move) → Holds w → Holds (make_move p lacks w who view next)
+  make_move_lasts c p lacks w who view (Calls call) h = enter_lasts p lacks w who view (entered w.moment call) (λ e. c) h
+  make_move_lasts c p lacks w who view (Ends outcome) h = end_lasts c w who outcome h
 
   lack_lasts : (w : World V) (who : ℕ) (next : Move) → Holds w → Holds (lack_move w who next)
   lack_lasts w who (Calls call) h = h
   lack_lasts w who (Ends outcome) h = h
 
-  pub go_on_lasts : (p : Program V) (lack : Option LackPlace) (w : World V) (who : ℕ) (view : V) → Holds w → Holds (go_on p lack w who view)
-  go_on_lasts p lack w who view h =
+  pub go_on_lasts : C → (p : Program V) (lack : Option LackPlace) (w : World V) (who : ℕ) (view : V) → Holds w → Holds (go_on p lack w who view)
+  go_on_lasts c p lack w who view h =
       let next = move_of p w who view in
       let short = p.short view (answer_given w who).1 in
       which (is_build lack && may_lack_build next.1) (lack_move (resume w who short) who next.1) (make_move p (is_entry lack) (resume w who next.0) who next.0 next.1)
-      (lack_lasts (resume w who short) who next.1 h) (make_move_lasts p (is_entry lack) (resume w who next.0) who next.0 next.1 h)
+      (lack_lasts (resume w who short) who next.1 h) (make_move_lasts c p (is_entry lack) (resume w who next.0) who next.0 next.1 h)

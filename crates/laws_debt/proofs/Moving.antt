@@ -172,7 +172,7 @@ module _ {V : Type 0} (p : Program V) (law : IsLawful p) (plainly : MakesPlain p
       let is = turn_is p law plainly lack w who c may.found in
       let good = good_moved p law plainly lack w who may c may.found may.some may.real (good_stable p k s) in
       let plain_move = plainly c.body (answer_given (begin w) who).1 may.real may.some in
-      let begun = go_on_begun w.scopes p lack (begin w) who c may.found (unfresh_all w.coroutines s.rest) (old_flags w.scopes s.order.order.fits.forest) plain_move in
+      let begun = go_on_begun w.scopes p lack (begin w) who c may.found (unfresh_all w.coroutines s.rest) (old_flags w.scopes s.order.order.fits.forest) in
       let closing : is_closing (settle moved).scopes b ≡ true = subst (λ (v : World V). is_closing v.scopes b ≡ true) is new in
       subst (λ (v : World V). AllByRecursion (λ d. is_inside v.scopes b d.number ≡ true → LowersFresh d.mode) v.coroutines) (sym is)
       (at moved good (go_on_plain p lack (begin w) who c.body plain_move (begin_plain w s.plain)) (within.moved k lack who rest c s.well s.order e may.found) closing begun)

@@ -56,12 +56,12 @@ module _ {X : Type 0} (P : X → Type 0) where
       at true e rest = let now : pick (f x) ≡ true = same x ∙ e in rw now (h x a.0, a.1)
       at false e rest = rw e (a.0, rest)
 
-all_units : {X : Type 0} (xs : List X) → AllByRecursion (λ x. Unit {0}) xs
+pub all_units : {X : Type 0} (xs : List X) → AllByRecursion (λ x. Unit {0}) xs
 all_units [] = tt
 all_units (x ∷ xs) = (tt, all_units xs)
 
 module _ (P : Bundle → Type 0) (low : ℕ) (lasts : LastsOwned P low) where
-  holds_last : Lasting (λ last x. Unit {0}) (HoldIn P low)
+  holds_last : Lasting (λ last x. Unit {0}) (Unit {0}) (HoldIn P low)
   holds_last = record {
     known = λ p h. all_units p.entries;
     takes = λ p name owner h. record {
@@ -76,7 +76,7 @@ module _ (P : Bundle → Type 0) (low : ℕ) (lasts : LastsOwned P low) where
     makes = λ p thing owner e h. record { given = h.given; bundles = h.bundles; flags = h.flags };
     moves = λ p number owner x k h. record { given = h.given; bundles = h.bundles; flags = h.flags };
     retires = λ p number h. record { given = h.given; bundles = h.bundles; flags = h.flags };
-    closes = λ p owner name number x e f k h. record {
+    closes = λ c p owner name number x e f k h. record {
       given = h.given;
       bundles = all_changed_twice P (scopes.is_bundle name) (scopes.with_owner owner) scopes.as_closing p.scopes.bundles (λ y. refl) (λ y a. lasts.closed y owner a) h.bundles;
       flags = record {
@@ -106,17 +106,17 @@ module _ (P : Bundle → Type 0) (low : ℕ) (lasts : LastsOwned P low) where
 
 module _ {V : Type 0} (P : Bundle → Type 0) (low : ℕ) (lasts : LastsOwned P low) where
   pub settle_owned : (w : World V) → AllHold P low w → AllHold P low (settle w)
-  settle_owned w h = settle_lasts (λ last x. Unit {0}) (HoldIn P low) (holds_last P low lasts) w h
+  settle_owned w h = settle_lasts (λ last x. Unit {0}) (Unit {0}) (HoldIn P low) (holds_last P low lasts) w h
 
   pub expire_one_owned : (w : World V) (who : ℕ) → AllHold P low w → AllHold P low (expire_one w who)
-  expire_one_owned w who h = expire_lasts (λ last x. Unit {0}) (HoldIn P low) (holds_last P low lasts) w who h
+  expire_one_owned w who h = expire_lasts (λ last x. Unit {0}) (Unit {0}) (HoldIn P low) (holds_last P low lasts) w who h
 
   pub go_on_owned : (p : Program V) (lack : Option LackPlace) (w : World V) (who : ℕ) (view : V) → AllHold P low w → AllHold P low (go_on p lack w who view)
-  go_on_owned p lack w who view h = go_on_lasts (λ last x. Unit {0}) (HoldIn P low) (holds_last P low lasts) p lack w who view h
+  go_on_owned p lack w who view h = go_on_lasts (λ last x. Unit {0}) (Unit {0}) (HoldIn P low) (holds_last P low lasts) tt p lack w who view h
 
 module _ {V : Type 0} (P : Bundle → Type 0) (low : ℕ) (lasts : Lasts P low) where
   pub settle_one_shut : (w : World V) → AllHold P low w → AllHold P low (settle_one w)
-  settle_one_shut w h = settle_one_lasts (λ last x. Unit {0}) (HoldIn P low) (holds_last P low (lasts_owned P low lasts)) w h
+  settle_one_shut w h = settle_one_lasts (λ last x. Unit {0}) (Unit {0}) (HoldIn P low) (holds_last P low (lasts_owned P low lasts)) w h
 
   pub settle_shut : (w : World V) → AllHold P low w → AllHold P low (settle w)
   settle_shut w h = settle_owned P low (lasts_owned P low lasts) w h

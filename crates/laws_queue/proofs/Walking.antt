@@ -1,5 +1,5 @@
 -- Every step changes the coroutines as told: one that has no answer stands elsewhere or is gone, or a new one begins.
-use Rattle.std.proofs.Common.{◌≡◌, ◌∙◌, ◌+◌, ◌≤◌, ℕ, suc, List, [], ◌∷◌, length, find, Bool, true, false, not, ◌&&◌, ◌||◌, cond, Option, Some, None, refl, sym, ap, subst}
+use Rattle.std.proofs.Common.{◌≡◌, ◌∙◌, ◌+◌, ◌≤◌, ℕ, suc, List, [], ◌∷◌, ◌++◌, length, find, Bool, true, false, not, ◌&&◌, ◌||◌, cond, Option, Some, None, refl, sym, ap, subst}
 use Rattle.dill_base.specs.declared.errno.Errno.{Errno}
 use Rattle.dill_base.specs.declared.errno.Errno.TheVariants as errnos
 use Rattle.dill_calls.specs.declared.answer.Answer.{Answer}
@@ -17,7 +17,7 @@ use Rattle.dill_rules.specs.declared.coroutine.Mode.{Mode}
 use Rattle.dill_rules.specs.declared.coroutine.Mode.TheVariants as modes
 use Rattle.dill_rules.specs.World.{World, is_coroutine, coroutine_of, with_mode, set_mode, reply, pend, is_answered}
 use Rattle.dill_rules.specs.Naming.{gifts_of}
-use Rattle.dill_rules.specs.Refusals.{refuse, has_twice, holds, is_invalid, is_refused_by_stack}
+use Rattle.dill_rules.specs.Refusals.{order, refuse, has_twice, holds, is_invalid, is_refused_by_stack}
 use Rattle.dill_rules.specs.Effects.{told, bear}
 use Rattle.laws_queue.proofs.Crew.{SameCrew}
 use Rattle.laws_queue.proofs.Evolving.{Evolves, stays, turns, goes_on}
@@ -92,9 +92,18 @@ told_length next [] = refl
 told_length next (Show number ∷ args) = ap suc (told_length next args)
 told_length next (Give number ∷ args) = ap suc (told_length (next + 1) args)
 
-pub picks_none : {A : Type 0} (b : Bool) (x : A) (rest : Option A) → cond b (Some x) rest ≡ None → (b ≡ false) × (rest ≡ None)
-picks_none true x rest e = cc
-picks_none false x rest e = (refl, e)
+-- where nothing is found, what stands behind others isn't
+pub none_behind : {X : Type 0} (f : X → Bool) (front : List X) (x : X) (back : List X) → find f (front ++ x ∷ back) ≡ None → f x ≡ false
+none_behind {X} f [] x back e = at (f x) (find f back) e
+  where
+    at : (b : Bool) (rest : Option X) → cond b (Some x) rest ≡ None → b ≡ false
+    at true rest g = cc
+    at false rest g = refl
+none_behind {X} f (y ∷ front) x back e = at (f y) e (none_behind f front x back)
+  where
+    at : (b : Bool) → cond b (Some y) (find f (front ++ x ∷ back)) ≡ None → (find f (front ++ x ∷ back) ≡ None → f x ≡ false) → f x ≡ false
+    at true g rest = cc
+    at false g rest = rest g
 
 pub or_false : (a b : Bool) → (a || b) ≡ false → a ≡ false
 or_false true b e = cc
@@ -111,19 +120,16 @@ Known p view (calls.BundleGo number program args) = p.knows view program (length
 Known p view call = Unit {0}
 
 module _ {V : Type 0} (p : Program V) where
-  fourth_none : (f : Errno → Bool) (a b c d : Errno) (rest : List Errno) → find f (a ∷ b ∷ c ∷ d ∷ rest) ≡ None → f d ≡ false
-  fourth_none f a b c d rest e =
-      let one = picks_none (f a) a (find f (b ∷ c ∷ d ∷ rest)) e in
-      let two = picks_none (f b) b (find f (c ∷ d ∷ rest)) one.1 in
-      let three = picks_none (f c) c (find f (d ∷ rest)) two.1 in
-      (picks_none (f d) d (find f rest) three.1).0
+  -- EINVAL is the fourth of the order
+  valid : (f : Errno → Bool) → find f order ≡ None → f errnos.Einval ≡ false
+  valid f e = none_behind f (errnos.Ecanceled ∷ errnos.Ebadf ∷ errnos.Enotsup ∷ []) errnos.Einval (errnos.Ebusy ∷ errnos.Epipe ∷ errnos.Econnreset ∷ errnos.Emsgsize ∷ errnos.Emfile ∷ []) e
 
   -- what isn't refused starts a program that is known
   pub unrefused_known : (w : World V) (who : ℕ) (view : V) (call : Call) → refuse p w who view call ≡ None → Known p view call
   unrefused_known w who view (calls.Go program args) f =
-      let held = fourth_none (holds p w who view (calls.Go program args)) errnos.Ecanceled errnos.Ebadf errnos.Enotsup errnos.Einval (errnos.Ebusy ∷ errnos.Epipe ∷ errnos.Econnreset ∷ errnos.Emsgsize ∷ errnos.Emfile ∷ []) f in
+      let held = valid (holds p w who view (calls.Go program args)) f in
       not_true (p.knows view program (length args)) (has_twice (gifts_of args)) (or_false (is_invalid p view (calls.Go program args)) (is_refused_by_stack w (calls.Go program args) errnos.Einval) held)
   unrefused_known w who view (calls.BundleGo number program args) f =
-      let held = fourth_none (holds p w who view (calls.BundleGo number program args)) errnos.Ecanceled errnos.Ebadf errnos.Enotsup errnos.Einval (errnos.Ebusy ∷ errnos.Epipe ∷ errnos.Econnreset ∷ errnos.Emsgsize ∷ errnos.Emfile ∷ []) f in
+      let held = valid (holds p w who view (calls.BundleGo number program args)) f in
       not_true (p.knows view program (length args)) (has_twice (gifts_of args)) (or_false (is_invalid p view (calls.BundleGo number program args)) (is_refused_by_stack w (calls.BundleGo number program args) errnos.Einval) held)
   unrefused_known w who view call f = tt

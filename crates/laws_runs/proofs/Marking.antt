@@ -191,7 +191,7 @@ module _ (tie : Closing) where
         given = let g = h.given in omega (arith, g);
       }
 
-  pub lasts_marked : Lasting IsLive (MarkedIn tie)
+  pub lasts_marked : Lasting IsLive (Unit {0}) (MarkedIn tie)
   lasts_marked = record {
     known = λ p h. both_all (IsMade p.last_bundle) (IsOther tie) (IsLive p.last_bundle) p.entries (λ x a b. (a, b)) h.things h.others;
     takes = taken;
@@ -207,7 +207,7 @@ module _ (tie : Closing) where
     makes = λ p thing owner e h. more p thing owner (λ name f. cc) h;
     moves = λ p number owner x k h. more (retired p number) x.thing owner k.0 (less p number h);
     retires = less;
-    closes = shut;
+    closes = λ c. shut;
     frees = free;
     bundles = new_bundle;
     bears = λ p home who h. record { ranked = h.ranked; marked = h.marked; noted = h.noted; things = h.things; tied = h.tied; others = h.others; given = h.given };

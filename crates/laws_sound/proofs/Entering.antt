@@ -1,5 +1,5 @@
 -- What a call that isn't refused may do, and what its children leave in order.
-use Rattle.std.proofs.Common.{◌≡◌, ◌∙◌, ℕ, ◌+◌, ◌<◌, ◌≤◌, ◌==◌, List, [], ◌∷◌, ◌++◌, length, find, Bool, true, false, not, ◌&&◌, ◌||◌, cond, inl, inr, Option, Some, None, if◌then◌else◌, refl, sym, ap, subst, arith}
+use Rattle.std.proofs.Common.{◌≡◌, ◌∙◌, ℕ, ◌+◌, ◌<◌, ◌≤◌, ◌==◌, List, [], ◌∷◌, ◌++◌, length, find, Bool, true, false, not, ◌&&◌, ◌||◌, inl, inr, Option, Some, None, if◌then◌else◌, refl, sym, ap, subst, arith}
 use Rattle.std.proofs.lemmas.Bool.{or_parts}
 use Rattle.std.specs.Prelude.{is_some, is_none, nat_le, nat_lt}
 use Rattle.std.specs.List.{list_any}
@@ -55,15 +55,9 @@ use Rattle.laws_sound.proofs.Ordering.{order_reply, order_keep, order_add_bundle
 use Rattle.laws_sound.proofs.Owners.{new_is_free, bundle_new, owned_known}
 use Rattle.laws_sound.proofs.Shutting.{bundle_is}
 use Rattle.laws_sound.proofs.Sound.{same_there}
+use Rattle.laws_queue.proofs.Walking.{none_behind}
 
 -- ---- what a call isn't refused for
-
-none_first : (f : Errno → Bool) (e : Errno) (es : List Errno) → find f (e ∷ es) ≡ None → (f e ≡ false) × (find f es ≡ None)
-none_first f e es h = at (f e) h
-  where
-    at : (b : Bool) → cond b (Some e) (find f es) ≡ None → (b ≡ false) × (find f es ≡ None)
-    at true g = cc
-    at false g = (refl, g)
 
 record Unrefused (f : Errno → Bool) : Type 0 where
   dead : f errnos.Ebadf ≡ false
@@ -73,22 +67,20 @@ record Unrefused (f : Errno → Bool) : Type 0 where
   short : f errnos.Emfile ≡ false
 
 unrefused : (f : Errno → Bool) (b : Bool) → find f (if b then giving_order else order) ≡ None → Unrefused f
-unrefused f true e =
-    let one = none_first f errnos.Ebadf (errnos.Enotsup ∷ errnos.Einval ∷ errnos.Ebusy ∷ errnos.Emfile ∷ []) e in
-    let two = none_first f errnos.Enotsup (errnos.Einval ∷ errnos.Ebusy ∷ errnos.Emfile ∷ []) one.1 in
-    let three = none_first f errnos.Einval (errnos.Ebusy ∷ errnos.Emfile ∷ []) two.1 in
-    let four = none_first f errnos.Ebusy (errnos.Emfile ∷ []) three.1 in
-    record { dead = one.0; other = two.0; invalid = three.0; busy = four.0; short = (none_first f errnos.Emfile [] four.1).0 }
-unrefused f false e =
-    let zero = none_first f errnos.Ecanceled (errnos.Ebadf ∷ errnos.Enotsup ∷ errnos.Einval ∷ errnos.Ebusy ∷ errnos.Epipe ∷ errnos.Econnreset ∷ errnos.Emsgsize ∷ errnos.Emfile ∷ []) e in
-    let one = none_first f errnos.Ebadf (errnos.Enotsup ∷ errnos.Einval ∷ errnos.Ebusy ∷ errnos.Epipe ∷ errnos.Econnreset ∷ errnos.Emsgsize ∷ errnos.Emfile ∷ []) zero.1 in
-    let two = none_first f errnos.Enotsup (errnos.Einval ∷ errnos.Ebusy ∷ errnos.Epipe ∷ errnos.Econnreset ∷ errnos.Emsgsize ∷ errnos.Emfile ∷ []) one.1 in
-    let three = none_first f errnos.Einval (errnos.Ebusy ∷ errnos.Epipe ∷ errnos.Econnreset ∷ errnos.Emsgsize ∷ errnos.Emfile ∷ []) two.1 in
-    let four = none_first f errnos.Ebusy (errnos.Epipe ∷ errnos.Econnreset ∷ errnos.Emsgsize ∷ errnos.Emfile ∷ []) three.1 in
-    let five = none_first f errnos.Epipe (errnos.Econnreset ∷ errnos.Emsgsize ∷ errnos.Emfile ∷ []) four.1 in
-    let six = none_first f errnos.Econnreset (errnos.Emsgsize ∷ errnos.Emfile ∷ []) five.1 in
-    let seven = none_first f errnos.Emsgsize (errnos.Emfile ∷ []) six.1 in
-    record { dead = one.0; other = two.0; invalid = three.0; busy = four.0; short = (none_first f errnos.Emfile [] seven.1).0 }
+unrefused f true e = record {
+  dead = none_behind f [] errnos.Ebadf (errnos.Enotsup ∷ errnos.Einval ∷ errnos.Ebusy ∷ errnos.Emfile ∷ []) e;
+  other = none_behind f (errnos.Ebadf ∷ []) errnos.Enotsup (errnos.Einval ∷ errnos.Ebusy ∷ errnos.Emfile ∷ []) e;
+  invalid = none_behind f (errnos.Ebadf ∷ errnos.Enotsup ∷ []) errnos.Einval (errnos.Ebusy ∷ errnos.Emfile ∷ []) e;
+  busy = none_behind f (errnos.Ebadf ∷ errnos.Enotsup ∷ errnos.Einval ∷ []) errnos.Ebusy (errnos.Emfile ∷ []) e;
+  short = none_behind f (errnos.Ebadf ∷ errnos.Enotsup ∷ errnos.Einval ∷ errnos.Ebusy ∷ []) errnos.Emfile [] e;
+}
+unrefused f false e = record {
+  dead = none_behind f (errnos.Ecanceled ∷ []) errnos.Ebadf (errnos.Enotsup ∷ errnos.Einval ∷ errnos.Ebusy ∷ errnos.Epipe ∷ errnos.Econnreset ∷ errnos.Emsgsize ∷ errnos.Emfile ∷ []) e;
+  other = none_behind f (errnos.Ecanceled ∷ errnos.Ebadf ∷ []) errnos.Enotsup (errnos.Einval ∷ errnos.Ebusy ∷ errnos.Epipe ∷ errnos.Econnreset ∷ errnos.Emsgsize ∷ errnos.Emfile ∷ []) e;
+  invalid = none_behind f (errnos.Ecanceled ∷ errnos.Ebadf ∷ errnos.Enotsup ∷ []) errnos.Einval (errnos.Ebusy ∷ errnos.Epipe ∷ errnos.Econnreset ∷ errnos.Emsgsize ∷ errnos.Emfile ∷ []) e;
+  busy = none_behind f (errnos.Ecanceled ∷ errnos.Ebadf ∷ errnos.Enotsup ∷ errnos.Einval ∷ []) errnos.Ebusy (errnos.Epipe ∷ errnos.Econnreset ∷ errnos.Emsgsize ∷ errnos.Emfile ∷ []) e;
+  short = none_behind f (errnos.Ecanceled ∷ errnos.Ebadf ∷ errnos.Enotsup ∷ errnos.Einval ∷ errnos.Ebusy ∷ errnos.Epipe ∷ errnos.Econnreset ∷ errnos.Emsgsize ∷ []) errnos.Emfile [] e;
+}
 
 module _ {V : Type 0} (p : Program V) where
   -- what a call that isn't refused may do
