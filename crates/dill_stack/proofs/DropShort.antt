@@ -125,7 +125,7 @@ message_fine p s (Http http ∷ below) u ended k = absurd k
 message_fine p s (Ws ws ∷ below) u ended k = ws_fine below ws u ended
 
 -- one item
-abbrev StepFine : List ℕ → Dropped → Type 0
+abbrev pub StepFine : List ℕ → Dropped → Type 0
 StepFine u (Item o) = (1 ≤ o.used) × (1 ≤ length u) × IsDroppable o.layers
 StepFine u (End o) = o.said ≡ Given (Number 0)
 StepFine u (Stops o) = o.said ≡ Need → length (drop o.used u) < 16416
@@ -164,7 +164,7 @@ line_fine l http below u ended (front.Whole x y z) e = at (not (y - x == 0)) (is
 line_fine l http below u ended front.Need e = λ h. let k = l.waits u e in omega (arith, k)
 line_fine l http below u ended (front.Fault x) e = λ h. not_fault x h
 
-one_fine : (p : PrefixLaws) (s : SuffixLaws) (l : LineLaws) (layers : List Placed) (u : List ℕ) (ended : Bool) → IsDroppable layers → StepFine u (drop_one layers u ended)
+pub one_fine : (p : PrefixLaws) (s : SuffixLaws) (l : LineLaws) (layers : List Placed) (u : List ℕ) (ended : Bool) → IsDroppable layers → StepFine u (drop_one layers u ended)
 one_fine p s l [] u ended k = absurd k
 one_fine p s l (Prefix form ∷ below) u ended k = refl
 one_fine p s l (Suffix end ∷ below) u ended k = refl

@@ -35,3 +35,6 @@ pub mod Passers
 pub mod FrameSees
 pub mod Seers
 pub mod ReadShort
+pub mod Sifts
+pub mod Sinkings
+pub mod Finishing

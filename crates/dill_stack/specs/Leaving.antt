@@ -1,7 +1,7 @@
 -- What a detach does with one item, and what all of them leave.
 use Rattle.std.specs.Prelude.{ℕ, zero, suc, ◌-◌, List, [], ◌∷◌, Bool, false, take, drop, if◌then◌else◌}
 use Rattle.dill_base.specs.declared.errno.Errno.TheVariants.{Epipe}
-use Rattle.dill_calls.specs.declared.answer.Answer.TheVariants.{Bytes}
+use Rattle.dill_calls.specs.declared.answer.Answer.TheVariants.{Bytes, Number}
 use Rattle.dill_stack.specs.declared.dropping.DropStep.{DropStep}
 use Rattle.dill_stack.specs.declared.dropping.DropStep.TheVariants as step
 use Rattle.dill_stack.specs.declared.want.ReadOut.TheVariants.{Given, Fault}
@@ -9,6 +9,8 @@ use Rattle.dill_stack.specs.Layers.{TermLayer, Placed, Term}
 use Rattle.dill_stack.specs.Held.{Held, Idle}
 use Rattle.dill_stack.specs.Read.{Outcome, outcome}
 use Rattle.dill_stack.specs.Dropping.{Dropped, Item, End, Stops, drop_one, dropped, drop_message, is_given}
+use Rattle.dill_stack.specs.Refusals.{is_met_layer}
+use Rattle.dill_stack.specs.Seeing.{emptied_layers, joined_in}
 use Rattle.dill_stack.specs.Taking.{over_layers, behind, meet}
 
 -- the outcome of one item
@@ -63,3 +65,32 @@ terms_at (suc n) terms = meet (suc n) terms
 -- the stack after all, which has no detach any more where that was answered
 abbrev pub left_behind : Outcome → Held → Held
 left_behind o s = if is_given o.said then record (behind o s) { task = Idle } else behind o s
+
+-- the layers below the top
+abbrev pub below_layers : List Placed → List Placed
+below_layers [] = []
+below_layers (layer ∷ below) = below
+
+-- the end of the top layer was met
+abbrev pub top_met : List Placed → Bool
+top_met [] = false
+top_met (layer ∷ below) = is_met_layer layer
+
+-- what becomes of a message that the WebSocket layer has joined, over these layers: it is dropped, or is the end of one
+abbrev pub drop_over : List Placed → List ℕ → Dropped
+drop_over (Term term ∷ below) m = drop_message term (over_layers below (outcome 0 [] (Given (Bytes m))))
+drop_over layers m = Item (outcome 0 layers (Given (Bytes m)))
+
+abbrev pub joined_dropped : Held → Dropped
+joined_dropped s = drop_over (emptied_layers s.layers) (joined_in s.layers)
+
+-- what becomes of a close frame: it is the end, or cuts off the detach of a layer above
+abbrev pub close_dropped : List Placed → Dropped
+close_dropped (Term term ∷ below) = Stops (outcome 0 (Term term ∷ below) (Fault Epipe))
+close_dropped layers = End (outcome 0 (below_layers layers) (Given (Number 0)))
+
+-- with so many bytes used
+abbrev pub used_in : ℕ → Dropped → Dropped
+used_in n (Item o) = Item (record o { used = n })
+used_in n (End o) = End (record o { used = n })
+used_in n (Stops o) = Stops (record o { used = n })

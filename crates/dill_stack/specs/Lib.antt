@@ -36,3 +36,4 @@ pub mod Again
 pub mod Stepping
 pub mod Framing
 pub mod Seeing
+pub mod Sinking

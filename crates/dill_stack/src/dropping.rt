@@ -1,21 +1,24 @@
-ghost use Rattle.std.specs.Prelude.{◌≡◌, ◌≤◌, ◌<◌, ◌∷◌, [], length, drop, None};
+ghost use Rattle.std.specs.Prelude.{◌≡◌, ◌≤◌, ◌<◌, ◌∷◌, [], length, drop, is_some, true, None};
 ghost use Rattle.dill_stack.specs.Layers.{Http};
 ghost use Rattle.dill_stack.specs.Dropping.{drop_line};
-ghost use Rattle.dill_stack.specs.Leaving.{step_of, outcome_of, next_dropped, sifted_message, is_top_met, below_top, step_at, terms_at};
+ghost use Rattle.dill_stack.specs.Leaving.{below_layers, close_dropped, joined_dropped, top_met, step_of, outcome_of, next_dropped, sifted_message, is_top_met, below_top, step_at, terms_at};
 ghost use Rattle.dill_stack.specs.Read.{no_more};
 ghost use Rattle.dill_stack.specs.Receiving.{ws_of};
 ghost use Rattle.dill_stack.specs.Standing.{ends_of};
-ghost use Rattle.dill_stack.specs.Taking.{behind, IsWithin};
+ghost use Rattle.dill_stack.specs.Stepping.{next_pass};
+ghost use Rattle.dill_stack.specs.Taking.{behind, joined_left, IsWithin};
 
+use crate::layer::Top;
 use crate::placed::{Base, HttpLayer, Place, TermLayer};
 use crate::receiving::{any_met, front_on_link, lowest_of, meet_at};
+use crate::seeing::Seen;
 use crate::stack::Stack;
 use crate::want::ReadOut;
 use dill_base::{Errno, Front};
 use dill_http::line_front;
 
 /// The most bytes of a message that a detach drops.
-const DROP_LIMIT: usize = 16_384;
+pub(crate) const DROP_LIMIT: usize = 16_384;
 
 /// What a detach does with the item at the front: it drops it, or it is the peer's end, or the detach stops.
 #[derive(Debug, Drop)]
@@ -26,8 +29,106 @@ pub(crate) enum DropStep {
 }
 
 impl Stack {
-    // One item at the front is dropped, or is the end, after which the layers below are left.
+    // One item at the front is dropped, or is the end, after which the layers below are left. It passes no frame.
     pub(crate) fn drop_one(&mut self) -> DropStep
+        requires last { next_pass 16384 self.old.held ≡ None }
+        ensures step { result ≡ step_of (next_dropped self.old.held) }
+        ensures after { self.new ≡ record self.old { held = behind (outcome_of (next_dropped self.old.held)) self.old.held; joined = joined_left (outcome_of (next_dropped self.old.held)).layers self.old.joined } }
+    {
+        self.stands();
+        if self.has_frames() {
+            return self.drop_frames();
+        }
+        self.drop_framed()
+    }
+
+    // The same over a WebSocket layer.
+    fn drop_frames(&mut self) -> DropStep
+        requires last { next_pass 16384 self.old.held ≡ None }
+        requires framed { is_some (ws_of self.old.held.layers) ≡ true }
+        ensures step { result ≡ step_of (next_dropped self.old.held) }
+        ensures after { self.new ≡ record self.old { held = behind (outcome_of (next_dropped self.old.held)) self.old.held; joined = joined_left (outcome_of (next_dropped self.old.held)).layers self.old.joined } }
+    {
+        self.stands();
+        if self.has_top_met() {
+            self.leave();
+            return DropStep::End;
+        }
+        if self.has_met() {
+            return DropStep::Stops(ReadOut::Fault(Errno::Epipe));
+        }
+        match self.see(DROP_LIMIT) {
+            Seen::Message => self.drop_joined(),
+            Seen::Close => self.drop_close(),
+            Seen::Open(boundary) => DropStep::Stops(self.awaits(boundary)),
+            Seen::Refused(e) => DropStep::Stops(ReadOut::Fault(e)),
+        }
+    }
+
+    // The end of the top layer was met.
+    fn has_top_met(&self) -> bool
+        ensures { result ≡ top_met self.now.held.layers }
+    {
+        match self.terms.as_slice() {
+            [] => self.base.is_met(),
+            [_, ..] => is_top_met(self.terms.as_slice()),
+        }
+    }
+
+    // The top layer is left; a WebSocket layer takes its room with it.
+    fn leave(&mut self)
+        requires { is_some (ws_of self.old.held.layers) ≡ true }
+        ensures { self.new ≡ record self.old { held = record self.old.held { layers = below_layers self.old.held.layers }; joined = joined_left (below_layers self.old.held.layers) self.old.joined } }
+    {
+        match self.terms.as_slice() {
+            [] => self.base = Base::Bytes,
+            [_, ..] => leave_top(&mut self.terms),
+        }
+    }
+
+    // Nothing whole is there, which may be a boundary between two items.
+    fn awaits(&self, boundary: bool) -> ReadOut
+        ensures { result ≡ no_more self.now.held.receiving.done boundary self.now.held.unread }
+    {
+        no_more(self.receiving.done, boundary, self.unread.as_slice())
+    }
+
+    // The message that was joined is dropped, or is the end of a layer.
+    fn drop_joined(&mut self) -> DropStep
+        requires { is_some (ws_of self.old.held.layers) ≡ true }
+        ensures step { result ≡ step_of (joined_dropped self.old.held) }
+        ensures after { self.new ≡ record self.old { held = behind (outcome_of (joined_dropped self.old.held)) self.old.held } }
+    {
+        match lowest_of(self.terms.as_slice(), self.base.joined()) {
+            Some(at) => {
+                let step = meet_end(&mut self.terms, at);
+                self.base.empty();
+                step
+            }
+            None => {
+                self.base.empty();
+                DropStep::Item
+            }
+        }
+    }
+
+    // A close frame is the end, or cuts off the detach of a layer above.
+    fn drop_close(&mut self) -> DropStep
+        requires { is_some (ws_of self.old.held.layers) ≡ true }
+        ensures step { result ≡ step_of (close_dropped self.old.held.layers) }
+        ensures after { self.new ≡ record self.old { held = behind (outcome_of (close_dropped self.old.held.layers)) self.old.held; joined = joined_left (outcome_of (close_dropped self.old.held.layers)).layers self.old.joined } }
+    {
+        match self.top() {
+            Top::Term => DropStep::Stops(ReadOut::Fault(Errno::Epipe)),
+            _ => {
+                self.leave();
+                DropStep::End
+            }
+        }
+    }
+
+    // One item where no WebSocket layer stands below.
+    fn drop_framed(&mut self) -> DropStep
         requires plain { ws_of self.old.held.layers ≡ None }
         ensures step { result ≡ step_of (next_dropped self.old.held) }
         ensures after { self.new ≡ record self.old { held = behind (outcome_of (next_dropped self.old.held)) self.old.held } }

@@ -11,13 +11,14 @@ ghost use Rattle.dill_stack.specs.Parting.{parting_fault, is_cut_off, with_parti
 ghost use Rattle.dill_stack.specs.Sending.{is_sent, is_pong, item_of};
 ghost use Rattle.dill_stack.specs.Standing.{tower, base_layers, has_end_of, is_top_done, is_frames_top, base_key, closed_base};
 ghost use Rattle.dill_stack.specs.Leaving.{all_dropped};
-ghost use Rattle.dill_stack.specs.Taking.{behind, joined_left};
+ghost use Rattle.dill_stack.specs.Taking.{joined_left};
 ghost use Rattle.dill_stack.specs.Needs.{parting_need};
 ghost use Rattle.dill_stack.specs.Held.{Idle, Leaves, Plain};
 ghost use Rattle.dill_stack.specs.Dropping.{is_given};
-ghost use Rattle.dill_stack.specs.Receiving.{ws_of};
+ghost use Rattle.dill_stack.specs.Receiving.{looked_over};
+ghost use Rattle.dill_stack.specs.Sinking.{Sinks};
 
-use crate::dropping::DropStep;
+use crate::dropping::{DROP_LIMIT, DropStep};
 use crate::origin::Origin;
 use crate::parting::Parting;
 use crate::placed::{Base, TermLayer};
@@ -107,31 +108,29 @@ impl Stack {
     ///
     /// EPIPE: the end of a layer below was met, or the peer has ended at a boundary. EPROTO: it has ended inside, or what
     /// stands there is refused. EMSGSIZE: a message has more than 16,384 bytes, or a line more than 8,192.
-    pub fn detach_finish<R: Rng>(&mut self, _keys: &mut R) -> ReadOut
-        requires plain { ws_of self.old.held.layers ≡ None }
-        ensures said { result ≡ (detach_finish (R.stream _keys.old) self.old.held).said }
-        ensures stack { self.new ≡ record self.old { held = (detach_finish (R.stream _keys.old) self.old.held).stack; joined = joined_left (detach_finish (R.stream _keys.old) self.old.held).stack.layers self.old.joined } }
-        ensures random { R.stream _keys.new ≡ (detach_finish (R.stream _keys.old) self.old.held).random }
+    pub fn detach_finish<R: Rng>(&mut self, keys: &mut R) -> ReadOut
+        ensures said { result ≡ (detach_finish (R.stream keys.old) self.old.held).said }
+        ensures stack { self.new ≡ record self.old { held = (detach_finish (R.stream keys.old) self.old.held).stack; joined = joined_left (detach_finish (R.stream keys.old) self.old.held).stack.layers self.old.joined } }
+        ensures random { R.stream keys.new ≡ (detach_finish (R.stream keys.old) self.old.held).random }
         ensures short { result ≡ ReadOut.Need → is_sent self.new.held ≡ true → 1 ≤ length self.old.held.layers → length self.new.held.unread < parting_need }
     {
         prefix_laws();
         suffix_laws();
         http_laws();
         self.stands();
-        self.finish()
+        self.finish(keys)
     }
 
-    // The same; it draws no random number.
-    fn finish(&mut self) -> ReadOut
-        requires plain { ws_of self.old.held.layers ≡ None }
-        ensures said { (random : Stream) → result ≡ (detach_finish random self.old.held).said }
-        ensures stack { (random : Stream) → self.new ≡ record self.old { held = (detach_finish random self.old.held).stack } }
-        ensures random { (random : Stream) → random ≡ (detach_finish random self.old.held).random }
+    // The same, but for what stays unread.
+    fn finish<R: Rng>(&mut self, keys: &mut R) -> ReadOut
+        ensures look { detach_finish (R.stream keys.old) self.old.held ≡ record { stack = self.new.held; said = result; random = R.stream keys.new } }
+        ensures rest { self.new ≡ record self.old { held = self.new.held; joined = joined_left self.new.held.layers self.old.joined } }
     {
+        self.stands();
         if !self.is_sent() {
             return ReadOut::Need;
         }
-        let said = self.drop_all();
+        let said = self.drop_all(keys);
         self.rest_if(is_given(&said));
         said
     }
@@ -146,20 +145,33 @@ impl Stack {
     }
 
     // Drops what is there until the peer's end was met.
-    fn drop_all(&mut self) -> ReadOut
-        requires plain { ws_of self.old.held.layers ≡ None }
-        ensures said { result ≡ (all_dropped self.old.held).said }
-        ensures after { self.new ≡ record self.old { held = behind (all_dropped self.old.held) self.old.held } }
+    fn drop_all<R: Rng>(&mut self, keys: &mut R) -> ReadOut
+        ensures look { looked_over (all_dropped self.old.held) (R.stream keys.old) self.old.held ≡ record { stack = self.new.held; said = result; random = R.stream keys.new } }
+        ensures rest { self.new ≡ record self.old { held = self.new.held; joined = joined_left self.new.held.layers self.old.joined } }
     {
-        let most = self.unread.as_slice().len();
+        let most = self.unread_count();
         for _item in 0..most + 1 {
-            match self.drop_one() {
+            match self.drop_next(keys) {
                 DropStep::Item => {}
                 DropStep::End => return ReadOut::Given(Answer::Number(0)),
                 DropStep::Stops(said) => return said,
             }
         }
         ReadOut::Need
+    }
+
+    // A frame at the front is passed, or an item is dropped.
+    fn drop_next<R: Rng>(&mut self, keys: &mut R) -> DropStep
+        ensures { Sinks result self.old self.new (R.stream keys.old) (R.stream keys.new) }
+    {
+        prefix_laws();
+        suffix_laws();
+        http_laws();
+        self.stands();
+        if self.pass_next(DROP_LIMIT, keys) {
+            return DropStep::Item;
+        }
+        self.drop_one()
     }
 }
 

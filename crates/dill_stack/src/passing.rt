@@ -54,9 +54,10 @@ impl Stack {
         }
     }
 
-    // How many bytes are unread.
+    // How many bytes are unread, which are no more than a slice may have.
     pub(crate) fn unread_count(&self) -> usize
-        ensures { result ≡ length self.now.held.unread }
+        ensures count { result ≡ length self.now.held.unread }
+        ensures most { result ≤ 9223372036854775807 }
     {
         self.unread.as_slice().len()
     }

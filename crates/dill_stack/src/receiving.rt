@@ -275,7 +275,7 @@ impl Stack {
     }
 
     // A WebSocket layer is on the link.
-    fn has_frames(&self) -> bool
+    pub(crate) fn has_frames(&self) -> bool
         ensures { result ≡ is_some (ws_of self.now.held.layers) }
     {
         self.base.is_frames()
@@ -324,7 +324,7 @@ impl Stack {
     }
 
     // The end of some layer was met.
-    fn has_met(&self) -> bool
+    pub(crate) fn has_met(&self) -> bool
         ensures { result ≡ is_met self.now.held.layers }
     {
         has_met(self.terms.as_slice(), &self.base)

@@ -9,7 +9,7 @@ use Rattle.dill_stack.proofs.Passers.{reaches_first, reaches_on, reaches_end}
 use Rattle.dill_stack.proofs.stack.Stack.pass_all.Goals as goal
 
 pub loop-frame-init : goal.loop-frame-init
-loop-frame-init g c = reaches_first c.args.limit c.unread_count-most.result c.args.self.now (g.R.Rng.stream c.args.keys.now) c.requires.fits c.requires.standing c.requires.joined (omega (arith, c.unread_count-most.ensures))
+loop-frame-init g c = reaches_first c.args.limit c.unread_count-most.result c.args.self.now (g.R.Rng.stream c.args.keys.now) c.requires.fits c.requires.standing c.requires.joined (omega (arith, c.unread_count-most.ensures.count))
 
 pub pass_next-requires : goal.pass_next-requires
 pass_next-requires g c = c.loop-frame.invariant.joined

@@ -3,7 +3,7 @@ use Rattle.dill_stack.specs.Layers.{TermLayer}
 use Rattle.dill_stack.specs.Rooms.{Stocked}
 use Rattle.dill_stack.specs.Standing.{ends_of, tower, base_layers}
 use Rattle.dill_stack.proofs.Drops.{top_there}
-use Rattle.dill_stack.proofs.stack.Stack.drop_one.Goals as goal
+use Rattle.dill_stack.proofs.stack.Stack.drop_framed.Goals as goal
 
 pub drop_under_end-requires : goal.drop_under_end-requires
 drop_under_end-requires c =
