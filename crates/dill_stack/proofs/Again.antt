@@ -29,12 +29,12 @@ use Rattle.dill_stack.proofs.Limits.{FrameAt, frame_at, head_shown}
 use Rattle.dill_stack.proofs.Passings.{pass_at, empty_front}
 
 -- nothing is used, and nothing changes
-abbrev IsStill : Outcome → List Placed → Type 0
+abbrev pub IsStill : Outcome → List Placed → Type 0
 IsStill o layers = o ≡ outcome 0 layers Need
 
 -- ---- framings and lines
 
-by_front_still : (layers : List Placed) (u : List ℕ) (ended : Bool) (f : Front) → (by_front layers u ended f).said ≡ Need → IsStill (by_front layers u ended f) layers
+pub by_front_still : (layers : List Placed) (u : List ℕ) (ended : Bool) (f : Front) → (by_front layers u ended f).said ≡ Need → IsStill (by_front layers u ended f) layers
 by_front_still layers u ended (front.Whole from to used) e = cc
 by_front_still layers u ended front.Need e = ap (outcome 0 layers) e
 by_front_still layers u ended (front.Fault x) e = cc
@@ -66,7 +66,7 @@ end_said : (b : Bool) → (if b then Fault Epipe else Fault Eproto) ≡ Need →
 end_said true e = cc
 end_said false e = cc
 
-shown_still : (limit : ℕ) (ended : Bool) (ws : WsLayer) (u : List ℕ) → (shown limit ended ws u).said ≡ Need → shown limit ended ws u ≡ record { used = 0; ws = ws; said = Need }
+pub shown_still : (limit : ℕ) (ended : Bool) (ws : WsLayer) (u : List ℕ) → (shown limit ended ws u).said ≡ Need → shown limit ended ws u ≡ record { used = 0; ws = ws; said = Need }
 unfolding shown
 shown_still limit ended ws u e = by (ws_front limit ws u) e
   where
@@ -205,7 +205,7 @@ line_again want (Http http ∷ below) u ended e = at (is_behind http.receiving) 
     at true f = cc
     at false f = by_line_still want http below u ended (front_of_line u) f
 
-exact_still : (layers : List Placed) (u : List ℕ) (ended : Bool) (n : ℕ) → (read_exact layers u ended n).said ≡ Need → IsStill (read_exact layers u ended n) layers
+pub exact_still : (layers : List Placed) (u : List ℕ) (ended : Bool) (n : ℕ) → (read_exact layers u ended n).said ≡ Need → IsStill (read_exact layers u ended n) layers
 exact_still layers u ended n e = at (nat_lt (length u) n) ended e
   where
     at : (b c : Bool) → (if b then outcome 0 layers (if c then Fault Epipe else Need) else outcome n layers (Given (Bytes (take n u)))).said ≡ Need → IsStill (if b then outcome 0 layers (if c then Fault Epipe else Need) else outcome n layers (Given (Bytes (take n u)))) layers

@@ -1,7 +1,5 @@
 -- What a detach drops, through ends by terminal messages over the layer on the link.
-use Rattle.std.proofs.Common.{◌≡◌, ◌<◌, ◌≤◌, ◌+◌, ◌-◌, ◌==◌, ◌∷◌, ◌||◌, ◌&&◌, [], List, ℕ, suc, zero, length, take, drop, arith, sym, ap, subst, ◌∙◌, refl, Bool, true, false, not, bytes_eq, Option, Some, None, if◌then◌else◌}
-use Rattle.std.proofs.lemmas.List.{drop-drop}
-use Rattle.rand_core.specs.Stream.{Stream}
+use Rattle.std.proofs.Common.{◌≡◌, ◌≤◌, ◌-◌, ◌==◌, ◌∷◌, ◌||◌, ◌&&◌, [], List, ℕ, suc, zero, length, take, drop, arith, sym, ap, ◌∙◌, refl, Bool, true, false, not, bytes_eq, Option, Some, None, if◌then◌else◌}
 use Rattle.dill_base.specs.declared.errno.Errno.{Errno}
 use Rattle.dill_base.specs.declared.errno.Errno.TheVariants.{Epipe, Eproto}
 use Rattle.dill_base.specs.declared.errno.Front.{Front}
@@ -13,19 +11,15 @@ use Rattle.dill_stack.specs.declared.want.ReadOut.{ReadOut}
 use Rattle.dill_stack.specs.declared.want.ReadOut.TheVariants.{Given, Need, Fault}
 use Rattle.dill_stack.specs.declared.dropping.DropStep.TheVariants as step
 use Rattle.dill_stack.specs.Layers.{is_behind, is_first, AmongFields, TermLayer, HttpLayer, Placed, Prefix, Suffix, Term, Http, Ws, HasMessages}
-use Rattle.dill_stack.specs.Held.{Held, Idle}
+use Rattle.dill_stack.specs.Held.{Held}
 use Rattle.dill_stack.specs.Rooms.{Stocked}
-use Rattle.dill_stack.specs.Read.{Outcome, outcome, read_message, no_more, is_terminal, read_ws, received, by_front, over_term}
-use Rattle.dill_stack.specs.Dropping.{Dropped, Item, End, Stops, drop_one, drop_message, drop_frames, drop_line, dropped_within, dropped, drop_limit, further, is_given, has_met, left_with}
-use Rattle.dill_stack.specs.Parting.{detach_finish}
-use Rattle.dill_stack.specs.Receiving.{ws_of, Looked}
-use Rattle.dill_stack.specs.Sending.{is_sent}
+use Rattle.dill_stack.specs.Read.{Outcome, outcome, read_message, no_more, is_terminal, read_ws, received}
+use Rattle.dill_stack.specs.Dropping.{Dropped, Item, End, Stops, drop_one, drop_message, drop_frames, drop_line, dropped_within, dropped, drop_limit, is_given, has_met, left_with}
+use Rattle.dill_stack.specs.Receiving.{ws_of}
 use Rattle.dill_stack.specs.Standing.{tower, base_layers, joined_room, HasBase, HasEnds, IsTower, ends_of}
 use Rattle.dill_stack.specs.Taking.{IsFraming, any_met, lowest, found, meet, base_front, behind}
-use Rattle.dill_stack.specs.Leaving.{step_of, outcome_of, next_dropped, all_dropped, is_top_met, below_top, sifted, step_at, terms_at, left_behind}
+use Rattle.dill_stack.specs.Leaving.{step_of, outcome_of, all_dropped, is_top_met, below_top, sifted, step_at, terms_at}
 use Rattle.dill_http.specs.Lines.{front_of_line}
-use Rattle.dill_frames.specs.Prefix.{prefix_front}
-use Rattle.dill_frames.specs.Suffix.{suffix_front}
 use Rattle.dill_stack.proofs.TowerReads.{ws_tower, framed_base, stack_meet, sieved, read_met, reads_whole, reads_need, reads_fault, layers_tower, over_given}
 
 -- what comes of a message that a detach drops
@@ -188,50 +182,6 @@ drops_framing ts b u e h p n m = rw h (alone b (sym (ws_tower ts (base_layers b)
     alone (base.Http http) p n m = absurd (m http refl)
     alone (base.Ws framed) p n m = cc
 
--- No frames come from dropping.
-if_plain : (b : Bool) (x y : Outcome) → ws_of x.layers ≡ None → ws_of y.layers ≡ None → ws_of (if b then x else y).layers ≡ None
-if_plain true x y p q = p
-if_plain false x y p q = q
-
-front_plain : (layers : List Placed) (u : List ℕ) (e : Bool) (f : Front) → ws_of layers ≡ None → ws_of (by_front layers u e f).layers ≡ None
-front_plain layers u e (front.Whole x y z) h = h
-front_plain layers u e front.Need h = h
-front_plain layers u e (front.Fault x) h = h
-
-read_plain : (layers : List Placed) (u : List ℕ) (e : Bool) (l : ℕ) → ws_of layers ≡ None → ws_of (read_message layers u e l).layers ≡ None
-read_plain [] u e l h = refl
-read_plain (Prefix form ∷ below) u e l h = front_plain (Prefix form ∷ below) u e (prefix_front form u l) h
-read_plain (Suffix end ∷ below) u e l h = front_plain (Suffix end ∷ below) u e (suffix_front end u l) h
-read_plain (Term t ∷ below) u e l h =
-    let o = read_message below u e l in
-    let p = read_plain below u e l h in
-    if_plain t.met (outcome 0 (Term t ∷ below) (Fault Epipe)) (over_term t o) h (if_plain (is_terminal t o.said) (record o { layers = Term (record t { met = true }) ∷ o.layers; said = Fault Epipe }) (record o { layers = Term t ∷ o.layers }) p p)
-read_plain (Http http ∷ below) u e l h = h
-read_plain (Ws ws ∷ below) u e l h = cc
-
-drop_plain_if : (b : Bool) (x y : Dropped) → ws_of (outcome_of x).layers ≡ None → ws_of (outcome_of y).layers ≡ None → ws_of (outcome_of (if b then x else y)).layers ≡ None
-drop_plain_if true x y p q = p
-drop_plain_if false x y p q = q
-
-line_plain : (http : HttpLayer) (below : List Placed) (u : List ℕ) (e : Bool) (f : Front) → ws_of below ≡ None → ws_of (outcome_of (drop_line http below u e f)).layers ≡ None
-line_plain http below u e (front.Whole x y z) h = drop_plain_if (not (y - x == 0)) (Item (outcome z (received AmongFields http ∷ below) Need)) (if is_first http.receiving then Stops (outcome 0 (Http http ∷ below) (Fault Eproto)) else End (outcome z below (Given (Number 0)))) h (drop_plain_if (is_first http.receiving) (Stops (outcome 0 (Http http ∷ below) (Fault Eproto))) (End (outcome z below (Given (Number 0)))) h h)
-line_plain http below u e front.Need h = h
-line_plain http below u e (front.Fault x) h = h
-
-pub drops_plain : (layers : List Placed) (u : List ℕ) (e : Bool) → ws_of layers ≡ None → ws_of (outcome_of (drop_one layers u e)).layers ≡ None
-drops_plain [] u e h = refl
-drops_plain (Prefix form ∷ below) u e h = h
-drops_plain (Suffix end ∷ below) u e h = h
-drops_plain (Term t ∷ below) u e h =
-    let o = read_message below u e drop_limit in
-    let p = read_plain below u e drop_limit h in
-    drop_plain_if t.met (End (outcome 0 below (Given (Number 0)))) (drop_message t o) h (drop_plain_if (is_terminal t o.said) (End (left_with o.layers o)) (if is_given o.said then Item (record o { layers = Term t ∷ o.layers }) else Stops (record o { layers = Term t ∷ o.layers })) p (drop_plain_if (is_given o.said) (Item (record o { layers = Term t ∷ o.layers })) (Stops (record o { layers = Term t ∷ o.layers })) p p))
-drops_plain (Http http ∷ below) u e h = drop_plain_if (is_behind http.receiving) (End (outcome 0 below (Given (Number 0)))) (drop_line http below u e (front_of_line u)) h (line_plain http below u e (front_of_line u) h)
-drops_plain (Ws ws ∷ below) u e h = cc
-
-pub step_plain : (b c : Stocked) → ws_of b.held.layers ≡ None → c ≡ record b { held = behind (outcome_of (next_dropped b.held)) b.held } → ws_of c.held.layers ≡ None
-step_plain b c h e = ap {A = Stocked} (λ x. ws_of x.held.layers) e ∙ drops_plain b.held.layers b.held.unread b.held.receiving.done h
-
 -- nothing whole is there, or it is refused
 pub held_stop : (s : Stocked) (d : Dropped) (r : ReadOut) → d ≡ Stops (outcome 0 s.held.layers r) → s ≡ record s { held = behind (outcome_of d) s.held }
 held_stop s d r h = sym (ap (λ x. record s { held = behind (outcome_of x) s.held }) h)
@@ -251,18 +201,6 @@ pub is_stop : (d : Dropped) (r : ReadOut) → step.Stops r ≡ step_of d → (d 
 is_stop (Item o) r h = cc
 is_stop (End o) r h = cc
 is_stop (Stops o) r h = let e : r ≡ o.said = cc in (refl, e)
-
-pub no_item_end : (d : Dropped) → step.End ≡ step_of d → step.Item ≡ step_of d → ⊥
-no_item_end d e h = no_two (h ∙ sym e)
-  where
-    no_two : step.Item ≡ step.End → ⊥
-    no_two h = cc
-
-pub no_item_stop : (d : Dropped) (r : ReadOut) → step.Stops r ≡ step_of d → step.Item ≡ step_of d → ⊥
-no_item_stop d r e h = no_two (h ∙ sym e)
-  where
-    no_two : step.Item ≡ step.Stops r → ⊥
-    no_two h = cc
 
 -- an end answers the detach
 abbrev pub IsAnswered : Dropped → Type 0
@@ -293,94 +231,10 @@ answered (Term t ∷ below) u e = either t.met (End (outcome 0 below (Given (Num
 answered (Http http ∷ below) u e = either (is_behind http.receiving) (End (outcome 0 below (Given (Number 0)))) (drop_line http below u e (front_of_line u)) refl (line_answered http below u e (front_of_line u))
 answered (Ws ws ∷ below) u e = either ws.met (End (outcome 0 below (Given (Number 0)))) (drop_frames below (read_ws below ws u e drop_limit)) refl (frames_answered below (read_ws below ws u e drop_limit))
 
-pub end_answers : (s : Held) (d : Dropped) → next_dropped s ≡ d → step.End ≡ step_of d → (outcome_of d).said ≡ Given (Number 0)
-end_answers s d h e = subst (λ (x : Dropped). IsAnswered x) (h ∙ is_end d e) (answered s.layers s.unread s.receiving.done)
-
 -- what is dropped of a stack, with so many looks
 abbrev pub dropped_by : ℕ → Held → Outcome
 dropped_by n s = dropped_within n s.receiving.done s.layers s.unread
 
--- A detach that has come so far leads to the same end.
-pub record Drops (fuel : ℕ) (from : Stocked) (left : ℕ) (to : Stocked) : Type 0 where
-  pub same : to ≡ record from { held = record from.held { layers = to.held.layers; unread = to.held.unread } }
-  pub after : behind (dropped_by fuel from.held) from.held ≡ behind (dropped_by left to.held) to.held
-  pub said : (dropped_by fuel from.held).said ≡ (dropped_by left to.held).said
-
-pub drops_first : (n : ℕ) (s : Stocked) → Drops n s n s
-drops_first n s = record { same = refl; after = refl; said = refl }
-
-further_on : (o p : Outcome) (s : Held) → behind (further o p) s ≡ behind p (behind o s)
-further_on o p s = ap (λ u. record s { layers = p.layers; unread = u }) (sym (drop-drop p.used o.used s.unread))
-
-pub drops_on : (fuel n : ℕ) (a b c : Stocked) (d : Dropped) → Drops fuel a (suc n) b → next_dropped b.held ≡ d → d ≡ Item (outcome_of d) → c ≡ record b { held = behind (outcome_of d) b.held } → Drops fuel a n c
-drops_on fuel n a b c d i e k h =
-    let j : dropped_by (suc n) b.held ≡ further (outcome_of d) (dropped_by n (behind (outcome_of d) b.held)) = rw (e ∙ k) refl in
-    rw h record {
-      same = ap {A = Stocked} (λ x. record x { held = behind (outcome_of d) x.held }) i.same;
-      after = i.after ∙ ap (λ o. behind o b.held) j ∙ further_on (outcome_of d) (dropped_by n (behind (outcome_of d) b.held)) b.held;
-      said = i.said ∙ ap (λ o. o.said) j;
-    }
-
--- the detach is answered, or stops, here
-pub drops_here : (fuel n : ℕ) (a b : Stocked) (d : Dropped) → Drops fuel a (suc n) b → next_dropped b.held ≡ d → (step.Item ≡ step_of d → ⊥) → (behind (dropped_by fuel a.held) a.held ≡ behind (outcome_of d) b.held) × ((dropped_by fuel a.held).said ≡ (outcome_of d).said)
-drops_here fuel n a b (Item o) i e k = absurd (k refl)
-drops_here fuel n a b (End o) i e k =
-    let j : dropped_by (suc n) b.held ≡ o = rw e refl in
-    (i.after ∙ ap (λ o. behind o b.held) j, i.said ∙ ap (λ o. o.said) j)
-drops_here fuel n a b (Stops o) i e k =
-    let j : dropped_by (suc n) b.held ≡ o = rw e refl in
-    (i.after ∙ ap (λ o. behind o b.held) j, i.said ∙ ap (λ o. o.said) j)
-
 pub all_by : (s : Held) → all_dropped s ≡ dropped_by (suc (length s.unread)) s
 unfolding dropped
 all_by s = refl
-
-pub drops_start : (n : ℕ) (s : Stocked) → Drops n s (n - 0) s
-drops_start n s =
-    let e : n ≡ n - 0 = omega arith in
-    subst (λ (k : ℕ). Drops n s k s) e (drops_first n s)
-
-next_left : (n k : ℕ) (a b : Stocked) → k < suc n → Drops (suc n) a (suc n - k) b → Drops (suc n) a (suc (n - k)) b
-next_left n k a b l i =
-    let e : suc n - k ≡ suc (n - k) = omega (arith, l) in
-    subst (λ (j : ℕ). Drops (suc n) a j b) e i
-
-pub drops_step : (n k : ℕ) (a b c : Stocked) (d : Dropped) → k < suc n → Drops (suc n) a (suc n - k) b → next_dropped b.held ≡ d → step.Item ≡ step_of d → c ≡ record b { held = behind (outcome_of d) b.held } → Drops (suc n) a (suc n - (k + 1)) c
-drops_step n k a b c d l i e k' h =
-    let j : n - k ≡ suc n - (k + 1) = omega (arith, l) in
-    subst (λ (x : ℕ). Drops (suc n) a x c) j (drops_on (suc n) (n - k) a b c d (next_left n k a b l i) e (is_item d k') h)
-
-all_at : (n : ℕ) (s : Held) → n ≡ length s.unread → dropped_by (suc n) s ≡ all_dropped s
-all_at n s e = ap (λ k. dropped_by (suc k) s) e ∙ sym (all_by s)
-
--- where the detach is answered, or stops
-pub drops_end : (n k : ℕ) (a b c : Stocked) (d : Dropped) → n ≡ length a.held.unread → k < suc n → Drops (suc n) a (suc n - k) b → next_dropped b.held ≡ d → (step.Item ≡ step_of d → ⊥) → c ≡ record b { held = behind (outcome_of d) b.held } → (c ≡ record a { held = behind (all_dropped a.held) a.held }) × ((outcome_of d).said ≡ (all_dropped a.held).said)
-drops_end n k a b c d m l i e f h =
-    let j = drops_here (suc n) (n - k) a b d (next_left n k a b l i) e f in
-    let w : dropped_by (suc n) a.held ≡ all_dropped a.held = all_at n a.held m in (
-      h ∙ ap {A = Stocked} (λ x. record x { held = behind (outcome_of d) b.held }) i.same ∙ ap (λ x. record a { held = x }) (sym j.0) ∙ ap (λ o. record a { held = behind o a.held }) w,
-      sym j.1 ∙ ap (λ o. o.said) w,
-    )
-
--- where all looks are made
-pub drops_out : (n k : ℕ) (a b : Stocked) → n ≡ length a.held.unread → suc n ≤ k → Drops (suc n) a (suc n - k) b → (b ≡ record a { held = behind (all_dropped a.held) a.held }) × (Need ≡ (all_dropped a.held).said)
-drops_out n k a b m l i =
-    let z : suc n - k ≡ 0 = omega (arith, l) in
-    let j : Drops (suc n) a 0 b = subst (λ (x : ℕ). Drops (suc n) a x b) z i in
-    let w : dropped_by (suc n) a.held ≡ all_dropped a.held = all_at n a.held m in (
-      j.same ∙ ap {A = Held} (λ x. record a { held = x }) (sym (ap {A = Stocked} (λ s. s.held) j.same)) ∙ ap {A = Held} (λ x. record a { held = x }) (sym j.after) ∙ ap (λ o. record a { held = behind o a.held }) w,
-      sym j.said ∙ ap (λ o. o.said) w,
-    )
-
--- a stack after a look, of its parts
-abbrev pub looked : Held → ReadOut → Stream → Looked
-looked s said random = record { stack = s; said = said; random = random }
-
-rested : (b : Bool) (x y : Held) (r : ReadOut) (random : Stream) → (if b then record { stack = y; said = r; random = random } else record { stack = x; said = r; random = random }) ≡ looked (if b then y else x) r random
-rested true x y r random = refl
-rested false x y r random = refl
-
--- A detach over layers without frames, once all that it sends has gone.
-pub finish_plain : (random : Stream) (s : Held) → is_sent s ≡ true → ws_of s.layers ≡ None → detach_finish random s ≡ looked (left_behind (all_dropped s) s) (all_dropped s).said random
-unfolding detach_finish
-finish_plain random s h k = rw (h, k) (rested (is_given (all_dropped s).said) (behind (all_dropped s) s) (record (behind (all_dropped s) s) { task = Idle }) (all_dropped s).said random)

@@ -1,9 +1,9 @@
 -- The frame at the front that is passed, by its opcode.
-use Rattle.std.proofs.Common.{◌≡◌, ◌≢◌, ◌≤◌, ◌+◌, ◌%◌, [], ◌∷◌, List, ℕ, length, take, drop, slice_index, arith, sym, ap, ◌∙◌, refl, subst, Bool, true, false, not, ◌&&◌, Option, Some, None, if◌then◌else◌, le-leb}
+use Rattle.std.proofs.Common.{◌≡◌, ◌≤◌, ◌+◌, [], ◌∷◌, List, ℕ, length, take, drop, slice_index, arith, sym, ap, ◌∙◌, refl, Bool, true, false, not, ◌&&◌, Some, None, if◌then◌else◌, le-leb}
 use Rattle.std.specs.Prelude.{◌==◌, is_some}
 use Rattle.std.proofs.lemmas.Bool.{ne_eqb}
 use Rattle.dill_ws.specs.declared.head.Head.{Head}
-use Rattle.dill_ws.specs.Frames.{Part, masked}
+use Rattle.dill_ws.specs.Frames.{Part}
 use Rattle.dill_ws.specs.FrameLaws.{payload_at}
 use Rattle.dill_ws.specs.Fronts.{bits_of}
 use Rattle.dill_stack.specs.Layers.{WsLayer}

@@ -1,6 +1,6 @@
 -- The frame at the front that isn't passed: a close frame, or the last of a message.
-use Rattle.std.proofs.Common.{◌≡◌, ◌≢◌, ◌≤◌, ◌+◌, ◌%◌, [], ◌∷◌, ◌++◌, List, ℕ, length, take, drop, slice_index, arith, sym, ap, ◌∙◌, refl, subst, Bool, true, false, not, ◌&&◌, Option, Some, None, if◌then◌else◌, le-leb, leb, length-append}
-use Rattle.std.specs.Prelude.{◌==◌, is_some, is_none, nat_le}
+use Rattle.std.proofs.Common.{◌≡◌, ◌≢◌, ◌≤◌, ◌+◌, ◌++◌, List, ℕ, length, slice_index, arith, sym, ap, ◌∙◌, refl, subst, Bool, true, false, not, ◌&&◌, Option, Some, None, if◌then◌else◌, leb, length-append}
+use Rattle.std.specs.Prelude.{◌==◌, is_some, is_none}
 use Rattle.std.specs.Option.{unwrap_or}
 use Rattle.std.specs.Str.{is_utf8}
 use Rattle.std.proofs.lemmas.Bool.{ne_eqb, eqb-true, leb-true}
@@ -12,11 +12,11 @@ use Rattle.dill_ws.specs.Closing.{close_of}
 use Rattle.dill_ws.specs.Frames.{Part, masked, may_follow}
 use Rattle.dill_ws.specs.FrameLaws.{payload_at}
 use Rattle.dill_ws.specs.Fronts.{bits_of}
-use Rattle.dill_stack.specs.declared.want.ReadOut.TheVariants.{Given, Need, Fault}
+use Rattle.dill_stack.specs.declared.want.ReadOut.TheVariants.{Given, Fault}
 use Rattle.dill_stack.specs.Layers.{WsLayer}
 use Rattle.dill_stack.specs.Read.{no_more}
 use Rattle.dill_stack.specs.Seeing.{emptied}
-use Rattle.dill_stack.specs.WsReading.{Passed, Shown, shown, shown_by, at_end, close_met, message_of, pass_of, part_of, ws_front, WsFront, Whole, Short, Refused, is_data}
+use Rattle.dill_stack.specs.WsReading.{Passed, Shown, shown, shown_by, close_met, message_of, pass_of, part_of, ws_front, Whole, Short, Refused}
 use Rattle.dill_stack.proofs.Limits.{FrameAt, frame_at, length_masked}
 use Rattle.dill_stack.proofs.Passings.{started}
 use Rattle.dill_stack.proofs.FramePasses.{passes_ping, passes_pong}

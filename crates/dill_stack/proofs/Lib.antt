@@ -38,3 +38,4 @@ pub mod ReadShort
 pub mod Sifts
 pub mod Sinkings
 pub mod Finishing
+pub mod Cuttings

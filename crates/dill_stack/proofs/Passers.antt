@@ -7,7 +7,6 @@ use Rattle.dill_base.specs.declared.errno.Errno.{Errno}
 use Rattle.dill_base.specs.declared.errno.Errno.TheVariants.{Einval}
 use Rattle.dill_ws.specs.declared.side.Side.{Side}
 use Rattle.dill_ws.specs.Frames.{frame_bytes}
-use Rattle.dill_stack.specs.declared.direction.Direction.{Direction}
 use Rattle.dill_stack.specs.declared.frames.Pass.{Pass}
 use Rattle.dill_stack.specs.declared.frames.Pass.TheVariants as passes
 use Rattle.dill_stack.specs.declared.placed.Base.{Base}
@@ -202,7 +201,7 @@ messages_with x (Term t ∷ below) h = tt
 messages_with x (Http http ∷ below) h = h
 messages_with x (Ws ws ∷ below) h = tt
 
-standing_with : (x : WsLayer) (layers : List Placed) → IsStanding layers → IsStanding (with_ws x layers)
+pub standing_with : (x : WsLayer) (layers : List Placed) → IsStanding layers → IsStanding (with_ws x layers)
 standing_with x [] k = tt
 standing_with x (Prefix form ∷ below) k = bare below k
   where

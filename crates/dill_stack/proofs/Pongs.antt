@@ -1,5 +1,5 @@
 -- The pongs of a queue, ahead of a call's item and behind it.
-use Rattle.std.proofs.Common.{◌≡◌, ◌≤◌, ◌<◌, ◌≢◌, ◌+◌, ◌-◌, ◌==◌, ◌∷◌, ◌++◌, [], sym, ap, refl, subst, ◌∙◌, arith, ℕ, List, Bool, true, false, Option, Some, None, length, take, drop, min, if◌then◌else◌}
+use Rattle.std.proofs.Common.{◌≡◌, ◌≤◌, ◌<◌, ◌≢◌, ◌+◌, ◌-◌, ◌==◌, ◌∷◌, ap, refl, subst, ◌∙◌, arith, ℕ, List, Bool, true, false, Option, Some, None, length, take, drop, min, if◌then◌else◌}
 use Rattle.std.proofs.lemmas.Bool.{eqb-false, ne_eqb}
 use Rattle.std.proofs.lemmas.List.{length-take, length-drop}
 use Rattle.dill_stack.specs.declared.queue.Pending.{Pending}
@@ -8,7 +8,7 @@ use Rattle.dill_stack.specs.declared.queue.Waiting.{Waiting}
 use Rattle.dill_stack.specs.declared.queue.Waiting.TheVariants as waiting
 use Rattle.dill_stack.specs.Held.{Item}
 use Rattle.dill_stack.specs.Sending.{offered_of, gone_on, offer_limit}
-use Rattle.dill_stack.specs.Standing.{pending_items, queue_items, IsPending, IsBegun, IsWaiting, begun_by, ahead_of, behind_of, without_ahead, without_behind}
+use Rattle.dill_stack.specs.Standing.{queue_items, IsPending, IsBegun, IsWaiting, begun_by, ahead_of, behind_of, without_ahead, without_behind}
 
 pub none_if : {A : Type 0} (o : Option A) → ((x : A) → o ≡ Some x → ⊥) → o ≡ None
 none_if None f = refl

@@ -1,10 +1,8 @@
 -- Where a receive awaits more bytes, fewer are unread than it may need, through every layer.
-use Rattle.std.proofs.Common.{◌≡◌, ◌<◌, ◌+◌, ◌-◌, ◌∷◌, ◌∙◌, [], sym, ap, refl, subst, arith, ℕ, List, Bool, true, false, length, drop, nat_lt, max, if◌then◌else◌}
+use Rattle.std.proofs.Common.{◌≡◌, ◌<◌, ◌+◌, ◌∷◌, [], sym, refl, subst, arith, ℕ, List, Bool, true, false, length, drop, max, if◌then◌else◌}
 use Rattle.rand_core.specs.Stream.{Stream}
 use Rattle.std.proofs.lemmas.List.{length-drop}
 use Rattle.dill_base.specs.declared.errno.Errno.TheVariants.{Epipe}
-use Rattle.dill_base.specs.declared.errno.Front.{Front}
-use Rattle.dill_base.specs.declared.errno.Front.TheVariants as front
 use Rattle.dill_frames.specs.Laws.{PrefixLaws, SuffixLaws}
 use Rattle.dill_frames.specs.Prefix.{prefix_front}
 use Rattle.dill_frames.specs.Suffix.{suffix_front}
@@ -17,12 +15,12 @@ use Rattle.dill_stack.specs.Held.{Held}
 use Rattle.dill_stack.specs.Needs.{message_need, need}
 use Rattle.dill_stack.specs.Read.{Outcome, outcome, read_message, read_list, read_ws, behind_passed, by_front, over_term, is_terminal}
 use Rattle.dill_stack.specs.Receiving.{Looked, ws_of, looked_over, read_of, read}
-use Rattle.dill_stack.specs.Taking.{FitsTop, HasHead}
+use Rattle.dill_stack.specs.Taking.{FitsTop}
 use Rattle.dill_stack.specs.WsReading.{Passed, passed, Shown, shown}
 use Rattle.dill_stack.proofs.Again.{pongs_queue, need_unbroken}
 use Rattle.dill_stack.proofs.DropShort.{shown_short}
 use Rattle.dill_stack.proofs.FrameShort.{ws_short}
-use Rattle.dill_stack.proofs.Shortness.{by_front_short, exact_if, line_short, no_fault, not_if}
+use Rattle.dill_stack.proofs.Shortness.{by_front_short, exact_if, line_short, no_fault}
 
 dropped_short : (u : List ℕ) (n most : ℕ) → length u < most → length (drop n u) < most
 dropped_short u n most l = omega (arith, l, length-drop n u)

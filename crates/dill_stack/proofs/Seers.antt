@@ -1,8 +1,6 @@
 -- What stands at the front of a stack over a WebSocket layer, past each end.
-use Rattle.std.proofs.Common.{◌≡◌, ◌≤◌, ◌+◌, ◌∷◌, ◌∙◌, ◌&&◌, ◌||◌, [], sym, ap, refl, subst, arith, ℕ, List, Bool, true, false, not, length, drop, Option, Some, None, if◌then◌else◌}
+use Rattle.std.proofs.Common.{◌≡◌, ◌+◌, ◌∷◌, ◌∙◌, ◌&&◌, ◌||◌, [], sym, ap, refl, subst, arith, ℕ, List, Bool, true, false, length, drop, Option, Some, None, if◌then◌else◌}
 use Rattle.std.specs.Prelude.{◌==◌, is_some}
-use Rattle.std.specs.List.{list_any}
-use Rattle.std.proofs.lemmas.List.{drop-drop}
 use Rattle.dill_base.specs.declared.errno.Errno.{Errno}
 use Rattle.dill_base.specs.declared.errno.Errno.TheVariants.{Epipe, Eproto}
 use Rattle.dill_calls.specs.declared.answer.Answer.TheVariants.{Bytes}
@@ -20,11 +18,11 @@ use Rattle.dill_stack.specs.Rooms.{Roomy, Stocked}
 use Rattle.dill_stack.specs.Read.{Outcome, outcome, no_more, behind_passed, read_list, read_ws, is_terminal, over_term, read_message}
 use Rattle.dill_stack.specs.Receiving.{ws_of, broken_by, read_of}
 use Rattle.dill_stack.specs.Refusals.{is_met}
-use Rattle.dill_stack.specs.Seeing.{emptied, Sees, SeesMessage, SeesClose, PassesNone, LinkSees, StackMessage, StackClose, StackOpen, StackSees, joined_in, joined_by, emptied_by, emptied_layers, joined_given}
+use Rattle.dill_stack.specs.Seeing.{emptied, Sees, PassesNone, LinkSees, StackMessage, StackClose, StackOpen, StackSees, joined_in, joined_by, emptied_by, emptied_layers, joined_given}
 use Rattle.dill_stack.specs.Standing.{tower, base_layers, is_frames_top, joined_room, ws_layer, emptied_base, joined_bytes, IsTower}
 use Rattle.dill_stack.specs.Stepping.{pass_of_ws, next_pass, with_ws}
-use Rattle.dill_stack.specs.Taking.{over_layers, after, behind, lowest, meet, room_after, second_after}
-use Rattle.dill_stack.specs.WsReading.{Passed, passed, nothing_passed, pass_by_front, ws_front, Shown, shown}
+use Rattle.dill_stack.specs.Taking.{over_layers, after, lowest, meet, room_after, second_after}
+use Rattle.dill_stack.specs.WsReading.{Passed, nothing_passed, pass_by_front, ws_front, Shown, shown}
 use Rattle.dill_stack.proofs.Again.{passed_nothing}
 use Rattle.dill_stack.proofs.Passers.{ends_same, over_link, with_tower}
 use Rattle.dill_stack.proofs.StepReads.{ws_with}

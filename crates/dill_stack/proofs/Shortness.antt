@@ -1,31 +1,22 @@
 -- Where a receive awaits more bytes, fewer are unread than it may need.
-use Rattle.std.proofs.Common.{◌≡◌, ◌<◌, ◌+◌, ◌-◌, ◌∷◌, ◌∙◌, [], sym, ap, refl, arith, ℕ, List, Bool, true, false, length, take, drop, nat_lt, Option, Some, None, if◌then◌else◌}
+use Rattle.std.proofs.Common.{◌≡◌, ◌<◌, ◌-◌, ◌∷◌, ◌∙◌, [], sym, refl, ℕ, List, Bool, true, false, length, take, drop, nat_lt, Option, Some, None, if◌then◌else◌}
 use Rattle.std.proofs.lemmas.Bool.{ltb-true}
-use Rattle.std.proofs.lemmas.List.{length-drop}
 use Rattle.dill_base.specs.declared.errno.Errno.{Errno}
 use Rattle.dill_base.specs.declared.errno.Errno.TheVariants.{Epipe, Eproto}
 use Rattle.dill_base.specs.declared.errno.Front.{Front}
 use Rattle.dill_base.specs.declared.errno.Front.TheVariants as front
 use Rattle.dill_calls.specs.declared.answer.Answer.{Answer}
 use Rattle.dill_calls.specs.declared.answer.Answer.TheVariants.{Bytes}
-use Rattle.dill_frames.specs.Laws.{PrefixLaws, SuffixLaws}
-use Rattle.dill_frames.specs.Prefix.{prefix_front}
-use Rattle.dill_frames.specs.Suffix.{suffix_front}
 use Rattle.dill_http.specs.Laws.{LineLaws}
 use Rattle.dill_http.specs.Lines.{front_of_line}
 use Rattle.dill_stack.specs.declared.placed.Base.{Base}
 use Rattle.dill_stack.specs.declared.placed.Base.TheVariants as base
 use Rattle.dill_stack.specs.declared.want.Want.{Want}
-use Rattle.dill_stack.specs.declared.want.Want.TheVariants as want
-use Rattle.dill_stack.specs.declared.want.ReadOut.{ReadOut}
 use Rattle.dill_stack.specs.declared.want.ReadOut.TheVariants.{Given, Need, Fault}
 use Rattle.dill_stack.specs.Layers.{TermLayer, HttpLayer, Placed, Prefix, Suffix, Term, Http, Ws, BehindEmpty, HasMessages, IsStanding, is_behind}
-use Rattle.dill_stack.specs.Held.{Held}
-use Rattle.dill_stack.specs.Needs.{message_need, need}
-use Rattle.dill_stack.specs.Read.{Outcome, outcome, read_message, read_line, read_list, by_front, by_line, given_line, line_answer, ends_fields, received, is_terminal, over_term}
-use Rattle.dill_stack.specs.Receiving.{ws_of, read_of, broken_by, breaks}
+use Rattle.dill_stack.specs.Read.{Outcome, outcome, read_line, by_front, by_line, given_line, line_answer, ends_fields, received}
 use Rattle.dill_stack.specs.Standing.{tower, base_layers, ws_layer, HasBase}
-use Rattle.dill_stack.specs.Taking.{FitsTop, HasHead, behind}
+use Rattle.dill_stack.specs.Taking.{HasHead}
 
 pub exact_if : (layers : List Placed) (u : List ℕ) (ended b : Bool) (n : ℕ) → nat_lt (length u) n ≡ b → (if b then outcome 0 layers (if ended then Fault Epipe else Need) else outcome n layers (Given (Bytes (take n u)))).said ≡ Need → length u < n
 exact_if layers u ended true n e h = ltb-true (length u) n e

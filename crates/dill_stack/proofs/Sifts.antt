@@ -1,5 +1,5 @@
 -- What a detach drops over a WebSocket layer that passes nothing.
-use Rattle.std.proofs.Common.{◌≡◌, ◌<◌, ◌≤◌, ◌+◌, ◌∷◌, ◌∙◌, ◌&&◌, ◌||◌, [], sym, ap, refl, subst, arith, ℕ, zero, suc, List, Bool, true, false, not, bytes_eq, length, drop, Option, Some, None, if◌then◌else◌}
+use Rattle.std.proofs.Common.{◌≡◌, ◌≤◌, ◌∷◌, ◌∙◌, ◌&&◌, ◌||◌, [], sym, ap, refl, subst, arith, ℕ, zero, suc, List, Bool, true, false, length, drop, Option, Some, None, if◌then◌else◌}
 use Rattle.std.specs.Prelude.{◌==◌, is_some, IfSome}
 use Rattle.dill_stack.specs.declared.want.Want.TheVariants.{Message}
 use Rattle.std.specs.List.{list_any}
@@ -14,19 +14,19 @@ use Rattle.dill_stack.specs.declared.want.ReadOut.TheVariants.{Given, Need, Faul
 use Rattle.dill_stack.specs.Layers.{TermLayer, WsLayer, Placed, Prefix, Suffix, Term, Http, Ws, IsStanding, top_of}
 use Rattle.dill_stack.specs.Held.{Held}
 use Rattle.dill_stack.specs.Rooms.{Stocked}
-use Rattle.dill_stack.specs.Read.{Outcome, outcome, no_more, is_terminal, over_term, read_message, read_ws}
+use Rattle.dill_stack.specs.Read.{Outcome, outcome, no_more, is_terminal, read_ws}
 use Rattle.dill_stack.specs.Receiving.{ws_of}
 use Rattle.dill_stack.specs.Refusals.{is_met, is_met_layer}
-use Rattle.dill_stack.specs.Dropping.{Dropped, Item, End, Stops, drop_limit, is_given, left_with, drop_message, has_met, drop_frames, drop_one}
+use Rattle.dill_stack.specs.Dropping.{Dropped, Item, End, Stops, drop_limit, is_given, left_with, drop_message, drop_frames, drop_one}
 use Rattle.dill_stack.specs.Leaving.{below_layers, below_top, is_top_met, top_met, drop_over, joined_dropped, close_dropped, next_dropped, outcome_of, step_of, terms_at, used_in}
 use Rattle.dill_stack.specs.Seeing.{emptied, emptied_by, emptied_layers, joined_by, joined_in, StackMessage, StackClose, StackOpen}
-use Rattle.dill_stack.specs.Standing.{tower, base_layers, emptied_base, joined_bytes, joined_room, HasJoinedRoom, IsTower}
+use Rattle.dill_stack.specs.Standing.{tower, base_layers, emptied_base, joined_bytes, HasJoinedRoom}
 use Rattle.dill_stack.specs.Stepping.{with_ws}
-use Rattle.dill_stack.specs.Taking.{behind, joined_left, joined_of, over_layers, lowest, meet, found}
-use Rattle.dill_stack.proofs.Drops.{sifted_as, sifts, stack_below}
-use Rattle.dill_stack.proofs.Seers.{emptied_tower, joined_in_tower, joined_there, over_ws, over_used, over_fault, over_more, unmet_ws, with_same, with_twice, met_message}
+use Rattle.dill_stack.specs.Taking.{behind, joined_left, joined_of, over_layers, lowest}
+use Rattle.dill_stack.proofs.Drops.{sifted_as, sifts}
+use Rattle.dill_stack.proofs.Seers.{emptied_tower, joined_in_tower, joined_there, over_ws, over_used, over_fault, over_more, with_same, with_twice, met_message}
 use Rattle.dill_stack.proofs.StepReads.{ws_with}
-use Rattle.dill_stack.proofs.TowerReads.{ws_tower, layers_tower, over_given, sieved}
+use Rattle.dill_stack.proofs.TowerReads.{ws_tower}
 
 or_none : (a b : Bool) → (a || b) ≡ false → (a ≡ false) × (b ≡ false)
 or_none true b e = cc

@@ -1,15 +1,14 @@
 -- What a detach drops behind a pass, or behind an item, is what it drops before it.
-use Rattle.std.proofs.Common.{◌≡◌, ◌<◌, ◌≤◌, ◌+◌, ◌-◌, ◌∷◌, ◌++◌, ◌∙◌, ◌&&◌, ◌||◌, [], sym, ap, refl, subst, arith, ℕ, zero, suc, List, Bool, true, false, not, length, drop, take, append_assoc, Option, Some, None, if◌then◌else◌}
+use Rattle.std.proofs.Common.{◌≡◌, ◌<◌, ◌≤◌, ◌+◌, ◌-◌, ◌∷◌, ◌++◌, ◌∙◌, ◌&&◌, ◌||◌, [], sym, ap, refl, subst, arith, ℕ, zero, suc, List, Bool, true, false, not, length, drop, append_assoc, Option, Some, None, if◌then◌else◌}
 use Rattle.std.specs.Prelude.{◌==◌, is_some}
 use Rattle.std.specs.Option.{unwrap_or}
 use Rattle.std.specs.Str.{is_utf8}
 use Rattle.std.proofs.lemmas.List.{drop-drop, length-drop}
 use Rattle.rand_core.specs.Stream.{Stream}
-use Rattle.dill_base.specs.declared.errno.Errno.{Errno}
 use Rattle.dill_base.specs.declared.errno.Errno.TheVariants.{Epipe, Eproto}
 use Rattle.dill_base.specs.declared.errno.Front.{Front}
 use Rattle.dill_base.specs.declared.errno.Front.TheVariants as front
-use Rattle.dill_calls.specs.declared.answer.Answer.TheVariants.{Bytes, Number}
+use Rattle.dill_calls.specs.declared.answer.Answer.TheVariants.{Number}
 use Rattle.dill_frames.specs.Laws.{PrefixLaws, SuffixLaws}
 use Rattle.dill_frames.specs.Prefix.{prefix_front}
 use Rattle.dill_frames.specs.Suffix.{suffix_front}
@@ -24,8 +23,8 @@ use Rattle.dill_stack.specs.declared.want.ReadOut.TheVariants.{Given, Need, Faul
 use Rattle.dill_stack.specs.Layers.{TermLayer, WsLayer, HttpLayer, Placed, Prefix, Suffix, Term, Http, Ws, IsStanding, AmongFields, is_first, is_behind}
 use Rattle.dill_stack.specs.Held.{Held}
 use Rattle.dill_stack.specs.Rooms.{Stocked}
-use Rattle.dill_stack.specs.WsReading.{Passed, passed, nothing_passed, pass_by_front, ws_front, WsFront, Whole, Short, Refused, Shown, shown, shown_by, close_met, message_of}
-use Rattle.dill_stack.specs.Read.{Outcome, outcome, no_more, by_front, behind_passed, is_terminal, over_term, read_message, read_ws, received}
+use Rattle.dill_stack.specs.WsReading.{Passed, passed, pass_by_front, ws_front, WsFront, Whole, Short, Refused, Shown, shown, shown_by, close_met, message_of}
+use Rattle.dill_stack.specs.Read.{Outcome, outcome, by_front, behind_passed, is_terminal, over_term, read_message, read_ws, received}
 use Rattle.dill_stack.specs.Receiving.{Looked, ws_of, answers_pings, with_pongs_of, ponged, looked_over}
 use Rattle.dill_stack.specs.Refusals.{is_met}
 use Rattle.dill_stack.specs.Dropping.{Dropped, Item, End, Stops, drop_limit, is_given, left_with, drop_message, has_met, drop_frames, drop_line, drop_one, further, after_drop, dropped_within}

@@ -1,20 +1,19 @@
 -- What is read behind a pass is what was read before it.
-use Rattle.std.proofs.Common.{◌≡◌, ◌≤◌, ◌+◌, [], ◌∷◌, ◌++◌, List, ℕ, zero, suc, length, drop, arith, sym, ap, ◌∙◌, refl, subst, Bool, true, false, not, ◌&&◌, ◌||◌, Option, Some, None, if◌then◌else◌}
-use Rattle.std.specs.List.{list_any}
+use Rattle.std.proofs.Common.{◌≡◌, ◌≤◌, ◌+◌, [], ◌∷◌, ◌++◌, List, ℕ, zero, suc, length, drop, arith, sym, ap, ◌∙◌, refl, Bool, true, false, not, ◌&&◌, ◌||◌, Option, Some, None, if◌then◌else◌}
 use Rattle.std.proofs.lemmas.List.{drop-drop, length-drop}
 use Rattle.rand_core.specs.Stream.{Stream}
 use Rattle.dill_base.specs.declared.errno.Errno.TheVariants.{Epipe}
 use Rattle.dill_ws.specs.declared.side.Side.{Side}
-use Rattle.dill_stack.specs.declared.want.ReadOut.TheVariants.{Given, Need, Fault}
+use Rattle.dill_stack.specs.declared.want.ReadOut.TheVariants.{Fault}
 use Rattle.dill_stack.specs.declared.want.Want.TheVariants.{Message}
 use Rattle.dill_stack.specs.Layers.{WsLayer, TermLayer, Placed, Prefix, Suffix, Term, Http, Ws, IsStanding}
 use Rattle.dill_stack.specs.Held.{Held, Item, Direction}
-use Rattle.dill_stack.specs.WsReading.{Passed, passed, passed_within, after_pass, then_passed, nothing_passed, pass_by_front, ws_front, Shown, shown}
-use Rattle.dill_stack.specs.Read.{Outcome, outcome, behind_passed, read_ws, is_terminal, over_term, read_message, read_list}
-use Rattle.dill_stack.specs.Receiving.{Looked, ws_of, answers_pings, with_pongs_of, ponged, pong_of, with_pong, looked_over, settled, read_of, read}
-use Rattle.dill_stack.specs.Refusals.{is_met, is_met_layer}
+use Rattle.dill_stack.specs.WsReading.{Passed, passed, passed_within, after_pass, then_passed, pass_by_front, ws_front, Shown, shown}
+use Rattle.dill_stack.specs.Read.{Outcome, behind_passed, read_ws, is_terminal, over_term, read_message, read_list}
+use Rattle.dill_stack.specs.Receiving.{Looked, ws_of, answers_pings, with_pongs_of, ponged, pong_of, with_pong, looked_over, settled, read}
+use Rattle.dill_stack.specs.Refusals.{is_met}
 use Rattle.dill_stack.specs.Stepping.{pass_of_ws, next_pass, with_ws, passed_on, stepped, behind_pass}
-use Rattle.dill_stack.proofs.Again.{some_used, pongs_queue}
+use Rattle.dill_stack.proofs.Again.{some_used}
 use Rattle.dill_stack.proofs.Limits.{frame_at}
 use Rattle.dill_stack.proofs.Passings.{PassAt, pass_at, empty_front}
 

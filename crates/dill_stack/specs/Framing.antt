@@ -1,6 +1,5 @@
 -- What a WebSocket layer does with the frame at the front.
 use Rattle.std.specs.Prelude.{◌≡◌, ◌≤◌, ◌+◌, ℕ, List, [], ◌∷◌, length, drop, Bool, true, false, Option, Some, None}
-use Rattle.dill_ws.specs.declared.head.Head.{Head}
 use Rattle.dill_stack.specs.declared.frames.FrameFront.{FrameFront}
 use Rattle.dill_stack.specs.declared.frames.FrameFront.TheVariants as told
 use Rattle.dill_stack.specs.declared.frames.Pass.{Pass}

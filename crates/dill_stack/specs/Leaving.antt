@@ -1,17 +1,17 @@
 -- What a detach does with one item, and what all of them leave.
-use Rattle.std.specs.Prelude.{ℕ, zero, suc, ◌-◌, List, [], ◌∷◌, Bool, false, take, drop, if◌then◌else◌}
+use Rattle.std.specs.Prelude.{ℕ, zero, suc, ◌-◌, List, [], ◌∷◌, Bool, false, take, drop}
 use Rattle.dill_base.specs.declared.errno.Errno.TheVariants.{Epipe}
 use Rattle.dill_calls.specs.declared.answer.Answer.TheVariants.{Bytes, Number}
 use Rattle.dill_stack.specs.declared.dropping.DropStep.{DropStep}
 use Rattle.dill_stack.specs.declared.dropping.DropStep.TheVariants as step
 use Rattle.dill_stack.specs.declared.want.ReadOut.TheVariants.{Given, Fault}
 use Rattle.dill_stack.specs.Layers.{TermLayer, Placed, Term}
-use Rattle.dill_stack.specs.Held.{Held, Idle}
+use Rattle.dill_stack.specs.Held.{Held}
 use Rattle.dill_stack.specs.Read.{Outcome, outcome}
-use Rattle.dill_stack.specs.Dropping.{Dropped, Item, End, Stops, drop_one, dropped, drop_message, is_given}
+use Rattle.dill_stack.specs.Dropping.{Dropped, Item, End, Stops, drop_one, dropped, drop_message}
 use Rattle.dill_stack.specs.Refusals.{is_met_layer}
 use Rattle.dill_stack.specs.Seeing.{emptied_layers, joined_in}
-use Rattle.dill_stack.specs.Taking.{over_layers, behind, meet}
+use Rattle.dill_stack.specs.Taking.{over_layers, meet}
 
 -- the outcome of one item
 abbrev pub outcome_of : Dropped → Outcome
@@ -61,10 +61,6 @@ step_at (suc n) = step.Stops (Fault Epipe)
 abbrev pub terms_at : ℕ → List TermLayer → List TermLayer
 terms_at zero terms = below_top terms
 terms_at (suc n) terms = meet (suc n) terms
-
--- the stack after all, which has no detach any more where that was answered
-abbrev pub left_behind : Outcome → Held → Held
-left_behind o s = if is_given o.said then record (behind o s) { task = Idle } else behind o s
 
 -- the layers below the top
 abbrev pub below_layers : List Placed → List Placed

@@ -37,3 +37,4 @@ pub mod Stepping
 pub mod Framing
 pub mod Seeing
 pub mod Sinking
+pub mod Cutting

@@ -7,7 +7,6 @@ use Rattle.dill_stack.specs.declared.dropping.DropStep.TheVariants as step
 use Rattle.dill_stack.specs.declared.want.ReadOut.{ReadOut}
 use Rattle.dill_stack.specs.declared.want.ReadOut.TheVariants.{Given}
 use Rattle.dill_stack.specs.Held.{Held}
-use Rattle.dill_stack.specs.Read.{Outcome}
 use Rattle.dill_stack.specs.Dropping.{dropped_within}
 use Rattle.dill_stack.specs.Receiving.{Looked, looked_over}
 use Rattle.dill_stack.specs.Rooms.{Stocked}

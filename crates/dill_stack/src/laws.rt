@@ -1,3 +1,5 @@
+ghost use Rattle.dill_stack.specs.Again.{LooksAgain};
+ghost use Rattle.dill_stack.specs.Cutting.{ReadsAlike};
 ghost use Rattle.dill_stack.specs.Ending.{EndingLaws};
 ghost use Rattle.dill_stack.specs.Joining.{JoiningLaws};
 ghost use Rattle.dill_stack.specs.Messages.{MessageLaws};
@@ -31,6 +33,23 @@ pub fn message_laws()
 {
     prefix_laws();
     suffix_laws();
+}
+
+/// A look of a receive, of a detach or of a handshake that awaits more has used all that it may use: a second one changes
+/// nothing.
+pub fn again_laws()
+    ensures { LooksAgain }
+{
+    prefix_laws();
+    suffix_laws();
+}
+
+/// However the same bytes are cut into pieces, and wherever a receive looks between them and awaits more, it is answered
+/// the same.
+pub fn cutting_laws()
+    ensures { ReadsAlike }
+{
+    front_laws();
 }
 
 /// A WebSocket layer gives a message exactly where its frames stand at the front, behind those that the layer has

@@ -1,4 +1,3 @@
-use Rattle.std.proofs.Common.{◌≡◌}
 use Rattle.dill_stack.proofs.Passers.{link_passes}
 use Rattle.dill_stack.proofs.frames.pass_on_link.Goals as goal
 

@@ -1,4 +1,4 @@
-use Rattle.std.proofs.Common.{◌≡◌, ◌≤◌, ◌+◌, ◌∙◌, [], arith, sym, ap, take, drop, length, Some}
+use Rattle.std.proofs.Common.{◌≡◌, ◌+◌, ◌∙◌, [], arith, sym, ap, take, drop, length, Some}
 use Rattle.dill_ws.specs.Frames.{masked}
 use Rattle.dill_stack.specs.Layers.{WsLayer}
 use Rattle.dill_stack.specs.Standing.{ws_layer}

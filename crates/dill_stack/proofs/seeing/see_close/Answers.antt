@@ -1,8 +1,7 @@
-use Rattle.std.proofs.Common.{◌≡◌, ◌≤◌, ◌+◌, ◌∙◌, arith, sym, ap, refl, take, drop, length, true, false}
+use Rattle.std.proofs.Common.{◌≡◌, ◌+◌, ◌∙◌, arith, sym, ap, refl, take, drop, length}
 use Rattle.std.specs.Prelude.{is_some}
 use Rattle.dill_ws.specs.Closing.{close_of}
 use Rattle.dill_ws.specs.Frames.{masked}
-use Rattle.dill_ws.specs.FrameLaws.{payload_at}
 use Rattle.dill_stack.specs.Standing.{ws_layer}
 use Rattle.dill_stack.specs.WsReading.{is_data}
 use Rattle.dill_stack.proofs.FramePasses.{control_at}

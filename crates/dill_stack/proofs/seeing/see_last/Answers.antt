@@ -1,4 +1,4 @@
-use Rattle.std.proofs.Common.{◌≡◌, ◌≤◌, ◌+◌, ◌∙◌, ◌++◌, ◌&&◌, ◌==◌, Bool, List, ℕ, arith, sym, ap, refl, not, take, drop, length, length-append, true, false}
+use Rattle.std.proofs.Common.{◌≡◌, ◌+◌, ◌∙◌, ◌++◌, ◌&&◌, ◌==◌, Bool, List, ℕ, arith, sym, ap, refl, not, take, drop, length, true, false}
 use Rattle.std.specs.Option.{unwrap_or}
 use Rattle.std.specs.Str.{is_utf8}
 use Rattle.std.proofs.Math.Seq.{take-append_seam}
@@ -7,7 +7,6 @@ use Rattle.dill_ws.specs.Frames.{masked}
 use Rattle.dill_ws.specs.FrameLaws.{payload_at}
 use Rattle.dill_stack.specs.declared.placed.Framed.{Framed}
 use Rattle.dill_stack.specs.declared.want.ReadOut.TheVariants.{Given}
-use Rattle.dill_stack.specs.Layers.{WsLayer}
 use Rattle.dill_stack.specs.Rooms.{Roomy, roomy}
 use Rattle.dill_stack.specs.Seeing.{emptied}
 use Rattle.dill_stack.specs.Standing.{ws_layer}

@@ -1,7 +1,6 @@
 use Rattle.std.proofs.Common.{◌∙◌, ap, sym}
 use Rattle.dill_stack.specs.Held.{Held}
 use Rattle.dill_stack.specs.Receiving.{Looked}
-use Rattle.dill_stack.specs.Rooms.{Stocked}
 use Rattle.dill_stack.specs.Taking.{joined_left}
 use Rattle.dill_stack.proofs.DropShort.{finish_short}
 use Rattle.dill_stack.proofs.stack.Stack.detach_finish.Goals as goal

@@ -1,4 +1,4 @@
-use Rattle.std.proofs.Common.{◌∙◌, arith, sym, ap, length}
+use Rattle.std.proofs.Common.{◌∙◌, arith, ap}
 use Rattle.dill_stack.specs.Receiving.{looked_over}
 use Rattle.dill_stack.proofs.Drops.{all_by}
 use Rattle.dill_stack.proofs.Sinkings.{reaches_first, reaches_on, reaches_stop, reaches_out}

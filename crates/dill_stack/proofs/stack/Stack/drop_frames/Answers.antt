@@ -1,11 +1,10 @@
-use Rattle.std.proofs.Common.{◌≡◌, ◌∙◌, sym, ap, subst, false, true}
+use Rattle.std.proofs.Common.{◌∙◌, sym, ap}
 use Rattle.std.specs.Prelude.{is_some}
 use Rattle.dill_base.specs.declared.errno.Errno.TheVariants.{Epipe}
 use Rattle.dill_stack.specs.declared.dropping.DropStep.TheVariants as step
 use Rattle.dill_stack.specs.declared.want.ReadOut.TheVariants.{Fault}
 use Rattle.dill_stack.specs.Leaving.{step_of, next_dropped}
 use Rattle.dill_stack.specs.Read.{no_more}
-use Rattle.dill_stack.specs.Receiving.{ws_of}
 use Rattle.dill_stack.specs.Rooms.{Stocked}
 use Rattle.dill_stack.proofs.Seers.{joined_there}
 use Rattle.dill_stack.proofs.Sifts.{behind_item, stop_item, drops_top_met, drops_below_met, message_drops, joins_16384, close_there, close_drops, open_drops, refused_drops}

@@ -1,8 +1,8 @@
 use Rattle.std.proofs.Common.{◌≡◌, ◌∙◌, sym, ap, refl, Some, None}
 use Rattle.dill_stack.specs.contracts.stack.Stack.{the_view}
-use Rattle.dill_stack.specs.Leaving.{step_of, outcome_of, joined_dropped}
+use Rattle.dill_stack.specs.Leaving.{step_of, joined_dropped}
 use Rattle.dill_stack.specs.Standing.{base_layers, emptied_base, joined_bytes}
-use Rattle.dill_stack.specs.Taking.{behind, lowest}
+use Rattle.dill_stack.specs.Taking.{lowest}
 use Rattle.dill_stack.proofs.Drops.{sifted_as, step_of_end, stack_at}
 use Rattle.dill_stack.proofs.Seers.{emptied_stands, emptied_room}
 use Rattle.dill_stack.proofs.Sifts.{joined_tower, held_of_joined}

@@ -1,4 +1,4 @@
-use Rattle.std.proofs.Common.{◌≡◌, ◌∙◌, ap, sym, subst}
+use Rattle.std.proofs.Common.{◌∙◌, ap, sym, subst}
 use Rattle.rand_core.specs.Stream.{Stream}
 use Rattle.dill_stack.specs.Leaving.{next_dropped, step_of}
 use Rattle.dill_stack.specs.Rooms.{Stocked}

@@ -1,7 +1,4 @@
-use Rattle.std.proofs.Common.{◌≡◌, ◌∙◌, sym, ap, refl, true, false}
-use Rattle.dill_stack.specs.Held.{Held}
-use Rattle.dill_stack.specs.Receiving.{ws_of, Looked}
-use Rattle.dill_stack.specs.Rooms.{Stocked}
+use Rattle.std.proofs.Common.{◌∙◌, sym}
 use Rattle.dill_stack.proofs.Endings.{finish_waits}
 use Rattle.dill_stack.proofs.Finishing.{finishes, rests, kept_room}
 use Rattle.dill_stack.proofs.stack.Stack.finish.Goals as goal

@@ -1,4 +1,4 @@
-use Rattle.std.proofs.Common.{◌≡◌, ◌≤◌, ◌∙◌, arith, sym, ap, subst}
+use Rattle.std.proofs.Common.{◌≤◌, ◌∙◌, arith, sym, ap, subst}
 use Rattle.rand_core.specs.Stream.{Stream}
 use Rattle.dill_stack.specs.declared.want.Want.TheVariants.{Message}
 use Rattle.dill_stack.specs.Layers.{HasMessages}

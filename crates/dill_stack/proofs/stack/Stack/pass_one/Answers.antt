@@ -1,4 +1,4 @@
-use Rattle.std.proofs.Common.{◌≡◌, ◌≤◌, ◌∙◌, arith, sym, ap, subst, false, true}
+use Rattle.std.proofs.Common.{◌≡◌, ◌≤◌, ◌∙◌, sym, ap, subst, false}
 use Rattle.dill_stack.specs.declared.want.Want.TheVariants.{Message}
 use Rattle.dill_stack.specs.contracts.stack.Stack.{the_view}
 use Rattle.dill_stack.specs.Framing.{StackPasses}
@@ -7,7 +7,7 @@ use Rattle.dill_stack.specs.Refusals.{is_met}
 use Rattle.dill_stack.specs.Rooms.{Stocked}
 use Rattle.dill_stack.specs.Standing.{tower, base_layers}
 use Rattle.dill_stack.specs.Taking.{joined_of}
-use Rattle.dill_stack.proofs.Passers.{joins_within, link_stands, link_room, stack_passes, met_passes, over_link}
+use Rattle.dill_stack.proofs.Passers.{joins_within, link_stands, link_room, stack_passes, over_link}
 use Rattle.dill_stack.proofs.stack.Stack.pass_one.Goals as goal
 
 pub pass_on_link-requires : goal.pass_on_link-requires

@@ -1,6 +1,5 @@
-use Rattle.std.proofs.Common.{◌≡◌, ◌∙◌, sym, ap}
-use Rattle.dill_stack.specs.Held.{Held}
-use Rattle.dill_stack.specs.Receiving.{Looked, read}
+use Rattle.std.proofs.Common.{◌∙◌, sym, ap}
+use Rattle.dill_stack.specs.Receiving.{Looked}
 use Rattle.dill_stack.specs.Rooms.{Stocked}
 use Rattle.dill_stack.proofs.ReadShort.{read_short}
 use Rattle.dill_stack.proofs.TowerReads.{reads_plain, look_after}

@@ -1,8 +1,8 @@
-use Rattle.std.proofs.Common.{◌≡◌, ◌≤◌, ◌∙◌, arith, sym, ap, subst, refl, length, List, ℕ, true, false, Some}
+use Rattle.std.proofs.Common.{◌≡◌, ◌∙◌, arith, sym, ap, length}
 use Rattle.dill_base.specs.declared.errno.Errno.TheVariants.{Epipe}
 use Rattle.dill_stack.specs.declared.want.ReadOut.TheVariants.{Fault}
 use Rattle.dill_stack.specs.declared.want.Want.TheVariants.{Message}
-use Rattle.dill_stack.specs.Read.{Outcome, outcome, no_more, read_message}
+use Rattle.dill_stack.specs.Read.{Outcome, outcome, no_more}
 use Rattle.dill_stack.specs.Receiving.{read_of, broken_by}
 use Rattle.dill_stack.specs.Rooms.{Stocked}
 use Rattle.dill_stack.specs.Seeing.{joined_by, joined_in}

@@ -1,4 +1,4 @@
-use Rattle.std.proofs.Common.{◌≡◌, ◌≤◌, ◌∙◌, sym, ap, subst, true, false, None}
+use Rattle.std.proofs.Common.{◌≤◌, ◌∙◌, sym, ap, subst}
 use Rattle.std.specs.Prelude.{is_some}
 use Rattle.dill_stack.specs.declared.want.Want.TheVariants.{Message}
 use Rattle.dill_stack.specs.contracts.stack.Stack.{the_view}

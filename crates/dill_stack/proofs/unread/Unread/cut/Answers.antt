@@ -1,4 +1,4 @@
-use Rattle.std.proofs.Common.{◌∙◌, ap, take, drop}
+use Rattle.std.proofs.Common.{◌∙◌, ap, drop}
 use Rattle.std.proofs.lemmas.List.{drop-take}
 use Rattle.dill_stack.specs.Rooms.{roomy}
 use Rattle.dill_stack.proofs.unread.Unread.cut.Goals as goal
