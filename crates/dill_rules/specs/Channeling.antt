@@ -1,5 +1,5 @@
 -- What the calls of channels do that aren't refused: meetings, ends of a direction, and waiting.
-use Rattle.std.specs.Prelude.{ℕ, ◌+◌, List, [], ◌∷◌, Bool, true, false, Option, Some, None, if◌then◌else◌}
+use Rattle.std.specs.Prelude.{ℕ, ◌+◌, List, [], ◌∷◌, map, Bool, true, false, Option, Some, None, if◌then◌else◌}
 use Rattle.dill_base.specs.declared.errno.Errno.TheVariants.{Epipe}
 use Rattle.dill_calls.specs.declared.answer.Answer.{Answer}
 use Rattle.dill_calls.specs.declared.answer.Answer.TheVariants as answers
@@ -38,6 +38,17 @@ clauses_of (calls.Chsend number bytes deadline) = clauses.Send number bytes ∷ 
 clauses_of (calls.Chrecv number size deadline) = clauses.Recv number size ∷ []
 clauses_of (calls.Choose deadline all) = all
 clauses_of _ = []
+
+-- a clause without the bytes that it sends
+abbrev pub bare_clause : Clause → Clause
+bare_clause (clauses.Send number bytes) = clauses.Send number []
+bare_clause (clauses.Recv number size) = clauses.Recv number size
+
+-- A call without the bytes that it sends at channels. While it is pending, its clauses that wait have them.
+abbrev pub without_bytes : Call → Call
+without_bytes (calls.Chsend number bytes deadline) = calls.Chsend number [] deadline
+without_bytes (calls.Choose deadline all) = calls.Choose deadline (map bare_clause all)
+without_bytes call = call
 
 -- the clause waits on
 abbrev pub is_waiting : Meeting → Bool
@@ -89,7 +100,7 @@ module _ {V : Type 0} where
   first_done w who index [] = None
   first_done w who index (x ∷ xs) = if is_waiting (meeting_of w who x) then first_done w who (index + 1) xs else Some (index, meeting_of w who x)
 
-  -- the least clause that can be done decides; where none can, all of them wait
+  -- The least clause that can be done decides. Where none can, all of them wait, and have the bytes of the call.
   abbrev pub enter_channel : World V → ℕ → Call → World V
   enter_channel w who call =
-      if_some (first_done w who 0 (clauses_of call)) (wait_all (pend w who call) who 0 (clauses_of call)) (λ x. meet w who call x.0 x.1)
+      if_some (first_done w who 0 (clauses_of call)) (wait_all (pend w who (without_bytes call)) who 0 (clauses_of call)) (λ x. meet w who call x.0 x.1)

@@ -1,4 +1,4 @@
-ghost use Rattle.dill_rules.specs.Laws.{OpeningIsSound, RefusalChangesNothing};
+ghost use Rattle.dill_rules.specs.Laws.{BytesTellNothing, OpeningIsSound, RefusalChangesNothing};
 
 use dill_calls::Body;
 
@@ -10,4 +10,9 @@ pub fn opening_is_sound<B: Body>()
 /// A refusal at entry changes nothing but that the caller has its answer.
 pub fn refusal_changes_nothing<B: Body>()
     ensures { RefusalChangesNothing B }
+{}
+
+/// What a pending call would send at channels says nothing of how it is answered.
+pub fn bytes_tell_nothing<B: Body>()
+    ensures { BytesTellNothing B }
 {}

@@ -7,5 +7,5 @@ mod law;
 mod thing;
 
 pub use coroutine::{Closing, Coroutine, Mode};
-pub use law::{opening_is_sound, refusal_changes_nothing};
+pub use law::{bytes_tell_nothing, opening_is_sound, refusal_changes_nothing};
 pub use thing::Thing;

@@ -31,7 +31,7 @@ use Rattle.dill_rules.specs.declared.coroutine.Coroutine.{Coroutine}
 use Rattle.dill_rules.specs.declared.thing.Thing.{Thing}
 use Rattle.dill_rules.specs.declared.thing.Thing.TheVariants as things
 use Rattle.dill_rules.specs.Answers.{end_named}
-use Rattle.dill_rules.specs.Channeling.{done_at, clauses_of, first_done, wait_at, wait_all, meet, enter_channel}
+use Rattle.dill_rules.specs.Channeling.{without_bytes, done_at, clauses_of, first_done, wait_at, wait_all, meet, enter_channel}
 use Rattle.dill_rules.specs.Directions.{is_send, is_receive, is_handshake, layer_of, parting_of}
 use Rattle.dill_rules.specs.Effects.{add_bundle, close_thing, start, give_all}
 use Rattle.dill_rules.specs.Entering.{keep_for, perform_on_link, perform, is_too_late, late_answer, meet_deadline, done, enter, entered}
@@ -182,8 +182,8 @@ module _ {V : Type 0} (Known : ℕ → Entry Thing → Type 0) (C : Type 0) (I :
   channel_lasts : (w : World V) (who : ℕ) (call : Call) → Holds w → Holds (enter_channel w who call)
   channel_lasts w who call h = at (first_done w who 0 (clauses_of call))
     where
-      at : (o : Option (ℕ × Meeting)) → Holds (if_some o (wait_all (pend w who call) who 0 (clauses_of call)) (λ x. meet w who call x.0 x.1))
-      at None = wait_lasts (pend w who call) who 0 (clauses_of call) h
+      at : (o : Option (ℕ × Meeting)) → Holds (if_some o (wait_all (pend w who (without_bytes call)) who 0 (clauses_of call)) (λ x. meet w who call x.0 x.1))
+      at None = wait_lasts (pend w who (without_bytes call)) who 0 (clauses_of call) h
       at (Some x) = meeting_lasts w who call x.0 x.1 h
 
   done_at_lasts : (w : World V) (who end : ℕ) → Holds w → Holds (done_at w who end)

@@ -19,7 +19,7 @@ use Rattle.dill_rules.specs.Effects.{bear}
 use Rattle.dill_rules.specs.Entering.{perform, keep_for, is_too_late, late_answer, meet_deadline, done, enter}
 use Rattle.laws_sound.specs.Plain.{may_wait}
 use Rattle.laws_queue.proofs.Crew.{SameCrew}
-use Rattle.laws_queue.proofs.Acting.{Gives, Acts, idles, answered, waits, meets, bore, may_pend, may_meet, perform_acts}
+use Rattle.laws_queue.proofs.Acting.{Gives, Acts, idles, answered, waits, waits_bare, meets, bore, may_pend, may_meet, perform_acts}
 use Rattle.laws_queue.proofs.Stepping.{bearing}
 use Rattle.laws_debt.proofs.Entering.{refusal_lowers, unrefused_lowers, starts_nobody}
 use Rattle.laws_debt.proofs.Evolving.{Evolves, stays, turns, begins, goes_on, newborn}
@@ -129,6 +129,7 @@ module _ {V : Type 0} (p : Program V) (law : IsLawful p) (calm : ℕ → Bool) w
           subst (Leads p calm k) (sym (meets_none p calm k who none)) stays
       at {u} (answered g) = over p calm k u who (word_of call) runs low g
       at {u} (waits m s) = pended p calm k u who call s runs (n.waits m) (low (late_answer call))
+      at (waits_bare m s) = absurd (n.alone m)
       at (meets other its answer m e g) = absurd (n.alone m)
       at {u} (bore child home b e g) =
           let new = newborn (k.last_coroutine + 1) child ∷ [] in

@@ -32,7 +32,7 @@ use Rattle.dill_rules.specs.declared.coroutine.Mode.TheVariants as modes
 use Rattle.dill_rules.specs.declared.thing.Thing.{Thing}
 use Rattle.dill_rules.specs.declared.thing.Thing.TheVariants as things
 use Rattle.dill_rules.specs.Answers.{end_named}
-use Rattle.dill_rules.specs.Channeling.{done_at, clauses_of, is_waiting, meeting_of, first_done, wait_all, clause_answer, meet, enter_channel}
+use Rattle.dill_rules.specs.Channeling.{without_bytes, done_at, clauses_of, is_waiting, meeting_of, first_done, wait_all, clause_answer, meet, enter_channel}
 use Rattle.dill_rules.specs.Directions.{is_send, is_receive, is_handshake, parting_of}
 use Rattle.dill_rules.specs.Effects.{make, add_bundle, close_thing, bear, start, give_all, told, next_number, passed_answer}
 use Rattle.dill_rules.specs.Entering.{perform_on_link, perform}
@@ -229,11 +229,12 @@ pub data Idles {V : Type 0} (w : World V) : Call → Type 0 where
   no_bundle : (number program : ℕ) (args : List Arg) → bundle_named w number ≡ None → Idles w (calls.BundleGo number program args)
   no_end : (number : ℕ) → end_named w number ≡ None → Idles w (calls.Chdone number)
 
--- The caller is answered, or it waits; or one that it meets is answered, or a child begins of which something holds, and then it is answered itself.
+-- The caller is answered, or it waits, at channels without its bytes; or one that it meets is answered, or a child begins of which something holds, and then it is answered itself.
 pub data Acts {V : Type 0} (B : V → Type 0) (w : World V) (who : ℕ) (call : Call) : World V → Type 0 where
   idles : Idles w call → Acts B w who call w
   answered : {v : World V} → Gives w who (word_of call) v → Acts B w who call v
   waits : {v : World V} → may_pend call ≡ true → SameCrew (pend w who call) v → Acts B w who call v
+  waits_bare : {v : World V} → may_meet call ≡ true → SameCrew (pend w who (without_bytes call)) v → Acts B w who call v
   meets : {v : World V} (other : ℕ) (its : Call) (answer : Answer) → may_meet call ≡ true → call_of w other ≡ Some its → Gives (reply w other (word_of its) answer) who (word_of call) v → Acts B w who call v
   bore : {v : World V} (view : V) (home : ℕ) → B view → bears (word_of call) ≡ true → Gives (bear w view home) who (word_of call) v → Acts B w who call v
 
@@ -297,11 +298,11 @@ module _ {V : Type 0} (B : V → Type 0) where
   meet_acts w who call index meetings.Ended k n = replied w w who call (clause_answer call index (Fault Epipe)) (no_change w)
   meet_acts w who call index meetings.Waits k n = cc
 
-  channel_acts : (w : World V) (who : ℕ) (call : Call) → may_pend call ≡ true → may_meet call ≡ true → Acts B w who call (enter_channel w who call)
-  channel_acts w who call m k = at (first_done w who 0 (clauses_of call)) refl
+  channel_acts : (w : World V) (who : ℕ) (call : Call) → may_meet call ≡ true → Acts B w who call (enter_channel w who call)
+  channel_acts w who call k = at (first_done w who 0 (clauses_of call)) refl
     where
-      at : (o : Option (ℕ × Meeting)) → first_done w who 0 (clauses_of call) ≡ o → Acts B w who call (if_some o (wait_all (pend w who call) who 0 (clauses_of call)) (λ x. meet w who call x.0 x.1))
-      at None e = waits m (wait_all_crew (pend w who call) who 0 (clauses_of call))
+      at : (o : Option (ℕ × Meeting)) → first_done w who 0 (clauses_of call) ≡ o → Acts B w who call (if_some o (wait_all (pend w who (without_bytes call)) who 0 (clauses_of call)) (λ x. meet w who call x.0 x.1))
+      at None e = waits_bare k (wait_all_crew (pend w who (without_bytes call)) who 0 (clauses_of call))
       at (Some x) e = meet_acts w who call x.0 x.1 k (done_waits w who 0 (clauses_of call) x e)
 
   -- ---- links
@@ -376,9 +377,9 @@ module _ {V : Type 0} (B : V → Type 0) where
   perform_acts p w who view (calls.Pass word fault) k = replied w w who (calls.Pass word fault) (passed_answer fault) (no_change w)
   perform_acts p w who view calls.Chmake k =
       replied w (make (make (record w { channels = channels.make w.channels }) (things.End (channels.next_ends w.channels).0) who) (things.End (channels.next_ends w.channels).1) who) who calls.Chmake (answers.Pair (next_number w) (next_number w + 1)) (record { coroutines = refl; last = refl })
-  perform_acts p w who view (calls.Chsend number bytes deadline) k = channel_acts w who (calls.Chsend number bytes deadline) refl refl
-  perform_acts p w who view (calls.Chrecv number size deadline) k = channel_acts w who (calls.Chrecv number size deadline) refl refl
-  perform_acts p w who view (calls.Choose deadline all) k = channel_acts w who (calls.Choose deadline all) refl refl
+  perform_acts p w who view (calls.Chsend number bytes deadline) k = channel_acts w who (calls.Chsend number bytes deadline) refl
+  perform_acts p w who view (calls.Chrecv number size deadline) k = channel_acts w who (calls.Chrecv number size deadline) refl
+  perform_acts p w who view (calls.Choose deadline all) k = channel_acts w who (calls.Choose deadline all) refl
   perform_acts p w who view (calls.Chdone number) k = at (end_named w number) refl
     where
       at : (o : Option ℕ) → end_named w number ≡ o → Acts B w who (calls.Chdone number) (if_some o w (done_at w who))

@@ -27,8 +27,9 @@ use Rattle.dill_kernel.specs.declared.replies.KernelReply.{KernelReply}
 use Rattle.dill_rules.specs.Hearing.{heard}
 use Rattle.dill_rules.specs.Trying.{Try}
 use Rattle.dill_rules.specs.Settling.{close_all, end, can_finish, is_clear, free_all, release_all, finish, answer_due, give_first, settle_one, settle_within, settle}
+use Rattle.dill_rules.specs.Channeling.{without_bytes}
 use Rattle.laws_queue.specs.Well.{has_more, IsAlive, Lives, Numbered}
-use Rattle.laws_queue.proofs.Acting.{Gives, give_gives, Hears, nobody, one, heard_hears, Acts, idles, answered, waits, meets, bore, Bearing, perform_acts}
+use Rattle.laws_queue.proofs.Acting.{Gives, give_gives, Hears, nobody, one, heard_hears, Acts, idles, answered, waits, waits_bare, meets, bore, Bearing, perform_acts}
 use Rattle.laws_queue.proofs.Answered.{evolves_lives}
 use Rattle.laws_queue.proofs.Crew.{close_all_crew, bare_crew, keep_end_last}
 use Rattle.laws_queue.proofs.Evolving.{Evolves, stays, turns, leaves, begins, evolves_numbered}
@@ -83,6 +84,7 @@ module _ {V : Type 0} (p : Program V) where
   acts_leads w _ who call l r (idles i) = stays
   acts_leads w v who call l r (answered g) = gives_leads w v who (word_of call) r g
   acts_leads w v who call l r (waits m s) = leads_then p w (pend w who call) v (pend_leads p w who call r) (crew_leads p (pend w who call) v s)
+  acts_leads w v who call l r (waits_bare m s) = leads_then p w (pend w who (without_bytes call)) v (pend_leads p w who (without_bytes call) r) (crew_leads p (pend w who (without_bytes call)) v s)
   acts_leads w v who call l r (meets other its answer k e g) =
       let met = reply w other (word_of its) answer in
       leads_then p w met v (reply_leads p w other (word_of its) answer (pending_runs w other its l e)) (gives_leads met v who (word_of call) (runs_replied p w who other (word_of its) answer r) g)

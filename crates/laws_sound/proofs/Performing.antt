@@ -42,7 +42,7 @@ use Rattle.dill_rules.specs.Answers.{want_of, end_named}
 use Rattle.dill_rules.specs.Directions.{is_send, is_receive, is_handshake, layer_of, parting_of}
 use Rattle.dill_rules.specs.LinkAnswers.{is_on_stack}
 use Rattle.dill_rules.specs.Linking.{with_random, greet_by, ask_stack, heat, queue, enter_send, enter_receive, enter_link, put_layer, attach_layer, enter_attach, given_up_at_once, give_stack_up, begin_detach, dropped_for, enter_giving_up, enter_handshake}
-use Rattle.dill_rules.specs.Channeling.{clauses_of, is_waiting, meeting_of, answer_clause, clause_answer, meet, wait_all, first_done, enter_channel}
+use Rattle.dill_rules.specs.Channeling.{without_bytes, clauses_of, is_waiting, meeting_of, answer_clause, clause_answer, meet, wait_all, first_done, enter_channel}
 use Rattle.dill_rules.specs.Effects.{close_thing, give_all, bear, next_number}
 use Rattle.dill_rules.specs.Entering.{perform_on_link, is_too_late, late_answer, meet_deadline}
 use Rattle.dill_rules.specs.Settling.{close_owned, close_all, end}
@@ -69,6 +69,11 @@ use Rattle.laws_sound.proofs.Noting.{Stays, stays_retired, sockets_stay, Counts,
 use Rattle.laws_sound.proofs.Making.{running_free, running_meets, channel_free, shut_count, fits_socket, no_bundle_from, Makes, makes_after, there, going, replied, kept_waits, pended, takes_stack}
 
 -- a call on channels has no number kept
+-- a call without its bytes has its word
+bare_word : (call : Call) → word_of (without_bytes call) ≡ word_of call
+bare_word (calls.Chsend number bytes deadline) = refl
+bare_word call = refl
+
 channel_gives : (call : Call) → is_channel (word_of call) ≡ true → bit (gives_number (word_of call)) ≤ 0
 channel_gives (calls.Hclose number) e = cc
 channel_gives (calls.Pass word fault) e = at word e
@@ -177,13 +182,22 @@ module _ {V : Type 0} where
   pub channel_goes : (w : World V) (who : ℕ) (call : Call) → is_channel (word_of call) ≡ true → is_on_stack (word_of call) ≡ false → Makes w who 0 → Goes w (enter_channel w who call)
   channel_goes w who call c s h = at (first_done w who 0 (clauses_of call)) refl
     where
+      bare : Call
+      bare = without_bytes call
+
       v : World V
-      v = pend w who call
+      v = pend w who bare
+
+      its : is_channel (word_of bare) ≡ true
+      its = ap is_channel (bare_word call) ∙ c
+
+      off : is_on_stack (word_of bare) ≡ false
+      off = ap is_on_stack (bare_word call) ∙ s
 
       at : (o : Option (ℕ × Meeting)) → first_done w who 0 (clauses_of call) ≡ o → Goes w (if_some o (wait_all v who 0 (clauses_of call)) (λ x. meet w who call x.0 x.1))
       at None e =
-          let one = pended w w who call h (nothing w h.good.order) (channel_gives call c) (channel_free call c) (ap (λ b. if b then if_some (named_by call) true (is_no_bundle w.handles) else true) s) in
-          let here : is_at is_meeting v.coroutines who ≡ true = ap (λ o. if_some o false (λ d. is_meeting d.mode)) (change_here (with_mode (modes.Pending call)) (λ d. refl) who w.coroutines h.one h.found) ∙ c in
+          let one = pended w w who bare h (nothing w h.good.order) (channel_gives bare its) (channel_free bare its) (ap (λ b. if b then if_some (named_by bare) true (is_no_bundle w.handles) else true) off) in
+          let here : is_at is_meeting v.coroutines who ≡ true = ap (λ o. if_some o false (λ d. is_meeting d.mode)) (change_here (with_mode (modes.Pending bare)) (λ d. refl) who w.coroutines h.one h.found) ∙ its in
           goes_then w v (wait_all v who 0 (clauses_of call)) one (waits_more v who 0 (clauses_of call) one.good here)
       at (Some x) e = meets_goes w who call x.0 x.1 (λ m f. first_meets w who 0 x.0 (clauses_of call) m (e ∙ ap (λ (y : Meeting). Some (x.0, y)) f) h.good) h
 

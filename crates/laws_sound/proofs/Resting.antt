@@ -43,9 +43,10 @@ use Rattle.dill_rules.specs.Directions.{kind_of_top}
 use Rattle.dill_rules.specs.Kinds.{is_dead, is_other_kind, is_other_top, kind_of, top_on}
 use Rattle.dill_rules.specs.Naming.{gifts_of}
 use Rattle.dill_rules.specs.Owning.{entry_of}
+use Rattle.dill_rules.specs.Channeling.{without_bytes}
 use Rattle.laws_queue.proofs.Besides.{besides_crew, pass_all_besides, heat_all_besides}
 use Rattle.laws_queue.proofs.Crew.{SameCrew, close_all_crew, bare_crew}
-use Rattle.laws_queue.proofs.Acting.{Gives, give_gives, Hears, nobody, one, heard_hears, Idles, dead, no_bundle, no_end, Acts, idles, answered, waits, meets, bore, Bearing, perform_acts}
+use Rattle.laws_queue.proofs.Acting.{Gives, give_gives, Hears, nobody, one, heard_hears, Idles, dead, no_bundle, no_end, Acts, idles, answered, waits, waits_bare, meets, bore, Bearing, perform_acts}
 use Rattle.laws_sound.proofs.Making.{live_entry, named_alive}
 use Rattle.laws_sound.proofs.Noting.{no_name}
 use Rattle.dill_kernel.specs.declared.replies.KernelReply.{KernelReply}
@@ -198,6 +199,7 @@ module _ {V : Type 0} where
   still_acts w _ who call busy (idles i) a = absurd (busy i)
   still_acts w v who call busy (answered g) a = almost_gives w v who (word_of call) g a
   still_acts w v who call busy (waits m same) a = still_crew (pend w who call) v same (almost_set who (modes.Pending call) w.coroutines refl a)
+  still_acts w v who call busy (waits_bare m same) a = still_crew (pend w who (without_bytes call)) v same (almost_set who (modes.Pending (without_bytes call)) w.coroutines refl a)
   still_acts w v who call busy (meets other its answer k e g) a = almost_gives (reply w other (word_of its) answer) v who (word_of call) g (almost_other who other (modes.Fresh (word_of its) answer) w.coroutines refl a)
   still_acts w v who call busy (bore view home b e g) a =
       almost_gives (bear w view home) v who (word_of call) g (almost_push who w.coroutines (record { number = w.last_coroutine + 1; body = view; mode = modes.Fresh words.Start (Number 0) }) refl a)
