@@ -1,7 +1,7 @@
 ghost use Rattle.std.specs.Prelude.{◌<◌, length};
 
 use dill_base::Address;
-use dill_kernel::{Kernel, Limit, ReadyList};
+use dill_kernel::{Flow, Kernel, Limit, ReadyList};
 use std::alloc::Global;
 use std::process::Abort;
 use std::test::Fail;
@@ -22,6 +22,8 @@ pub enum Ask {
     Accept(u64, u64),
     Write(u64, &'static [u8]),
     Read(u64, usize),
+    /// What is read at most is what comes, of these bytes.
+    Gets(u64, &'static [u8]),
     Shut(u64),
     Close(u64),
 }
@@ -49,6 +51,18 @@ fn read(alloc: Global, kernel: &mut impl Kernel, link: u64, most: usize) -> Resu
     Ok(format!(in alloc; "{came:?}")?)
 }
 
+/// Whether just these bytes come, or what comes in their place.
+fn gets(alloc: Global, kernel: &mut impl Kernel, link: u64, want: &[u8]) -> Result<String, Fail> {
+    let mut buf = [0; 4096];
+    let came = kernel.read(link, &mut buf);
+    if let Flow::Moved(count) = came {
+        if count <= 4096 && &buf[..count] == want {
+            return Ok(format!(in alloc; "these")?);
+        }
+    }
+    Ok(format!(in alloc; "{came:?}")?)
+}
+
 fn written(
     alloc: Global,
     kernel: &mut impl Kernel,
@@ -67,6 +81,7 @@ pub fn shown(alloc: Global, kernel: &mut impl Kernel, ask: Ask) -> Result<String
         Ask::Wait(limit) => waited(alloc, kernel, limit),
         Ask::Write(link, bytes) => written(alloc, kernel, link, bytes),
         Ask::Read(link, most) => read(alloc, kernel, link, most),
+        Ask::Gets(link, want) => gets(alloc, kernel, link, want),
         _ => made(alloc, kernel, ask),
     }
 }

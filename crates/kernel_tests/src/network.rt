@@ -42,6 +42,63 @@ fn a_stream_carries_bytes_both_ways_and_ends(rt: HostRuntime) -> Result<(), Fail
     plays(&rt, alloc, &mut kernel, table)
 }
 
+/// A client sends `hi` behind its length, and the answer comes back so.
+#[test]
+fn a_session_of_messages_behind_their_length(rt: HostRuntime) -> Result<(), Fail> {
+    let alloc = rt.alloc();
+    let table = vec![in alloc;
+        (Ask::Listen(1, 16), "Ok(())"),
+        (Ask::Connect(2), "Ok(())"),
+        (Ask::Finish(2), "Done"),
+        (Ask::Accept(1, 3), "Made"),
+        (Ask::Read(3, 9), "NotYet [0, 0, 0, 0, 0, 0, 0, 0, 0]"),
+        (Ask::Write(2, b"\x00\x02hi"), "Moved(4)"),
+        (Ask::Gets(3, b"\x00\x02hi"), "these"),
+        (Ask::Write(3, b"\x00\x02hi"), "Moved(4)"),
+        (Ask::Gets(2, b"\x00\x02hi"), "these"),
+        (Ask::Close(3), "closed"),
+        (Ask::Read(2, 1), "End [0]"),
+        (Ask::Close(2), "closed"),
+        (Ask::Close(1), "closed"),
+    ]?;
+    let mut kernel = LoopKernel::new(alloc, 4096)?;
+    plays(&rt, alloc, &mut kernel, table)
+}
+
+/// What a client of WebSocket sends to be let in, and what it is answered.
+const ASKED: &[u8] =
+    b"GET / HTTP/1.1\r\nHost: 127.0.0.1:7000\r\nUpgrade: websocket\r\nConnection: Upgrade\r\nSec-WebSocket-Key: dGhlIHNhbXBsZSBub25jZQ==\r\nSec-WebSocket-Version: 13\r\n\r\n";
+
+const ANSWERED: &[u8] =
+    b"HTTP/1.1 101 Switching Protocols\r\nUpgrade: websocket\r\nConnection: Upgrade\r\nSec-WebSocket-Accept: s3pPLMBiTxaQ9kYGzzhZRbK+xOo=\r\n\r\n";
+
+/// The handshake of WebSocket, and then `hi` there in a masked frame and back in a plain one.
+#[test]
+fn a_session_of_web_socket(rt: HostRuntime) -> Result<(), Fail> {
+    let alloc = rt.alloc();
+    let masked = b"\x81\x82\x37\xfa\x21\x3d\x5f\x93";
+    let table = vec![in alloc;
+        (Ask::Listen(1, 16), "Ok(())"),
+        (Ask::Connect(2), "Ok(())"),
+        (Ask::Finish(2), "Done"),
+        (Ask::Write(2, ASKED), "Moved(153)"),
+        (Ask::Accept(1, 3), "Made"),
+        (Ask::Gets(3, ASKED), "these"),
+        (Ask::Write(3, ANSWERED), "Moved(129)"),
+        (Ask::Gets(2, ANSWERED), "these"),
+        (Ask::Write(2, masked), "Moved(8)"),
+        (Ask::Gets(3, masked), "these"),
+        (Ask::Write(3, b"\x81\x02hi"), "Moved(4)"),
+        (Ask::Gets(2, b"\x81\x02hi"), "these"),
+        (Ask::Close(2), "closed"),
+        (Ask::Read(3, 1), "End [0]"),
+        (Ask::Close(3), "closed"),
+        (Ask::Close(1), "closed"),
+    ]?;
+    let mut kernel = LoopKernel::new(alloc, 4096)?;
+    plays(&rt, alloc, &mut kernel, table)
+}
+
 /// How many bytes an answer says that moved, none of another answer.
 fn moved(told: &str) -> u64 {
     let count = told
