@@ -30,10 +30,6 @@ module _ {V : Type 0} where
       rw other (none_below cs c.number high n h.1 (omega (arith, h.0, l)))
 
 module _ {V : Type 0} (p : Program V) where
-  lives_at : (found : Bool) (c d x : Coroutine V) (cs ds : List (Coroutine V)) → cond found (Some x) (find (is_coroutine c.number) cs) ≡ Some c → IsAlive p x → Lives p cs → (x ≡ c → IsAlive p d) → (find (is_coroutine c.number) cs ≡ Some c → Lives p ds) → Lives p (cond found (d ∷ cs) (x ∷ ds))
-  lives_at true c d x cs ds e a l f g = (f (some_same x c e), l)
-  lives_at false c d x cs ds e a l f g = (a, g e)
-
   alive_with : (c : Coroutine V) (mode : Mode) → (has_more mode ≡ true → 1 ≤ p.left c.body) → IsAlive p c → IsAlive p (with_mode mode c)
   alive_with c mode some a = record { real = a.real; some = some }
 

@@ -67,15 +67,6 @@ module _ {V : Type 0} (p : Program V) where
   some_leads None w f h = stays
   some_leads (Some a) w f h = h a refl
 
-  pub if_leads : (b : Bool) (w v u : World V) → Leads p w v → Leads p w u → Leads p w (if b then v else u)
-  if_leads true w v u e f = e
-  if_leads false w v u e f = f
-
-  -- what is there or not, each with its own effect
-  pub either_leads : {A : Type 0} (o : Option A) (w v : World V) (f : A → World V) → Leads p w v → ((a : A) → o ≡ Some a → Leads p w (f a)) → Leads p w (if_some o v f)
-  either_leads None w v f e h = e
-  either_leads (Some a) w v f e h = h a refl
-
   -- who is answered, behind an effect that leaves the coroutines
   pub gives_leads : (w v : World V) (who : ℕ) (word : Word) → Runs p w who → Gives w who word v → Leads p w v
   gives_leads w v who word r g = leads_then p w (reply w who word g.answer) v (reply_leads p w who word g.answer r) (crew_leads p (reply w who word g.answer) v (record { coroutines = g.coroutines; last = g.last }))

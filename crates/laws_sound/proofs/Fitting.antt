@@ -15,22 +15,19 @@ use Rattle.dill_scope.specs.Scopes as scopes
 use Rattle.dill_scope.specs.Scopes.{Scopes, owner_of}
 use Rattle.dill_scope.specs.Keeping.{IsThere, IsNewCoroutine}
 use Rattle.dill_scope.proofs.Carrying.{some_is}
-use Rattle.dill_base.specs.Maps.{if_some, change}
+use Rattle.dill_base.specs.Maps.{if_some}
 use Rattle.dill_rules.specs.declared.coroutine.Closing.{Closing}
 use Rattle.dill_rules.specs.declared.coroutine.Coroutine.{Coroutine}
-use Rattle.dill_rules.specs.declared.coroutine.Mode.{Mode}
 use Rattle.dill_rules.specs.declared.thing.Thing.{Thing}
 use Rattle.dill_rules.specs.Links.{Links}
 use Rattle.dill_rules.specs.Taking.{bundle_of}
-use Rattle.dill_rules.specs.World.{World, Place, is_coroutine, with_mode, set_mode}
+use Rattle.dill_rules.specs.World.{World, Place, is_coroutine}
 use Rattle.laws_queue.specs.Well.{Numbered, bit, occurs}
 use Rattle.laws_sound.specs.Order.{is_there, has_bundle, is_held, FitsTogether}
 use Rattle.laws_sound.specs.Orderly.{weigh}
 use Rattle.laws_sound.proofs.Counting.{holds, weigh_map, weigh_filter}
-use Rattle.laws_sound.proofs.Crews.{change_numbers, change_length}
 use Rattle.laws_sound.proofs.Lists.{all_follow, all_from}
 use Rattle.laws_sound.proofs.Sound.{same_there, there_home}
-use Rattle.laws_queue.proofs.Numbers.{numbered_change}
 
 -- a live number names the bundle
 abbrev pub names_it : ℕ → Entry Thing → Bool
@@ -111,11 +108,6 @@ module _ {V : Type 0} where
     kinds = f.kinds;
     held = all_follow (is_held w) (is_held (record w { coroutines = ds })) w.handles.entries (λ x g. ap (λ b. b && if_some (bundle_of x.thing) true (has_bundle w x.owner)) (there_same w.coroutines ds x.owner e) ∙ g) f.held;
   }
-
-  pub fits_set : (w : World V) (who : ℕ) (mode : Mode) → FitsTogether w → FitsTogether (set_mode w who mode)
-  fits_set w who mode f =
-      fits_crew w (change (is_coroutine who) (with_mode mode) w.coroutines) (change_numbers (with_mode mode) (λ c. refl) who w.coroutines)
-      (numbered_change (is_coroutine who) (with_mode mode) w.coroutines 0 w.last_coroutine (λ c. refl) f.numbered) (change_length (with_mode mode) (λ c. refl) who w.coroutines) f
 
   -- numbers are kept for an answer
   pub fits_keep : (w : World V) (count : ℕ) → length w.handles.entries + w.handles.kept + count ≤ 65536 → FitsTogether w → FitsTogether (record w { handles = handles.keep w.handles count })

@@ -25,7 +25,7 @@ use Rattle.dill_rules.specs.declared.coroutine.Mode.{Mode}
 use Rattle.dill_rules.specs.declared.coroutine.Mode.TheVariants as modes
 use Rattle.dill_rules.specs.declared.thing.Thing.{Thing}
 use Rattle.dill_rules.specs.declared.thing.Thing.TheVariants as things
-use Rattle.dill_rules.specs.World.{World, is_coroutine, coroutine_of, with_mode, reply, pend, begin, pending_call, is_ending}
+use Rattle.dill_rules.specs.World.{World, is_coroutine, coroutine_of, with_mode, reply, pend, begin, is_ending}
 use Rattle.dill_rules.specs.Naming.{gifts, chosen}
 use Rattle.std.specs.Option.{option_to_list}
 use Rattle.dill_rules.specs.Kinds.{kind_needed, kind_of, is_of_kind, is_dead, names_dead, has_top, is_other_kind, is_other_top}
@@ -238,9 +238,6 @@ module _ {V : Type 0} where
     mode = h.mode;
     spare = let same = ap (weigh kept_by) d.coroutines in let l = h.spare in let s = d.spent in omega (arith, same, l, s);
   }
-
-  running_kept : (c : Coroutine V) → c.mode ≡ modes.Running → kept_by c ≡ 0
-  running_kept c e = ap (λ m. if_some (pending_call m) 0 (λ k. bit (gives_number (word_of k)))) e
 
   pub there : (w : World V) (who : ℕ) {n : ℕ} → Makes w who n → is_there w who ≡ true
   there w who h = ap is_some h.found
