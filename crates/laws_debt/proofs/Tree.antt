@@ -16,7 +16,7 @@ use Rattle.dill_handles.specs.declared.entry.Entry.{Entry}
 use Rattle.dill_scope.specs.declared.forest.Bundle.{Bundle}
 use Rattle.dill_scope.specs.declared.forest.Home.{Home}
 use Rattle.dill_scope.specs.Scopes as scopes
-use Rattle.dill_scope.specs.Scopes.{Scopes, is_bundle, home_of, owner_of, is_inside}
+use Rattle.dill_scope.specs.Scopes.{Scopes, is_bundle, owner_of, is_inside}
 use Rattle.dill_scope.specs.Forest.{Inside, lives, under, Rooted, at_root, below, IsForest}
 use Rattle.dill_scope.specs.Keeping.{IsThere}
 use Rattle.dill_scope.proofs.Carrying.{parent_told}

@@ -7,7 +7,7 @@ use Rattle.dill_handles.specs.Handles as handles
 use Rattle.dill_base.specs.Maps.{if_some}
 use Rattle.dill_stack.specs.Interface.{attach}
 use Rattle.dill_rules.specs.World.{World}
-use Rattle.dill_rules.specs.Links.{Link, with_stack, as_closing}
+use Rattle.dill_rules.specs.Links.{as_closing}
 use Rattle.dill_rules.specs.Links as link
 use Rattle.dill_rules.specs.Owning.{entry_of, take_thing, take, move, release}
 use Rattle.dill_rules.specs.Naming.{end_of_clause}

@@ -29,10 +29,6 @@ find_append pick (x ∷ xs) ys c e = at (pick x) e (find_append pick xs ys c)
     at false f rest = rest f
 
 module _ {V : Type 0} where
-  numbered_le : (cs : List (Coroutine V)) (low high : ℕ) → Numbered low cs high → low ≤ high
-  numbered_le [] low high h = h
-  numbered_le (c ∷ cs) low high h = let r = numbered_le cs c.number high h.1 in omega (arith, h.0, r)
-
   -- a bound below
   pub numbered_from : (cs : List (Coroutine V)) (low less high : ℕ) → less ≤ low → Numbered low cs high → Numbered less cs high
   numbered_from [] low less high e h = omega (arith, e, h)

@@ -12,7 +12,6 @@ use Rattle.dill_calls.specs.declared.ran.LackPlace.{LackPlace}
 use Rattle.dill_calls.specs.Program.{Program, Move, Calls, Ends}
 use Rattle.dill_chan.specs.declared.end.Wait.{Wait}
 use Rattle.dill_chan.specs.declared.end.Want.TheVariants.{Send}
-use Rattle.dill_chan.specs.Channels.{Channels}
 use Rattle.dill_chan.specs.Channels as channels
 use Rattle.dill_chan.specs.Meetings.{has_ended}
 use Rattle.dill_base.specs.Maps.{if_some, change}

@@ -20,7 +20,7 @@ use Rattle.dill_handles.specs.Handles as handles
 use Rattle.dill_handles.specs.declared.entry.Entry.{Entry}
 use Rattle.dill_scope.specs.declared.forest.Home.{Home}
 use Rattle.dill_scope.specs.Scopes as scopes
-use Rattle.dill_scope.specs.Scopes.{Scopes, owner_of, is_inside}
+use Rattle.dill_scope.specs.Scopes.{owner_of, is_inside}
 use Rattle.dill_scope.specs.Forest.{Inside}
 use Rattle.dill_scope.specs.Keeping.{IsKnown, LivesInside}
 use Rattle.dill_scope.proofs.Chains.{search_is_inside}

@@ -12,7 +12,6 @@ use Rattle.dill_handles.specs.Handles as handles
 use Rattle.dill_handles.specs.declared.entry.Entry.{Entry}
 use Rattle.dill_scope.specs.declared.forest.Home.{Home}
 use Rattle.dill_scope.specs.Scopes as scopes
-use Rattle.dill_scope.specs.Scopes.{Scopes, owner_of}
 use Rattle.dill_scope.specs.Keeping.{IsThere, IsNewCoroutine}
 use Rattle.dill_scope.proofs.Carrying.{some_is}
 use Rattle.dill_base.specs.Maps.{if_some}

@@ -9,7 +9,7 @@ use Rattle.dill_handles.specs.Handles as handles
 use Rattle.dill_handles.specs.declared.entry.Entry.{Entry}
 use Rattle.dill_scope.specs.declared.forest.Bundle.{Bundle}
 use Rattle.dill_scope.specs.Scopes as scopes
-use Rattle.dill_scope.specs.Scopes.{Scopes, owner_of}
+use Rattle.dill_scope.specs.Scopes.{owner_of}
 use Rattle.dill_scope.proofs.Growing.{bundle_keeps}
 use Rattle.dill_base.specs.Maps.{if_some, without}
 use Rattle.dill_rules.specs.declared.coroutine.Closing.{Closing}

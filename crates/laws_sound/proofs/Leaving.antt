@@ -7,7 +7,7 @@ use Rattle.dill_calls.specs.declared.ran.Note.TheVariants.{Freed}
 use Rattle.dill_handles.specs.Handles as handles
 use Rattle.dill_handles.specs.declared.entry.Entry.{Entry}
 use Rattle.dill_scope.specs.Scopes as scopes
-use Rattle.dill_scope.specs.Scopes.{Scopes, owner_of}
+use Rattle.dill_scope.specs.Scopes.{owner_of}
 use Rattle.dill_scope.specs.Keeping.{IsKnown}
 use Rattle.dill_scope.proofs.Numbered.{find_without_other}
 use Rattle.dill_base.specs.Maps.{if_some, without}

@@ -8,7 +8,7 @@ use Rattle.dill_handles.specs.Handles as handles
 use Rattle.dill_handles.specs.declared.entry.Entry.{Entry}
 use Rattle.dill_scope.specs.declared.forest.Bundle.{Bundle}
 use Rattle.dill_scope.specs.Scopes as scopes
-use Rattle.dill_scope.specs.Scopes.{Scopes, is_bundle, owner_of, is_empty}
+use Rattle.dill_scope.specs.Scopes.{is_bundle, owner_of, is_empty}
 use Rattle.dill_scope.specs.Forest.{Inside}
 use Rattle.dill_scope.proofs.Leaving.{drop_keeps}
 use Rattle.dill_scope.proofs.Numbered.{found_number}

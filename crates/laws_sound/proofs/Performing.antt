@@ -18,11 +18,9 @@ use Rattle.dill_chan.specs.declared.end.Wait.{Wait}
 use Rattle.dill_chan.specs.declared.meeting.Meeting.{Meeting}
 use Rattle.dill_chan.specs.declared.meeting.Meeting.TheVariants as meetings
 use Rattle.dill_chan.specs.declared.meeting.Met.{Met}
-use Rattle.dill_chan.specs.Channels.{Channels}
 use Rattle.dill_chan.specs.Channels as channels
 use Rattle.dill_chan.specs.Meetings.{has_ended, can_meet, partner, met, meeting}
 use Rattle.dill_handles.specs.Handles as handles
-use Rattle.dill_handles.specs.Handles.{Handles}
 use Rattle.dill_handles.specs.declared.entry.Entry.{Entry}
 use Rattle.dill_scope.proofs.Numbered.{find_without_other}
 use Rattle.dill_scope.specs.Forest.{Inside}

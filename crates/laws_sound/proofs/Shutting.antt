@@ -8,7 +8,7 @@ use Rattle.dill_calls.specs.declared.call.Call.TheVariants as calls
 use Rattle.dill_calls.specs.declared.ran.Note.TheVariants.{Freed}
 use Rattle.dill_handles.specs.declared.entry.Entry.{Entry}
 use Rattle.dill_scope.specs.Scopes as scopes
-use Rattle.dill_scope.specs.Scopes.{Scopes, owner_of, is_empty}
+use Rattle.dill_scope.specs.Scopes.{owner_of, is_empty}
 use Rattle.dill_scope.specs.Forest.{Inside}
 use Rattle.dill_scope.proofs.Numbered.{found_number}
 use Rattle.dill_base.specs.Maps.{if_some, without}

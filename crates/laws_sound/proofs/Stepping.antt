@@ -11,7 +11,6 @@ use Rattle.dill_calls.specs.Program.{Program, IsLawful}
 use Rattle.dill_kernel.specs.declared.ready.Ready.{Ready}
 use Rattle.dill_scope.specs.declared.forest.Bundle.{Bundle}
 use Rattle.dill_scope.specs.Scopes as scopes
-use Rattle.dill_scope.specs.Scopes.{opening_scopes, owner_of}
 use Rattle.dill_scope.proofs.Growing.{opening_is_forest}
 use Rattle.dill_base.specs.Maps.{if_some, change}
 use Rattle.dill_rules.specs.declared.coroutine.Coroutine.{Coroutine}
