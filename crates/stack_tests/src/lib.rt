@@ -1,0 +1,9 @@
+//! Tests of stacks alone, without the machine above them. This crate holds nothing else.
+#![tactic(auto)]
+
+#[cfg(test)]
+mod counting;
+#[cfg(test)]
+mod leaving;
+#[cfg(test)]
+mod messages;
