@@ -81,6 +81,14 @@ seat s who = record s { seats = s.seats ++ who ∷ [] }
 abbrev pub unseat : Seated → ℕ → Seated
 unseat s who = record s { seats = filter (λ other. not (other == who)) s.seats }
 
+-- there is room for the clauses of a coroutine: it has a seat, and waits nowhere
+abbrev pub has_room_for : Seated → ℕ → Bool
+has_room_for s who = has_seat s who && not (is_waiting s.channels who)
+
+-- a coroutine has no seat any more, if it waits nowhere
+abbrev pub rise : Seated → ℕ → Seated
+rise s who = if has_room_for s who then unseat s who else s
+
 -- what a meeting leaves: who was met waits under no clause any more, and a clause that meets nobody waits behind all others
 abbrev pub left_by : Meeting → Channels → Wait → Channels
 left_by (meetings.Met x) c w = leave c x.other

@@ -1,16 +1,16 @@
 ghost use Rattle.std.specs.Prelude.{◌≡◌, ◌+◌, ◌*◌, ◌<◌, ◌≤◌, ◌==◌, [], filter, length, true, false, not, nat_lt, IfOk, IfSome, OnOk, OnErr, vec_capacity, vec_len};
 ghost use Rattle.std.specs.List.{list_all};
-ghost use Rattle.dill_slots.specs.Pairs.{each_pair};
+ghost use Rattle.dill_slots.specs.Pairs.{each_pair, has};
 ghost use Rattle.dill_chan.specs.Channels as channels;
 ghost use Rattle.dill_chan.specs.Channels.{is_live, next_ends};
 ghost use Rattle.dill_chan.specs.Meetings as meetings;
 ghost use Rattle.dill_chan.specs.Meetings.{meeting, has_ended, next_ended};
 ghost use Rattle.dill_chan.specs.declared.end.Want.TheVariants.{Send, Recv};
 ghost use Rattle.dill_chan.specs.Seats as seats;
-ghost use Rattle.dill_chan.specs.Seats.{nobody, has_seat, is_above_all, is_waiting, waits_under, are_two_waits, may_wait, entered, channels_of, on_channels, most_seats, most_clauses};
+ghost use Rattle.dill_chan.specs.Seats.{nobody, has_seat, has_room_for, is_above_all, is_waiting, waits_under, are_two_waits, may_wait, entered, channels_of, on_channels, most_seats, most_clauses};
 
 use crate::ends::{find_end, has_ended, mark_done, remove_end, send_has_ended};
-use crate::waits::{leave, meet, next_ended, take_partner};
+use crate::waits::{is_waiting, leave, meet, next_ended, take_partner};
 use crate::{End, Meeting, Wait, Want};
 use dill_base::{NoMemory, Octets};
 use dill_slots::Steps;
@@ -70,6 +70,87 @@ fn stand_up(seats: &mut Vec<u64>, who: u64)
     ensures { seats.new.items ≡ filter (λ other. not (other == who)) seats.old.items }
 {
     seats.retain(|other| *other != who);
+}
+
+/// Whether all of these are below a number.
+fn are_below(seats: &[u64], who: u64) -> bool
+    ensures { result ≡ list_all (λ other. nat_lt other who) seats.now }
+{
+    seats.iter().all(|other| *other < who)
+}
+
+/// Whether a coroutine is among these.
+fn is_among(seats: &[u64], who: u64) -> bool
+    ensures { result ≡ has seats.now who }
+{
+    seats.iter().any(|other| *other == who)
+}
+
+/// What the machine asks for, without a count of looks. Any end may be named: where it isn't live, a clause there has its end.
+impl Channels {
+    /// Whether there is room for the clauses of a coroutine: it has a seat, and waits nowhere.
+    pub fn has_room_for(&self, who: u64) -> bool
+        ensures { result ≡ has_room_for self.now who }
+    {
+        is_among(self.seats.as_slice(), who) && !is_waiting(self.waits.as_slice(), who)
+    }
+
+    /// A coroutine has a seat, if it can have one. Refused, it changes nothing.
+    pub fn sit(&mut self, who: u64) -> Result<(), NoMemory>
+        ensures ok { OnOk result (self.new ≡ seats.seat self.old who) }
+        ensures err { OnErr result (self.new ≡ self.old) }
+    {
+        if !are_below(self.seats.as_slice(), who) || 65_536 <= self.seats.len() {
+            return Err(NoMemory);
+        }
+        self.seat(who)
+    }
+
+    /// A coroutine has no seat any more, if it had one and waits nowhere.
+    pub fn rise(&mut self, who: u64)
+        ensures { self.new ≡ seats.rise self.old who }
+    {
+        if self.has_room_for(who) {
+            self.unseat(who);
+        }
+    }
+
+    /// A coroutine enters a clause. What is wanted goes to whom it meets, or waits. Who is met waits under no clause any more.
+    pub fn enter(&mut self, wait: Wait) -> Meeting
+        requires seat { has_seat self.old wait.who ≡ true }
+        requires clause { wait.clause < most_clauses }
+        requires new { waits_under self.old.channels wait.who wait.clause ≡ false }
+        ensures met { result ≡ meeting self.old.channels wait.who wait.end wait.want }
+        ensures left { self.new ≡ on_channels (λ c. entered c wait) self.old }
+    {
+        enter(self.ends.as_slice(), &mut self.waits, wait)
+    }
+
+    /// A coroutine waits under no clause any more.
+    pub fn forget(&mut self, who: u64)
+        ensures { self.new ≡ on_channels (λ c. channels.leave c who) self.old }
+    {
+        leave(&mut self.waits, who);
+    }
+
+    /// The sending direction of an end is done. False, where it was done or an end is gone; then it changes nothing.
+    pub fn finish(&mut self, end: u64) -> bool
+        ensures done { result ≡ not (has_ended self.old.channels end (Send [])) }
+        ensures left { self.new ≡ on_channels (λ c. seats.done_unless_ended c end) self.old }
+    {
+        if send_has_ended(self.ends.as_slice(), end) {
+            return false;
+        }
+        mark_done(&mut self.ends, end);
+        true
+    }
+
+    /// An end is gone. Who waits there waits on until it leaves.
+    pub fn remove(&mut self, end: u64)
+        ensures { self.new ≡ on_channels (λ c. channels.drop_end c end) self.old }
+    {
+        remove_end(&mut self.ends, end);
+    }
 }
 
 impl Channels {
@@ -173,16 +254,12 @@ impl Channels {
     {
         steps.tick();
         let want = Want::Send(bytes);
-        enter(
-            self.ends.as_slice(),
-            &mut self.waits,
-            Wait {
-                who,
-                clause,
-                end,
-                want,
-            },
-        )
+        self.enter(Wait {
+            who,
+            clause,
+            end,
+            want,
+        })
     }
 
     /// A coroutine with a seat enters a clause that receives an item of so many bytes at a live end (`chrecv`), under which it
@@ -206,16 +283,12 @@ impl Channels {
     {
         steps.tick();
         let want = Want::Recv(size as u64);
-        enter(
-            self.ends.as_slice(),
-            &mut self.waits,
-            Wait {
-                who,
-                clause,
-                end,
-                want,
-            },
-        )
+        self.enter(Wait {
+            who,
+            clause,
+            end,
+            want,
+        })
     }
 
     /// A coroutine with a seat waits under no clause any more: it is answered, or gives up.
@@ -225,7 +298,7 @@ impl Channels {
         ensures counted { steps.old < steps.new }
     {
         steps.tick();
-        leave(&mut self.waits, who);
+        self.forget(who);
     }
 
     /// The sending direction of a live end is done (`chdone`). False is EPIPE: it was done, or the other end is gone; then it changes
@@ -237,11 +310,7 @@ impl Channels {
         ensures counted { steps.old < steps.new }
     {
         steps.tick();
-        if send_has_ended(self.ends.as_slice(), end) {
-            return false;
-        }
-        mark_done(&mut self.ends, end);
-        true
+        self.finish(end)
     }
 
     /// The least waiter above a number that has its end (EPIPE), with the least of its clauses that has it.
@@ -261,6 +330,6 @@ impl Channels {
         ensures counted { steps.old < steps.new }
     {
         steps.tick();
-        remove_end(&mut self.ends, end);
+        self.remove(end);
     }
 }

@@ -1,10 +1,10 @@
 ghost use Rattle.std.specs.Prelude.{◌≡◌, ◌<◌, ◌≤◌, IfSome, Some, filter, find, length, not, vec_capacity};
-ghost use Rattle.std.specs.List.{position_from};
+ghost use Rattle.std.specs.List.{list_any, position_from};
 ghost use Rattle.dill_base.specs.Maps.{if_some};
 ghost use Rattle.dill_chan.specs.Meetings as meetings;
 ghost use Rattle.dill_chan.specs.Meetings.{answers, answers_of, is_opposite};
 ghost use Rattle.dill_chan.specs.Seats as seats;
-ghost use Rattle.dill_chan.specs.Seats.{of_ends, could_meet, is_others, closer, ended_in};
+ghost use Rattle.dill_chan.specs.Seats.{of_ends, is_of, could_meet, is_others, closer, ended_in};
 
 use crate::ends::{find_end, has_ended};
 use crate::{End, Met, Wait, Want};
@@ -39,6 +39,13 @@ fn place_of_partner(waits: &[Wait], who: u64, other: u64, want: &Want) -> Option
     ensures within { IfSome result (λ at. at < length waits.now) }
 {
     waits.iter().position(|x| can_meet(who, other, want, x))
+}
+
+/// Whether a coroutine waits under some clause.
+pub(crate) fn is_waiting(waits: &[Wait], who: u64) -> bool
+    ensures { result ≡ list_any (is_of who) waits.now }
+{
+    waits.iter().any(|x| x.who == who)
 }
 
 /// A coroutine waits under no clause any more.
