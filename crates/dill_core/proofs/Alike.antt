@@ -2,8 +2,7 @@
 use Rattle.std.proofs.Common.{◌≡◌, ◌∙◌, ℕ, List, [], sym, ap, subst}
 use Rattle.rand_core.specs.Stream.{Stream}
 use Rattle.dill_calls.specs.Program.{Program, Begins}
-use Rattle.dill_chan.specs.Channels.{Channels}
-use Rattle.dill_rules.specs.Links.{Links, no_links}
+use Rattle.dill_rules.specs.Links.{Links}
 use Rattle.dill_rules.specs.Seen.{turn_seen}
 use Rattle.dill_rules.specs.State.{State, opening_state, expired, shut, woke}
 use Rattle.dill_rules.specs.World.{World, Place, at_start}
@@ -24,12 +23,11 @@ module _ {V : Type 0} where
   -- a plain world without random numbers is stored whole
   stored_world : (w : World V) → IsPlain w → w.random ≡ no_random → world_of (store_of w) ≡ w
   stored_world w plain random =
-      let made : Channels → Links → Place → List ℕ → Stream → World V = λ c l p o u. record w { channels = c; links = l; place = p; wrote = o; random = u } in
-      ap (λ c. made c no_links at_start [] no_random) (sym plain.channels)
-      ∙ ap (λ l. made w.channels l at_start [] no_random) (sym plain.links)
-      ∙ ap (λ p. made w.channels w.links p [] no_random) (sym plain.place)
-      ∙ ap (λ o. made w.channels w.links w.place o no_random) (sym plain.wrote)
-      ∙ ap (λ u. made w.channels w.links w.place w.wrote u) (sym random)
+      let made : Links → Place → List ℕ → Stream → World V = λ l p o u. record w { links = l; place = p; wrote = o; random = u } in
+      ap (λ l. made l at_start [] no_random) (sym plain.links)
+      ∙ ap (λ p. made w.links p [] no_random) (sym plain.place)
+      ∙ ap (λ o. made w.links w.place o no_random) (sym plain.wrote)
+      ∙ ap (λ u. made w.links w.place w.wrote u) (sym random)
 
 module _ {V : Type 0} (p : Program V) where
   -- a core stands for the state for which what it keeps does

@@ -1,15 +1,13 @@
 -- Passed deadlines, one after the other.
-use Rattle.std.proofs.Common.{◌≡◌, ◌∙◌, ℕ, List, [], ◌∷◌, map, filter_map, ◌&&◌, Bool, true, false, Option, Some, None, IfSome, if◌then◌else◌, nat_le, refl, ap}
+use Rattle.std.proofs.Common.{◌≡◌, ◌∙◌, ℕ, List, [], ◌∷◌, map, filter_map, Bool, true, Option, Some, None, IfSome, if◌then◌else◌, nat_le, refl, ap}
 use Rattle.std.proofs.lemmas.Bool.{and_parts}
 use Rattle.std.specs.List.{list_all, cons_option}
 use Rattle.dill_calls.specs.declared.call.Call.{Call}
 use Rattle.dill_base.specs.Maps.{if_some}
 use Rattle.dill_rules.specs.declared.coroutine.Coroutine.{Coroutine}
-use Rattle.dill_rules.specs.declared.coroutine.Mode.{Mode}
-use Rattle.dill_rules.specs.declared.coroutine.Mode.TheVariants as modes
 use Rattle.dill_rules.specs.Expiring.{Timer, due_of, in_order, passed, expire_one}
-use Rattle.dill_rules.specs.State.{lined_mode, lined}
-use Rattle.dill_rules.specs.World.{World, pending_call}
+use Rattle.dill_rules.specs.State.{lined}
+use Rattle.dill_rules.specs.World.{World}
 use Rattle.laws_queue.specs.Well.{Numbered}
 use Rattle.dill_world.specs.Store.{Store, world_of}
 use Rattle.dill_steps.specs.Timing.{first_of, late_timer, Rises}

@@ -2,9 +2,8 @@
 use Rattle.std.proofs.Common.{◌≡◌, ◌∙◌, ℕ, ◌+◌, ◌≤◌, List, [], ◌∷◌, ◌++◌, length, map, get_or, Bool, true, false, refl, sym, ap, subst, arith}
 use Rattle.std.specs.List.{remove}
 use Rattle.dill_calls.specs.Program.{Program}
-use Rattle.dill_scope.specs.Scopes as scopes
 use Rattle.dill_rules.specs.State.{lined, fresh}
-use Rattle.dill_rules.specs.World.{World, begin, from_start, opening}
+use Rattle.dill_rules.specs.World.{World, opening}
 use Rattle.laws_queue.specs.Kept.{root_closed, Kept, opening_kept, queued, has_answer}
 use Rattle.laws_queue.specs.Laws.{HasPlaces}
 use Rattle.laws_queue.specs.Lending.{no_random}

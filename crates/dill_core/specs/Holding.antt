@@ -24,6 +24,7 @@ module _ {V : Type 0} where
     handles = w.handles;
     scopes = w.scopes;
     closings = w.closings;
+    channels = w.channels;
     moment = w.moment;
     last_coroutine = w.last_coroutine;
     last_bundle = w.last_bundle;

@@ -3,17 +3,19 @@ use Rattle.std.proofs.Common.{◌≡◌, ◌∙◌, ℕ, suc, ◌+◌, ◌≤◌
 use Rattle.std.proofs.lemmas.List.{append-nil, reverse-append}
 use Rattle.dill_calls.specs.declared.ran.Note.{Note}
 use Rattle.dill_calls.specs.declared.ran.Note.TheVariants.{Freed}
+use Rattle.dill_chan.specs.Channels.{Channels, drop_end}
 use Rattle.dill_handles.specs.Handles as handles
 use Rattle.dill_handles.specs.Handles.{Handles}
 use Rattle.dill_handles.specs.declared.entry.Entry.{Entry}
 use Rattle.dill_base.specs.Maps.{if_some, without}
 use Rattle.dill_rules.specs.declared.thing.Thing.{Thing}
 use Rattle.dill_rules.specs.declared.thing.Thing.TheVariants as things
+use Rattle.dill_rules.specs.Answers.{end_of}
 use Rattle.dill_rules.specs.World.{note}
 use Rattle.dill_rules.specs.Owning.{drop, release}
 use Rattle.dill_rules.specs.Settling.{release_all}
 use Rattle.dill_world.specs.Store.{Store, world_of}
-use Rattle.dill_world.specs.Releases.{freed, owned_number, falling, retire_all, retire_noted}
+use Rattle.dill_world.specs.Releases.{freed, owned_number, falling, retire_all, retire_noted, drop_named, drop_all, drop_noted}
 use Rattle.dill_world.proofs.Closing.{bit, times, numbers, without_times, without_length, itself}
 
 times_append : (k : ℕ) (ms ns : List ℕ) → times k (ms ++ ns) ≡ times k ms + times k ns
@@ -51,6 +53,10 @@ pub noted_freed : (ns : List ℕ) (h : Handles Thing) → retire_noted h (freed 
 noted_freed [] h = refl
 noted_freed (n ∷ ns) h = noted_freed ns (handles.retire h n)
 
+pub noted_dropped : (ns : List ℕ) (h : Handles Thing) (c : Channels) → drop_noted h c (freed ns) ≡ drop_all h c ns
+noted_dropped [] h c = refl
+noted_dropped (n ∷ ns) h c = noted_dropped ns (handles.retire h n) (drop_named h c n)
+
 found_at : (n : ℕ) (e : Entry Thing) (es : List (Entry Thing)) (b : Bool) → (e.number == n) ≡ b → 1 ≤ bit b + times n (numbers es) → (1 ≤ times n (numbers es) → (x : Entry Thing) × (find (handles.is_entry n) es ≡ Some x)) → (x : Entry Thing) × (cond b (Some e) (find (handles.is_entry n) es) ≡ Some x)
 found_at n e es true t h again = (e, refl)
 found_at n e es false t h again = again (omega (arith, h))
@@ -60,27 +66,28 @@ found n [] h = absurd (omega (arith, h))
 found n (e ∷ es) h = found_at n e es (e.number == n) refl h (found n es)
 
 module _ {V : Type 0} where
-  nothing_else : (k : Store V) (thing : Thing) → drop (world_of k) thing ≡ world_of k
-  nothing_else k (things.Bundle name) = refl
-  nothing_else k (things.End end) = refl
-  nothing_else k (things.Listener link) = refl
-  nothing_else k (things.Socket link) = refl
-  nothing_else k (things.Value kind value) = refl
+  -- an end alone is more than its number
+  thing_gone : (k : Store V) (thing : Thing) → drop (world_of k) thing ≡ world_of (record k { channels = if_some (end_of thing) k.channels (drop_end k.channels) })
+  thing_gone k (things.Bundle name) = refl
+  thing_gone k (things.End end) = refl
+  thing_gone k (things.Listener link) = refl
+  thing_gone k (things.Socket link) = refl
+  thing_gone k (things.Value kind value) = refl
 
   -- a store in which these numbers have been released
   abbrev pub released : Store V → List ℕ → Store V
-  released k ns = record k { handles = retire_all k.handles ns; notes = k.notes ++ freed ns }
+  released k ns = record k { handles = retire_all k.handles ns; channels = drop_all k.handles k.channels ns; notes = k.notes ++ freed ns }
 
-  one_released : (k : Store V) (n : ℕ) (o : Option (Entry Thing)) (x : Entry Thing) → o ≡ Some x → if_some o (world_of k) (λ y. note (drop (record (world_of k) { handles = handles.retire k.handles n }) y.thing) (Freed n)) ≡ world_of (record k { handles = handles.retire k.handles n; notes = k.notes ++ Freed n ∷ [] })
+  one_released : (k : Store V) (n : ℕ) (o : Option (Entry Thing)) (x : Entry Thing) → o ≡ Some x → if_some o (world_of k) (λ y. note (drop (record (world_of k) { handles = handles.retire k.handles n }) y.thing) (Freed n)) ≡ world_of (record k { handles = handles.retire k.handles n; channels = if_some o k.channels (λ y. if_some (end_of y.thing) k.channels (drop_end k.channels)); notes = k.notes ++ Freed n ∷ [] })
   one_released k n None x e = cc
-  one_released k n (Some y) x e = ap (λ w. note w (Freed n)) (nothing_else (record k { handles = handles.retire k.handles n }) y.thing)
+  one_released k n (Some y) x e = ap (λ w. note w (Freed n)) (thing_gone (record k { handles = handles.retire k.handles n }) y.thing)
 
   pub releases : (ns : List ℕ) (k : Store V) → ((m : ℕ) → times m ns ≤ times m (numbers k.handles.entries)) → fold release (world_of k) ns ≡ world_of (released k ns)
   releases [] k within = rw (append-nil k.notes) refl
   releases (n ∷ ns) k within =
       let there : 1 ≤ times n (numbers k.handles.entries) = omega (arith, within n, itself n) in
       let less : (m : ℕ) → times m ns ≤ times m (numbers (without (handles.is_entry n) k.handles.entries)) = λ m. omega (arith, within m, without_times m n k.handles.entries there) in
-      let next : Store V = record k { handles = handles.retire k.handles n; notes = k.notes ++ Freed n ∷ [] } in
+      let next : Store V = record k { handles = handles.retire k.handles n; channels = drop_named k.handles k.channels n; notes = k.notes ++ Freed n ∷ [] } in
       let it : (x : Entry Thing) × (find (handles.is_entry n) k.handles.entries ≡ Some x) = found n k.handles.entries there in
       ap (λ w. fold release w ns) (one_released k n (find (handles.is_entry n) k.handles.entries) it.0 it.1)
       ∙ releases ns next less
@@ -103,11 +110,12 @@ falling_more who e es =
 
 module _ {V : Type 0} where
   -- what the code has of it is the world that the definition has
-  pub released_world : (who : ℕ) (k : Store V) (h : Handles Thing) (all part : List Note) → all ≡ k.notes ++ freed (falling who k.handles.entries) → part ≡ freed (falling who k.handles.entries) → h ≡ retire_noted k.handles part → world_of (record k { handles = h; notes = all }) ≡ release_all (world_of k) who
-  released_world who k h all part a p e =
+  pub released_world : (who : ℕ) (k : Store V) (h : Handles Thing) (c : Channels) (all part : List Note) → all ≡ k.notes ++ freed (falling who k.handles.entries) → part ≡ freed (falling who k.handles.entries) → h ≡ retire_noted k.handles part → c ≡ drop_noted k.handles k.channels part → world_of (record k { handles = h; channels = c; notes = all }) ≡ release_all (world_of k) who
+  released_world who k h c all part a p e f =
       let ns = falling who k.handles.entries in
       let same : h ≡ retire_all k.handles ns = e ∙ ap (retire_noted k.handles) p ∙ noted_freed ns k.handles in
-      rw (a, same) (sym (releases ns k (falling_within who k.handles.entries)))
+      let gone : c ≡ drop_all k.handles k.channels ns = f ∙ ap (drop_noted k.handles k.channels) p ∙ noted_dropped ns k.handles k.channels in
+      rw (a, same, gone) (sym (releases ns k (falling_within who k.handles.entries)))
 
 length_freed : (ns : List ℕ) → length (freed ns) ≡ length ns
 length_freed [] = refl

@@ -1,9 +1,12 @@
--- The numbers that an ending releases, and the notes of that.
+-- The numbers that an ending releases, the ends that they named, and the notes of that.
 use Rattle.std.specs.Prelude.{ℕ, List, [], ◌∷◌, map, filter, fold, reverse, if◌then◌else◌}
 use Rattle.dill_calls.specs.declared.ran.Note.{Note}
 use Rattle.dill_calls.specs.declared.ran.Note.TheVariants.{Freed}
 use Rattle.dill_handles.specs.Handles as handles
 use Rattle.dill_handles.specs.declared.entry.Entry.{Entry}
+use Rattle.dill_chan.specs.Channels.{Channels, drop_end}
+use Rattle.dill_base.specs.Maps.{if_some}
+use Rattle.dill_rules.specs.Answers.{end_of}
 use Rattle.dill_rules.specs.declared.thing.Thing.{Thing}
 
 -- the notes that these numbers were released
@@ -29,3 +32,21 @@ retire_noted_one h note = h
 
 abbrev pub retire_noted : handles.Handles Thing → List Note → handles.Handles Thing
 retire_noted h notes = fold retire_noted_one h notes
+
+-- the end that a number names is gone
+abbrev pub drop_named : handles.Handles Thing → Channels → ℕ → Channels
+drop_named h c number = if_some (handles.look h number) c (λ x. if_some (end_of x.thing) c (drop_end c))
+
+-- the ends that these numbers name, which die one after the other, are gone
+abbrev pub drop_all : handles.Handles Thing → Channels → List ℕ → Channels
+drop_all h c [] = c
+drop_all h c (n ∷ ns) = drop_all (handles.retire h n) (drop_named h c n) ns
+
+-- the end is gone that a number named that a note says was released
+abbrev pub drop_noted_one : handles.Handles Thing → Channels → Note → Channels
+drop_noted_one h c (Freed n) = drop_named h c n
+drop_noted_one h c note = c
+
+abbrev pub drop_noted : handles.Handles Thing → Channels → List Note → Channels
+drop_noted h c [] = c
+drop_noted h c (x ∷ xs) = drop_noted (retire_noted_one h x) (drop_noted_one h c x) xs

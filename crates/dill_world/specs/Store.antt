@@ -1,4 +1,4 @@
--- What is stored of a world whose calls use neither channels nor links, and the world that it is.
+-- What is stored of a world whose calls use no links, and the world that it is.
 use Rattle.std.specs.Prelude.{◌≡◌, ℕ, List, [], Bool, true, false, Option}
 use Rattle.std.specs.List.{list_all}
 use Rattle.dill_base.specs.declared.errno.Errno.{Errno}
@@ -9,7 +9,7 @@ use Rattle.dill_calls.specs.declared.call.Call.TheVariants as calls
 use Rattle.dill_calls.specs.declared.ran.Note.{Note}
 use Rattle.dill_handles.specs.Handles.{Handles}
 use Rattle.dill_scope.specs.Scopes.{Scopes}
-use Rattle.dill_chan.specs.Channels.{no_channels}
+use Rattle.dill_chan.specs.Channels.{Channels}
 use Rattle.rand_core.specs.Stream.{Stream}
 use Rattle.dill_rules.specs.Links.{no_links}
 use Rattle.dill_rules.specs.World.{World, at_start}
@@ -23,26 +23,27 @@ use Rattle.dill_rules.specs.declared.thing.Thing.{Thing}
 abbrev pub no_random : Stream
 no_random = record { u32_after = λ cs. 0; u64_after = λ cs. 0; bytes_after = λ cs n. [] }
 
--- all of a world but its channels and its links
+-- all of a world but its links
 pub record Store (V : Type 0) : Type 0 where
   pub coroutines : List (Coroutine V)
   pub handles : Handles Thing
   pub scopes : Scopes
   pub closings : List Closing
+  pub channels : Channels
   pub moment : ℕ
   pub last_coroutine : ℕ
   pub last_bundle : ℕ
   pub ended : Option (Option Errno)
   pub notes : List Note
 
--- the world that has no channels and no links
+-- the world that has no links
 abbrev pub world_of : {V : Type 0} → Store V → World V
 world_of k = record {
   coroutines = k.coroutines;
   handles = k.handles;
   scopes = k.scopes;
   closings = k.closings;
-  channels = no_channels;
+  channels = k.channels;
   links = no_links;
   place = at_start;
   wrote = [];

@@ -8,7 +8,7 @@ ghost use Rattle.dill_rules.specs.declared.coroutine.Closing.{Closing};
 ghost use Rattle.dill_world.specs.Closings.{closing_of, closings_of, retire_each, close_each};
 ghost use Rattle.dill_world.specs.Freeings.{drop_each, notes_of, is_owned_closing, others_of};
 ghost use Rattle.dill_world.specs.Gathering.{spot, gathered};
-ghost use Rattle.dill_world.specs.Releases.{freed, owned_number, falling, retire_noted_one, retire_noted};
+ghost use Rattle.dill_world.specs.Releases.{freed, owned_number, falling, retire_noted_one, retire_noted, drop_noted_one, drop_noted};
 ghost use Rattle.dill_world.specs.Steps.{left};
 ghost use Rattle.dill_world.specs.Store.{world_of};
 
@@ -17,6 +17,7 @@ use crate::taking::bundle_of;
 use crate::world::World;
 use dill_base::Errno;
 use dill_calls::Note;
+use dill_chan::Channels;
 use dill_handles::{Entry, Handles};
 use dill_rules::{Closing, Mode, Thing};
 use dill_scope::Scopes;
@@ -94,21 +95,25 @@ fn note_freed(entries: &[Entry<Thing>], who: u64, notes: &mut Vec<Note>)
     }
 }
 
-/// The number that a note says was released is dead.
-fn retire_one_noted(handles: &mut Handles<Thing>, note: Note)
-    ensures { handles.new ≡ retire_noted_one handles.old note }
+/// The number that a note says was released is dead, and the end that it named is gone.
+fn release_one_noted(handles: &mut Handles<Thing>, channels: &mut Channels, note: Note)
+    ensures handles { handles.new ≡ retire_noted_one handles.old note }
+    ensures channels { channels.new.channels ≡ drop_noted_one handles.old channels.old.channels note }
 {
     if let Note::Freed(number) = note {
-        let _ = handles.retire(number);
+        if let Some(Thing::End(end)) = handles.retire(number) {
+            channels.remove(end);
+        }
     }
 }
 
-/// The numbers that notes say were released are dead.
-fn retire_noted(handles: &mut Handles<Thing>, notes: &[Note])
-    ensures { handles.new ≡ retire_noted handles.old notes.now }
+/// The numbers that notes say were released are dead, and the ends that they named are gone.
+fn release_noted(handles: &mut Handles<Thing>, channels: &mut Channels, notes: &[Note])
+    ensures handles { handles.new ≡ retire_noted handles.old notes.now }
+    ensures channels { channels.new.channels ≡ drop_noted handles.old channels.old.channels notes.now }
 {
     for note in notes {
-        retire_one_noted(handles, *note);
+        release_one_noted(handles, channels, *note);
     }
 }
 
@@ -203,7 +208,7 @@ impl<B: Drop> World<B> {
     {
         let first = self.notes.as_slice().len();
         note_freed(self.handles.as_slice(), who, &mut self.notes);
-        retire_noted(&mut self.handles, &self.notes[first..]);
+        release_noted(&mut self.handles, &mut self.channels, &self.notes[first..]);
     }
 
     /// The bundles of a coroutine begin to close.

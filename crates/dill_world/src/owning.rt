@@ -15,6 +15,7 @@ use crate::rows::drop_closing;
 use crate::world::World;
 use dill_base::NoMemory;
 use dill_calls::{Answer, Arg, Call, Note, Word};
+use dill_chan::Channels;
 use dill_rules::{Closing, Coroutine, Mode, Thing};
 
 /// A coroutine that is about to start.
@@ -26,6 +27,16 @@ fn born<B>(number: u64, body: B) -> Coroutine<B>
         body,
         mode: Mode::Fresh(Word::Start, Answer::Number(0)),
     }
+}
+
+/// A coroutine that is about to be there has room for its clauses at channels.
+fn seat(channels: &mut Channels, number: u64) -> Result<(), NoMemory>
+    ensures { channels.new.channels ≡ channels.old.channels }
+{
+    if channels.has_room_for(number) {
+        return Ok(());
+    }
+    channels.sit(number)
 }
 
 impl<B: Drop> World<B> {
@@ -91,6 +102,7 @@ impl<B: Drop> World<B> {
         if self.coroutines.reserve(1).is_err() {
             return Err(NoMemory);
         }
+        seat(&mut self.channels, number)?;
         self.scopes.enter(home, number)?;
         let _ = self.coroutines.push(born(number, body));
         self.last_coroutine = number;
@@ -110,6 +122,7 @@ impl<B: Drop> World<B> {
         if self.coroutines.reserve(1).is_err() {
             return Err(NoMemory);
         }
+        seat(&mut self.channels, number)?;
         self.scopes.open(name, who, number)?;
         let _ = self.coroutines.push(born(number, body));
         let _ = self.handles.make(Thing::Bundle(name), who);
@@ -153,12 +166,22 @@ impl<B: Drop> World<B> {
         }
     }
 
+    /// What becomes of a thing that is released: an end of a channel is gone.
+    fn drop_thing(&mut self, thing: Thing)
+        ensures { world_of self.new ≡ owning.drop (world_of self.old) thing }
+    {
+        if let Thing::End(end) = thing {
+            self.channels.remove(end);
+        }
+    }
+
     /// A number is dead, and its thing is gone. Of a dead number it changes nothing.
     pub fn release(&mut self, number: u64)
         ensures { world_of self.new ≡ owning.release (world_of self.old) number }
     {
-        if let Some(_) = self.handles.retire(number) {
+        if let Some(thing) = self.handles.retire(number) {
             self.notes.push_reserved(Note::Freed(number));
+            self.drop_thing(thing);
         }
     }
 

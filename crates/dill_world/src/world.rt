@@ -9,6 +9,7 @@ ghost use Rattle.dill_world.specs.Steps.{left, RunsOn, Resumed};
 use crate::rows::{drop_coroutine, place_of, put_mode};
 use dill_base::{Errno, NoMemory};
 use dill_calls::{Answer, Body, Call, Next, Note, Word};
+use dill_chan::Channels;
 use dill_handles::Handles;
 use dill_rules::{Closing, Coroutine, Mode, Thing};
 use dill_scope::Scopes;
@@ -16,7 +17,8 @@ use std::alloc::Global;
 use std::marker::Model;
 
 /// All that a machine keeps but the order of the answers: the coroutines and the bundles that are closing in the order in
-/// which they came, the notes of this step, the moment in milliseconds, and how the program of `main` ended once it has.
+/// which they came, the channels and who waits at them, the notes of this step, the moment in milliseconds, and how the program of
+/// `main` ended once it has.
 /// There is room for each note that the step can still take, and for each closing.
 #[derive(Drop)]
 pub struct World<B> {
@@ -24,6 +26,7 @@ pub struct World<B> {
     pub(crate) handles: Handles<Thing>,
     pub(crate) scopes: Scopes,
     pub(crate) closings: Vec<Closing>,
+    pub(crate) channels: Channels,
     pub(crate) moment: u64,
     pub(crate) last_coroutine: u64,
     pub(crate) last_bundle: u64,
@@ -37,7 +40,7 @@ impl<B> Model for World<B> {
 
     ghost Value = { Store B };
 
-    ghost view = { λ w. record { coroutines = w.coroutines.items; handles = w.handles; scopes = w.scopes; closings = w.closings.items; moment = w.moment; last_coroutine = w.last_coroutine; last_bundle = w.last_bundle; ended = w.ended; notes = w.notes.items } };
+    ghost view = { λ w. record { coroutines = w.coroutines.items; handles = w.handles; scopes = w.scopes; closings = w.closings.items; channels = w.channels.channels; moment = w.moment; last_coroutine = w.last_coroutine; last_bundle = w.last_bundle; ended = w.ended; notes = w.notes.items } };
 
     ghost invariant = { λ w. (length w.notes.items + (length w.handles.entries + w.handles.kept + length w.closings.items) ≤ vec_capacity w.notes) × (length w.closings.items + (length w.handles.entries + w.handles.kept) ≤ vec_capacity w.closings) × (w.last_bundle ≤ w.handles.last) × ArePlain w.coroutines.items };
 }
@@ -96,11 +99,14 @@ impl<B> World<B> {
         if coroutines.push(first).is_err() {
             return Err(NoMemory);
         }
+        let mut channels = Channels::new(alloc);
+        channels.sit(1)?;
         Ok(World {
             coroutines,
             handles: Handles::new(alloc),
             scopes,
             closings: Vec::new(alloc),
+            channels,
             moment: 0,
             last_coroutine: 1,
             last_bundle: 0,
@@ -208,12 +214,13 @@ impl<B: Drop> World<B> {
         put_mode(&mut self.coroutines, who, mode);
     }
 
-    /// A coroutine is answered.
+    /// A coroutine is answered, and waits at no channel any more.
     pub fn reply(&mut self, who: u64, word: Word, answer: Answer)
         requires { is_short_answer answer ≡ true }
         ensures { world_of self.new ≡ worlds.reply (world_of self.old) who word answer }
     {
         self.set_mode(who, Mode::Fresh(word, answer));
+        self.channels.forget(who);
     }
 
     /// A coroutine waits for its answer.
@@ -230,6 +237,7 @@ impl<B: Drop> World<B> {
     {
         drop_coroutine(&mut self.coroutines, who);
         leave_home(&mut self.scopes, who);
+        self.channels.rise(who);
         if who == 1 {
             self.ended = Some(outcome);
         }
