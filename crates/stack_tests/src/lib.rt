@@ -4,6 +4,8 @@
 #[cfg(test)]
 mod counting;
 #[cfg(test)]
+mod greeting;
+#[cfg(test)]
 mod leaving;
 #[cfg(test)]
 mod messages;

@@ -42,7 +42,7 @@ fn put(alloc: Global, stack: &mut Stack, kind: Kind) -> Result<Result<(), StackF
 }
 
 /// Looks for a message of at most so many bytes.
-fn looked(alloc: Global, stack: &mut Stack, limit: usize) -> Result<String, Fail> {
+pub fn looked(alloc: Global, stack: &mut Stack, limit: usize) -> Result<String, Fail> {
     match stack.reserve(Want::Message(limit)) {
         Ok(()) => {}
         Err(_) => return Err(Fail::from("memory")),
