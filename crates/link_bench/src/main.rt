@@ -1,15 +1,18 @@
-//! Times the parts of links, each called by hand: `link_bench KIND SIZE ROUNDS`.
+//! Times the parts of links, and messages through two stacks, each called by hand: `link_bench KIND SIZE ROUNDS`.
 //! Without arguments it does nothing. `bench/links.sh` times it.
 #![tactic(auto)]
 
+mod counting;
 mod due;
 mod echo;
+mod stacks;
 mod still;
 
 use dill_loop::LoopKernel;
 use due::times_due;
 use echo::{echoes, open};
 use relay_mio::MioKernel;
+use stacks::{Kind, messages};
 use std::alloc::Global;
 use std::env;
 use std::process::ExitCode;
@@ -50,6 +53,14 @@ fn in_memory(alloc: Global, size: u64, rounds: u64) -> ExitCode {
     status(echoes(&mut kernel, at, size, rounds), rounds)
 }
 
+/// Passes messages of `size` bytes through two stacks.
+fn through(alloc: Global, kind: Kind, size: u64, rounds: u64) -> ExitCode {
+    match messages(alloc, kind, size, rounds) {
+        Ok(went) => status(went, rounds),
+        Err(_) => ExitCode::from(3),
+    }
+}
+
 fn main(rt: HostRuntime) -> ExitCode {
     let alloc = rt.alloc();
     let Ok(args) = env::args(&rt) else {
@@ -76,6 +87,9 @@ fn main(rt: HostRuntime) -> ExitCode {
             };
             status(echoes(&mut kernel, at, size, rounds), rounds)
         }
+        "prefix" => through(alloc, Kind::Prefix, size, rounds),
+        "suffix" => through(alloc, Kind::Suffix, size, rounds),
+        "ws" => through(alloc, Kind::Ws, size, rounds),
         _ => ExitCode::from(2),
     }
 }
