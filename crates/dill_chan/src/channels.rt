@@ -9,7 +9,7 @@ ghost use Rattle.dill_chan.specs.declared.end.Want.TheVariants.{Send, Recv};
 ghost use Rattle.dill_chan.specs.Seats as seats;
 ghost use Rattle.dill_chan.specs.Seats.{nobody, has_seat, has_room_for, is_above_all, is_waiting, waits_under, are_two_waits, may_wait, entered, channels_of, on_channels, most_seats, most_clauses};
 
-use crate::ends::{find_end, has_ended, mark_done, remove_end, send_has_ended};
+use crate::ends::{find_end, has_ended, mark_done, recv_has_ended, remove_end, send_has_ended};
 use crate::waits::{is_waiting, leave, meet, next_ended, take_partner};
 use crate::{End, Meeting, Wait, Want};
 use dill_base::{NoMemory, Octets};
@@ -93,6 +93,20 @@ impl Channels {
         ensures { result ≡ has_room_for self.now who }
     {
         is_among(self.seats.as_slice(), who) && !is_waiting(self.waits.as_slice(), who)
+    }
+
+    /// Whether a send at an end has its end.
+    pub fn send_has_ended(&self, end: u64) -> bool
+        ensures { result ≡ has_ended self.now.channels end (Send []) }
+    {
+        send_has_ended(self.ends.as_slice(), end)
+    }
+
+    /// Whether a receive at an end has its end.
+    pub fn recv_has_ended(&self, end: u64) -> bool
+        ensures { result ≡ has_ended self.now.channels end (Recv 0) }
+    {
+        recv_has_ended(self.ends.as_slice(), end)
     }
 
     /// A coroutine has a seat, if it can have one. Refused, it changes nothing.

@@ -85,7 +85,7 @@ pub(crate) fn send_has_ended(ends: &[End], end: u64) -> bool
 }
 
 /// Whether a receive at this end has its end.
-fn recv_has_ended(ends: &[End], end: u64) -> bool
+pub(crate) fn recv_has_ended(ends: &[End], end: u64) -> bool
     ensures { result ≡ (is_over (of_ends ends.now) end || is_alone (of_ends ends.now) end) }
 {
     is_over(ends, end) || is_alone(ends, end)

@@ -27,11 +27,11 @@ use Rattle.dill_rules.specs.Taking.{bundle_of, bundle_named}
 use Rattle.dill_rules.specs.Naming.{gifts_of}
 use Rattle.dill_rules.specs.Effects.{make, add_bundle, next_number, told, give_all, start, close_thing}
 use Rattle.dill_rules.specs.Entering.{perform, is_too_late, late_answer, meet_deadline}
-use Rattle.dill_rules.specs.Giving.{give}
 use Rattle.dill_rules.specs.Settling.{close_owned, close_all, end, highest_first, is_owned_by, free_all, release_all}
 use Rattle.dill_rules.specs.Turning.{as_running, resume}
-use Rattle.dill_world.specs.Store.{may_wait}
 use Rattle.dill_world.specs.Steps.{left, Resumed, WentOn}
+use Rattle.dill_steps.specs.declared.settling.Asked.{Asked}
+use Rattle.dill_steps.specs.Asking.{give_asked}
 use Rattle.dill_steps.specs.Needs.{needs_memory}
 
 module _ {V : Type 0} where
@@ -118,13 +118,10 @@ module _ {V : Type 0} where
   finished w who outcome = subst (λ n. crew (left (release_all (free_all w who) who) who outcome) ≤ n) (bare w who) (gone (release_all (free_all w who) who) who outcome)
 
   -- nor does an answer
-  pub given : (w : World V) (who : ℕ) (call : Call) (answer : Answer) → may_wait call ≡ true → crew (give w who call answer) ≡ crew w
-  given w who (calls.Msleep deadline) answer e = replied w who (word_of (calls.Msleep deadline)) answer
-  given w who (calls.BundleWait number deadline) answer e = replied w who (word_of (calls.BundleWait number deadline)) answer
-  given w who (calls.Hclose number) answer e =
-      replied (if_some (find (is_dead_as number) w.closings) w (free_bundle w)) who (word_of (calls.Hclose number)) answer
-      ∙ some_same (find (is_dead_as number) w.closings) w (free_bundle w) (λ x. refl)
-  given w who _ answer e = cc
+  pub asked : (w : World V) (who : ℕ) (x : Asked) (answer : Answer) → crew (give_asked w who x answer) ≡ crew w
+  asked w who x answer =
+      replied (if_some x.closed w (λ number. if_some (find (is_dead_as number) w.closings) w (free_bundle w))) who x.word answer
+      ∙ some_same x.closed w (λ number. if_some (find (is_dead_as number) w.closings) w (free_bundle w)) (λ number. some_same (find (is_dead_as number) w.closings) w (free_bundle w) (λ y. refl))
 
   met_at : (b : Bool) (w : World V) (who : ℕ) (call : Call) → crew (if b then reply w who (word_of call) (late_answer call) else w) ≡ crew w
   met_at true w who call = replied w who (word_of call) (late_answer call)

@@ -1,3 +1,4 @@
+pub mod Asking
 pub mod Counting
 pub mod Entered
 pub mod Gifts

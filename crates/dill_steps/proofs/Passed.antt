@@ -158,6 +158,9 @@ module _ {V : Type 0} where
   given : (k : Store V) (who : ℕ) (call : Call) (answer : Answer) → may_wait call ≡ true → passed (give (world_of k) who call answer) ≡ passed_in k.moment (change (is_coroutine who) (with_mode (modes.Fresh (word_of call) answer)) k.coroutines)
   given k who (calls.Msleep deadline) answer e = refl
   given k who (calls.BundleWait number deadline) answer e = refl
+  given k who (calls.Chsend number bytes deadline) answer e = refl
+  given k who (calls.Chrecv number size deadline) answer e = refl
+  given k who (calls.Choose deadline all) answer e = refl
   given k who (calls.Hclose number) answer e = closed k who (find (is_dead_as number) k.closings) answer
   given k who _ answer e = cc
 

@@ -1,5 +1,5 @@
 -- Where all stand plainly, nobody's stack is looked at, and so to settle is to take its steps.
-use Rattle.std.proofs.Common.{◌≡◌, ◌∙◌, ℕ, zero, suc, List, [], ◌∷◌, length, fold, Bool, true, false, ◌&&◌, refl, sym, ap}
+use Rattle.std.proofs.Common.{◌≡◌, ◌∙◌, ℕ, zero, suc, List, [], ◌∷◌, length, fold, true, refl, sym, ap}
 use Rattle.std.proofs.lemmas.Bool.{and_parts}
 use Rattle.std.specs.List.{list_all}
 use Rattle.dill_calls.specs.declared.call.Call.TheVariants as calls
@@ -15,6 +15,9 @@ module _ {V : Type 0} where
   pass_mode w c (modes.Pending (calls.Msleep deadline)) e h = rw e refl
   pass_mode w c (modes.Pending (calls.Hclose number)) e h = rw e refl
   pass_mode w c (modes.Pending (calls.BundleWait number deadline)) e h = rw e refl
+  pass_mode w c (modes.Pending (calls.Chsend number bytes deadline)) e h = rw e refl
+  pass_mode w c (modes.Pending (calls.Chrecv number size deadline)) e h = rw e refl
+  pass_mode w c (modes.Pending (calls.Choose deadline all)) e h = rw e refl
   pass_mode w c (modes.Pending _) e h = cc
   pass_mode w c modes.Running e h = rw e refl
   pass_mode w c (modes.Fresh word answer) e h = rw e refl

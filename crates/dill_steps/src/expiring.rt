@@ -8,7 +8,7 @@ ghost use Rattle.dill_world.specs.Store.{world_of, may_wait};
 ghost use Rattle.dill_steps.specs.Timing.{first_of, late_timer, as_timer, sooner, sooner_by, due_at, as_pair, pair_of, PassesOneByOne};
 
 use crate::entering::late_answer;
-use crate::settling::{give, waits_in};
+use crate::settling::{asked_of, give};
 use dill_base::Deadline;
 use dill_calls::{Call, Word};
 use dill_rules::{Coroutine, Mode};
@@ -161,9 +161,10 @@ pub fn expire_one<B: Drop>(world: &mut World<B>, who: u64)
     ensures expired { world_of world.new ≡ expiring.expire_one (world_of world.old) who }
     ensures few { length world.new.coroutines ≤ length world.old.coroutines }
 {
-    if let Some(call) = waits_in(world, who) {
-        let answer = late_answer(&call);
-        give(world, who, &call, answer);
+    if let Some(call) = world.call_of(who) {
+        let asked = asked_of(call);
+        let answer = late_answer(call);
+        give(world, who, asked, answer);
     }
 }
 

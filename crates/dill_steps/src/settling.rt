@@ -1,54 +1,67 @@
 ghost use Rattle.std.specs.Prelude.{◌≡◌, ◌≤◌, length, find, option_copied, option_map, true, false, None, IfSome};
 ghost use Rattle.dill_base.specs.Maps.{first_some};
 ghost use Rattle.dill_rules.specs.World as worlds;
-ghost use Rattle.dill_rules.specs.Giving as giving;
 ghost use Rattle.dill_rules.specs.Settling as settling;
 ghost use Rattle.dill_rules.specs.Settling.{IsSettled};
+ghost use Rattle.dill_steps.specs.Asking.{closed_by, asked_of, give_asked, asked_due};
 ghost use Rattle.dill_steps.specs.Endings.{ending_of};
 ghost use Rattle.dill_world.specs.Store.{world_of, may_wait, is_plain_mode, is_plain_row, is_short_answer, ArePlain};
 
 use dill_base::Errno;
 use dill_calls::{Answer, Call, Word};
 use dill_rules::{Coroutine, Mode};
-use dill_world::{World, copy_waiting, is_ending};
+use dill_world::{World, is_ending};
 
-/// A copy of the call that is pending.
-fn copy_pending(mode: &Mode) -> Option<Call>
-    requires { is_plain_mode mode.now ≡ true }
-    ensures call { result ≡ worlds.pending_call mode.now }
-    ensures waits { IfSome result (λ call. may_wait call ≡ true) }
+/// What an answer needs of the pending call that it is given to: the call's word, and the number that died by an `hclose`.
+#[derive(Clone, Copy)]
+pub struct Asked {
+    pub word: Word,
+    pub closed: Option<u64>,
+}
+
+/// The number that died by an `hclose`.
+fn closed_by(call: &Call) -> Option<u64>
+    ensures { result ≡ closed_by call.now }
 {
-    match mode {
-        Mode::Pending(call) => Some(copy_waiting(call)),
+    match call {
+        Call::Hclose(number) => Some(*number),
         _ => None,
     }
 }
 
-/// A copy of the call that a coroutine is pending in.
-pub fn waits_in<B>(world: &World<B>, who: u64) -> Option<Call>
-    ensures call { result ≡ worlds.call_of (world_of world.now) who }
-    ensures waits { IfSome result (λ call. may_wait call ≡ true) }
+/// What an answer needs of a call.
+pub fn asked_of(call: &Call) -> Asked
+    ensures { result ≡ asked_of call.now }
 {
-    match world.call_of(who) {
-        None => None,
-        Some(call) => Some(copy_waiting(call)),
+    Asked {
+        word: call.word(),
+        closed: closed_by(call),
+    }
+}
+
+/// The call that is pending.
+fn pending_in(mode: &Mode) -> Option<&Call>
+    requires { is_plain_mode mode.now ≡ true }
+    ensures call { option_copied result ≡ worlds.pending_call mode.now }
+    ensures waits { IfSome result (λ call. may_wait call.now ≡ true) }
+{
+    match mode {
+        Mode::Pending(call) => Some(call),
+        _ => None,
     }
 }
 
 /// A pending call is answered.
-pub fn give<B: Drop>(world: &mut World<B>, who: u64, call: &Call, answer: Answer)
-    requires waits { may_wait call.now ≡ true }
-    requires short { is_short_answer answer ≡ true }
-    ensures { world_of world.new ≡ giving.give (world_of world.old) who call.now answer }
+pub fn give<B: Drop>(world: &mut World<B>, who: u64, asked: Asked, answer: Answer)
+    requires { is_short_answer answer ≡ true }
+    ensures { world_of world.new ≡ give_asked (world_of world.old) who asked answer }
 {
-    match call {
-        Call::Hclose(number) => {
-            world.free_dead(*number);
-            world.reply(who, Word::Hclose, answer);
+    match asked.closed {
+        None => world.reply(who, asked.word, answer),
+        Some(number) => {
+            world.free_dead(number);
+            world.reply(who, asked.word, answer);
         }
-        Call::Msleep(_) => world.reply(who, Word::Msleep, answer),
-        Call::BundleWait(_, _) => world.reply(who, Word::BundleWait, answer),
-        _ => {}
     }
 }
 
@@ -93,27 +106,25 @@ fn next_ending<B>(world: &World<B>) -> Option<(u64, Option<Errno>)>
     }
 }
 
-/// The answer that a coroutine can be given, with its call.
-fn answer_due<B>(world: &World<B>, c: &Coroutine<B>) -> Option<(u64, Call, Answer)>
+/// The answer that a coroutine can be given, with what it needs of its call.
+fn answer_due<B>(world: &World<B>, c: &Coroutine<B>) -> Option<(u64, Asked, Answer)>
     requires { is_plain_row c.now ≡ true }
-    ensures due { result ≡ settling.answer_due (world_of world.now) c.now }
-    ensures waits { IfSome result (λ x. may_wait x.1 ≡ true) }
+    ensures due { result ≡ asked_due (world_of world.now) c.now }
     ensures short { IfSome result (λ x. is_short_answer x.2 ≡ true) }
 {
-    match copy_pending(&c.mode) {
+    match pending_in(&c.mode) {
         None => None,
-        Some(call) => match world.answer_of(c.number, &call) {
+        Some(call) => match world.answer_of(c.number, call) {
             None => None,
-            Some(answer) => Some((c.number, call, answer)),
+            Some(answer) => Some((c.number, asked_of(call), answer)),
         },
     }
 }
 
 /// The first answer that is due to one of these coroutines.
-fn first_due<B>(world: &World<B>, coroutines: &[Coroutine<B>]) -> Option<(u64, Call, Answer)>
+fn first_due<B>(world: &World<B>, coroutines: &[Coroutine<B>]) -> Option<(u64, Asked, Answer)>
     requires { ArePlain coroutines.now }
-    ensures due { result ≡ first_some (settling.answer_due (world_of world.now)) coroutines.now }
-    ensures waits { IfSome result (λ x. may_wait x.1 ≡ true) }
+    ensures due { result ≡ first_some (asked_due (world_of world.now)) coroutines.now }
     ensures short { IfSome result (λ x. is_short_answer x.2 ≡ true) }
 {
     for c in coroutines {
@@ -125,9 +136,9 @@ fn first_due<B>(world: &World<B>, coroutines: &[Coroutine<B>]) -> Option<(u64, C
 }
 
 /// The first answer that is due, of the lowest coroutine.
-pub fn first_answer<B>(world: &World<B>) -> Option<(u64, Call, Answer)>
-    ensures due { result ≡ first_some (settling.answer_due (world_of world.now)) world.now.coroutines }
-    ensures waits { IfSome result (λ x. may_wait x.1 ≡ true) }
+pub fn first_answer<B>(world: &World<B>) -> Option<(u64, Asked, Answer)>
+    ensures due { result ≡ first_some (asked_due (world_of world.now)) world.now.coroutines }
+    ensures plain { ArePlain world.now.coroutines }
     ensures short { IfSome result (λ x. is_short_answer x.2 ≡ true) }
 {
     first_due(world, world.coroutines())
@@ -141,8 +152,8 @@ fn give_first<B: Drop>(world: &mut World<B>) -> bool
 {
     match first_answer(world) {
         None => false,
-        Some((who, call, answer)) => {
-            give(world, who, &call, answer);
+        Some((who, asked, answer)) => {
+            give(world, who, asked, answer);
             true
         }
     }

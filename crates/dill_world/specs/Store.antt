@@ -1,5 +1,5 @@
 -- What is stored of a world whose calls use no links, and the world that it is.
-use Rattle.std.specs.Prelude.{◌≡◌, ℕ, List, [], Bool, true, false, Option}
+use Rattle.std.specs.Prelude.{◌≡◌, ℕ, List, [], length, Bool, true, false, nat_le, Option, None}
 use Rattle.std.specs.List.{list_all}
 use Rattle.dill_base.specs.declared.errno.Errno.{Errno}
 use Rattle.dill_calls.specs.declared.answer.Answer.{Answer}
@@ -55,16 +55,21 @@ world_of k = record {
   notes = k.notes;
 }
 
--- the calls that can be pending in such a world
+-- the calls that can be pending in such a world; a choice has at most 16 clauses
 abbrev pub may_wait : Call → Bool
 may_wait (calls.Msleep deadline) = true
 may_wait (calls.Hclose number) = true
 may_wait (calls.BundleWait number deadline) = true
+may_wait (calls.Chsend number bytes deadline) = true
+may_wait (calls.Chrecv number size deadline) = true
+may_wait (calls.Choose deadline all) = nat_le (length all) 16
 may_wait call = false
 
--- an answer that is a number or a fault
+-- an answer without bytes
 abbrev pub is_short_answer : Answer → Bool
 is_short_answer (answers.Number n) = true
+is_short_answer (answers.Pair m n) = true
+is_short_answer (answers.Chosen index fault None) = true
 is_short_answer (answers.Fault e) = true
 is_short_answer answer = false
 

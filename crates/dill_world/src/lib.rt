@@ -1,5 +1,5 @@
 //! The rules of the machine as calls on what it keeps: each one equals its definition, and takes no memory where none is
-//! said to be wanting. The calls of channels and links are no part of it yet.
+//! said to be wanting. Calls of channels may be pending, and none is entered yet; those of links are no part of it.
 #![tactic(auto)]
 
 mod answers;
@@ -13,7 +13,7 @@ mod rows;
 mod taking;
 mod world;
 
-pub use answers::{copy_answer, copy_waiting};
+pub use answers::copy_answer;
 pub use kinds::value_of;
 pub use naming::{draws_of, told};
 pub use taking::{is_ending, pending_call};

@@ -147,6 +147,13 @@ impl<B> World<B> {
         self.closings.as_slice()
     }
 
+    /// The channels, and who waits at them.
+    pub fn channels(&self) -> &Channels
+        ensures { result.now.channels ≡ self.now.channels }
+    {
+        &self.channels
+    }
+
     /// The moment, in milliseconds.
     pub fn moment(&self) -> u64
         ensures { result ≡ self.now.moment }

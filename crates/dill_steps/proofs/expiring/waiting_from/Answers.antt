@@ -1,4 +1,4 @@
-use Rattle.std.proofs.Common.{◌∙◌, List, drop, find, filter_map, nat_lt, sym, ap}
+use Rattle.std.proofs.Common.{◌∙◌, drop, find, filter_map, nat_lt, sym, ap}
 use Rattle.dill_steps.specs.Timing.{pair_of}
 use Rattle.dill_steps.proofs.Waiters.{pairs, rest_from}
 use Rattle.dill_steps.proofs.expiring.waiting_from.Goals as goal
