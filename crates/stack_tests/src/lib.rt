@@ -2,9 +2,13 @@
 #![tactic(auto)]
 
 #[cfg(test)]
+mod acts;
+#[cfg(test)]
 mod counting;
 #[cfg(test)]
 mod greeting;
+#[cfg(test)]
+mod http;
 #[cfg(test)]
 mod leaving;
 #[cfg(test)]

@@ -8,24 +8,24 @@ use dill_ws::Side;
 use std::alloc::Global;
 use std::test::Fail;
 
-/// The layer of a stack.
+/// The layer of a stack. A length has so many bytes, and is little-endian or not.
 #[derive(Clone, Copy)]
-enum Kind {
-    Prefix,
+pub enum Kind {
+    Prefix(u8, bool),
     Suffix,
     Server,
     Client,
+    Http,
 }
 
 /// Puts a layer of this kind on a byte socket.
-fn put(alloc: Global, stack: &mut Stack, kind: Kind) -> Result<Result<(), StackFault>, Fail>
+pub fn put(alloc: Global, stack: &mut Stack, kind: Kind) -> Result<Result<(), StackFault>, Fail>
     requires { stack.old.held.layers ≡ [] }
 {
     match kind {
-        Kind::Prefix => Ok(stack.attach(Layer::Prefix(PrefixForm {
-            size: 2,
-            little: false,
-        }))),
+        Kind::Prefix(size, little) => {
+            Ok(stack.attach(Layer::Prefix(PrefixForm { size, little })))
+        }
         Kind::Suffix => {
             let end = Octets::from_slice(alloc, b"\r\n")?;
             Ok(stack.attach(Layer::Suffix(end)))
@@ -38,6 +38,7 @@ fn put(alloc: Global, stack: &mut Stack, kind: Kind) -> Result<Result<(), StackF
             side: Side::Client,
             text: true,
         })),
+        Kind::Http => Ok(stack.attach(Layer::Http)),
     }
 }
 
@@ -75,13 +76,13 @@ fn a_message_is_given_through_its_framing(rt: HostRuntime) -> Result<(), Fail> {
     let alloc = rt.alloc();
     let table = [
         (
-            Kind::Prefix,
+            Kind::Prefix(2, false),
             b"\x00\x02hi\x00" as &[u8],
             8,
             "Given(Bytes(Octets { bytes: [104, 105] })) Need []",
         ),
         (
-            Kind::Prefix,
+            Kind::Prefix(2, false),
             b"\x00\x09",
             8,
             "Fault(Emsgsize) Fault(Emsgsize) []",

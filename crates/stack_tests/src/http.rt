@@ -1,0 +1,96 @@
+use crate::acts::{done, exactly, gone, note, parted, stood};
+use crate::counting::Counter;
+use crate::messages::Kind;
+use dill_base::Octets;
+use dill_http::write_status;
+use dill_stack::{ReadOut, Stack, Top, Want};
+use std::alloc::Global;
+use std::test::Fail;
+
+/// Looks for the first line of a request.
+fn request(stack: &mut Stack) -> Result<ReadOut, Fail> {
+    match stack.reserve(Want::Request) {
+        Ok(()) => {}
+        Err(_) => return Err(Fail::from("memory")),
+    }
+    match stack.top() {
+        Top::Http => Ok(stack.read(Want::Request, &mut Counter(0))),
+        _ => Err(Fail::from("no head")),
+    }
+}
+
+/// Looks for a field.
+fn field(stack: &mut Stack) -> Result<ReadOut, Fail> {
+    match stack.reserve(Want::Field) {
+        Ok(()) => {}
+        Err(_) => return Err(Fail::from("memory")),
+    }
+    match stack.top() {
+        Top::Http => Ok(stack.read(Want::Field, &mut Counter(0))),
+        _ => Err(Fail::from("no head")),
+    }
+}
+
+fn is_given(said: &ReadOut) -> bool {
+    match said {
+        ReadOut::Given(_) => true,
+        _ => false,
+    }
+}
+
+/// A request and its fields, up to what isn't given.
+fn head(log: &mut Vec<u8>, stack: &mut Stack) -> Result<(), Fail> {
+    let first = request(stack)?;
+    note(log, &first)?;
+    if !is_given(&first) {
+        return Ok(());
+    }
+    for _at in 0..8u32 {
+        let said = field(stack)?;
+        note(log, &said)?;
+        if !is_given(&said) {
+            return Ok(());
+        }
+    }
+    Ok(())
+}
+
+/// A first line is sent.
+fn line(log: &mut Vec<u8>, stack: &mut Stack, line: Octets) -> Result<(), Fail> {
+    if !stack.is_sent() {
+        return Err(Fail::from("pending"));
+    }
+    match stack.line(true, line) {
+        Ok(()) => gone(log, stack),
+        Err(_) => Err(Fail::from("line")),
+    }
+}
+
+/// A request is answered, and the head is left.
+fn exchanged(alloc: Global, bytes: &[u8]) -> Result<Vec<u8>, Fail> {
+    let mut log = Vec::new(alloc);
+    let mut stack = stood(alloc, bytes, Kind::Http)?;
+    head(&mut log, &mut stack)?;
+    let status = match write_status(alloc, 200, b"OK") {
+        Ok(status) => status,
+        Err(_) => return Err(Fail::from("status")),
+    };
+    line(&mut log, &mut stack, status)?;
+    done(&mut log, &mut stack)?;
+    parted(&mut log, &mut stack)?;
+    exactly(&mut log, &mut stack, 3)?;
+    Ok(log)
+}
+
+#[test]
+fn a_request_is_answered_and_its_body_stays_unread(rt: HostRuntime) -> Result<(), Fail> {
+    let told = exchanged(
+        rt.alloc(),
+        b"POST /a HTTP/1.1\r\nHost: x\r\nUser-Agent: curl/8.0\r\nAccept: */*\r\nContent-Length: 3\r\n\r\nxyz",
+    )?;
+    assert_eq!(rt;
+        told.as_slice(),
+        b"POST|/a;Host|x;User-Agent|curl/8.0;Accept|*/*;Content-Length|3;EPIPE;HTTP/1.1 200 OK\r\n;\r\n;;number;xyz;" as &[u8]
+    );
+    Ok(())
+}
