@@ -7,7 +7,7 @@ use std::alloc::Global;
 use std::test::Fail;
 
 /// The most bytes that come at once to a new stack.
-const MOST: usize = 32_768;
+pub const MOST: usize = 32_768;
 
 /// A stack to which these bytes have come.
 pub fn bare(alloc: Global, bytes: &[u8]) -> Result<Stack, Fail> {

@@ -38,21 +38,21 @@ fn is_given(said: &ReadOut) -> bool {
     }
 }
 
-/// A request and its fields, up to what isn't given.
-fn head(log: &mut Vec<u8>, stack: &mut Stack) -> Result<(), Fail> {
+/// Writes down a request and its fields as far as they are given, and answers what isn't.
+pub fn head(log: &mut Vec<u8>, stack: &mut Stack) -> Result<ReadOut, Fail> {
     let first = request(stack)?;
-    note(log, &first)?;
     if !is_given(&first) {
-        return Ok(());
+        return Ok(first);
     }
+    note(log, &first)?;
     for _at in 0..8u32 {
         let said = field(stack)?;
-        note(log, &said)?;
         if !is_given(&said) {
-            return Ok(());
+            return Ok(said);
         }
+        note(log, &said)?;
     }
-    Ok(())
+    Err(Fail::from("too many fields"))
 }
 
 /// A first line is sent.
@@ -70,7 +70,8 @@ fn line(log: &mut Vec<u8>, stack: &mut Stack, line: Octets) -> Result<(), Fail> 
 fn exchanged(alloc: Global, bytes: &[u8]) -> Result<Vec<u8>, Fail> {
     let mut log = Vec::new(alloc);
     let mut stack = stood(alloc, bytes, Kind::Http)?;
-    head(&mut log, &mut stack)?;
+    let last = head(&mut log, &mut stack)?;
+    note(&mut log, &last)?;
     let status = match write_status(alloc, 200, b"OK") {
         Ok(status) => status,
         Err(_) => return Err(Fail::from("status")),
@@ -92,5 +93,53 @@ fn a_request_is_answered_and_its_body_stays_unread(rt: HostRuntime) -> Result<()
         told.as_slice(),
         b"POST|/a;Host|x;User-Agent|curl/8.0;Accept|*/*;Content-Length|3;EPIPE;HTTP/1.1 200 OK\r\n;\r\n;;number;xyz;" as &[u8]
     );
+    Ok(())
+}
+
+/// What a receive finds in a request line of so many bytes without its CRLF, and in these bytes behind it.
+fn long_line(alloc: Global, count: u32, rest: &[u8]) -> Result<String, Fail> {
+    let mut bytes = Vec::new(alloc);
+    bytes.extend_from_slice(b"GET /")?;
+    for _at in 14..count {
+        bytes.push(b'a')?;
+    }
+    bytes.extend_from_slice(b" HTTP/1.1")?;
+    bytes.extend_from_slice(rest)?;
+    let mut stack = stood(alloc, bytes.as_slice(), Kind::Http)?;
+    match request(&mut stack)? {
+        ReadOut::Given(_) => Ok(format!(in alloc; "given")?),
+        other => Ok(format!(in alloc; "{other:?}")?),
+    }
+}
+
+#[test]
+fn a_line_has_at_most_8192_bytes(rt: HostRuntime) -> Result<(), Fail> {
+    let alloc = rt.alloc();
+    let table = [
+        (8_192, b"" as &[u8], "Need"),
+        (8_192, b"\r\n", "given"),
+        (8_193, b"", "Fault(Emsgsize)"),
+    ];
+    for (count, rest, want) in table {
+        let told = long_line(alloc, count, rest)?;
+        assert_eq!(rt; told.as_str(), want);
+    }
+    Ok(())
+}
+
+#[test]
+fn a_line_is_refused_at_the_byte_that_shows_it(rt: HostRuntime) -> Result<(), Fail> {
+    let alloc = rt.alloc();
+    let table = [
+        (b"\n" as &[u8], b"EPROTO;" as &[u8]),
+        (b"a\r", b"need;"),
+        (b"a\rb", b"EPROTO;"),
+    ];
+    for (bytes, want) in table {
+        let mut log = Vec::new(alloc);
+        let mut stack = stood(alloc, bytes, Kind::Http)?;
+        note(&mut log, &request(&mut stack)?)?;
+        assert_eq!(rt; log.as_slice(), want);
+    }
     Ok(())
 }
