@@ -1,0 +1,79 @@
+use crate::acts::{message, refused, stood};
+use crate::messages::Kind;
+use std::alloc::Global;
+use std::test::Fail;
+
+/// What a receive finds at each front of these bytes that isn't empty, and what a further one is refused with then.
+fn fronts(alloc: Global, kind: Kind, bytes: &[u8], limit: usize) -> Result<Vec<u8>, Fail> {
+    let mut log = Vec::new(alloc);
+    for count in 0..bytes.len() {
+        let mut stack = stood(alloc, &bytes[..count + 1], kind)?;
+        message(&mut log, &mut stack, limit)?;
+        refused(&mut log, &stack, limit)?;
+    }
+    Ok(log)
+}
+
+#[test]
+fn each_front_of_a_framing_is_judged_at_its_last_byte(rt: HostRuntime) -> Result<(), Fail> {
+    let alloc = rt.alloc();
+    let table = [
+        (
+            Kind::Prefix(2, false),
+            b"\x00\x05hello" as &[u8],
+            64,
+            b"need;need;need;need;need;need;hello;" as &[u8],
+        ),
+        (
+            Kind::Prefix(2, true),
+            b"\x05\x00hello",
+            64,
+            b"need;need;need;need;need;need;hello;",
+        ),
+        (
+            Kind::Prefix(8, false),
+            b"\xff\xff\xff\xff\xff\xff\xff\xff",
+            10,
+            b"need;need;need;need;need;need;need;EMSGSIZE;ECONNRESET;",
+        ),
+        (Kind::Prefix(1, false), b"\x05", 4, b"EMSGSIZE;ECONNRESET;"),
+        (
+            Kind::Suffix,
+            b"abcde\r",
+            4,
+            b"need;need;need;need;need;EMSGSIZE;ECONNRESET;",
+        ),
+        (Kind::Suffix, b"ab\r\r\n", 64, b"need;need;need;need;ab\r;"),
+    ];
+    for (kind, bytes, limit, want) in table {
+        let told = fronts(alloc, kind, bytes, limit)?;
+        assert_eq!(rt; told.as_slice(), want);
+    }
+    Ok(())
+}
+
+#[test]
+fn each_front_of_a_frame_is_judged_at_its_last_byte(rt: HostRuntime) -> Result<(), Fail> {
+    let alloc = rt.alloc();
+    let table = [
+        (
+            b"\x82\xfe\x00\x7e" as &[u8],
+            b"need;need;need;EMSGSIZE;ECONNRESET;" as &[u8],
+        ),
+        (b"\x82\xfe\x00\x7d", b"need;need;need;EPROTO;ECONNRESET;"),
+        (b"\x81\xfe\x00\x05", b"need;need;need;EPROTO;ECONNRESET;"),
+        (b"\xc1\x80", b"need;EPROTO;ECONNRESET;"),
+        (b"\x89\xfe", b"need;EPROTO;ECONNRESET;"),
+        (b"\x80\x80", b"need;EPROTO;ECONNRESET;"),
+        (b"\x81\x05", b"need;EPROTO;ECONNRESET;"),
+        (
+            b"\x82\xff\x80\0\0\0\0\0\0\0",
+            b"need;need;need;need;need;need;need;need;need;EPROTO;ECONNRESET;",
+        ),
+    ];
+    for (bytes, want) in table {
+        let told = fronts(alloc, Kind::Server, bytes, 100)?;
+        assert_eq!(rt; told.as_slice(), want);
+    }
+    Ok(())
+}
