@@ -15,3 +15,5 @@ mod http;
 mod leaving;
 #[cfg(test)]
 mod messages;
+#[cfg(test)]
+mod sessions;
