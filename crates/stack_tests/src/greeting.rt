@@ -1,5 +1,6 @@
 ghost use Rattle.std.specs.Prelude.{◌≤◌, length};
 
+use crate::acts::{MOST, gone as goes, message, note, refused};
 use crate::counting::Counter;
 use crate::messages::looked;
 use dill_stack::Stack;
@@ -85,6 +86,53 @@ fn a_client_is_answered_and_reads_on(rt: HostRuntime) -> Result<(), Fail> {
     assert_eq!(rt;
         told.as_str(),
         "140 Some(71) Given(Number(0)) Given(Bytes(Octets { bytes: [104, 105] }))"
+    );
+    Ok(())
+}
+
+/// A look at a server's handshake whose last head has gone.
+fn heard(log: &mut Vec<u8>, stack: &mut Stack) -> Result<(), Fail> {
+    if !stack.is_sent() {
+        return Err(Fail::from("pending"));
+    }
+    note(log, &stack.greeted())
+}
+
+/// A server's session whose bytes come in one piece: its handshake, and three receives with what they send.
+fn session(alloc: Global, bytes: &[u8]) -> Result<Vec<u8>, Fail> {
+    if MOST < bytes.len() {
+        return Err(Fail::from("too many bytes"));
+    }
+    let mut log = Vec::new(alloc);
+    let mut stack = Stack::new(alloc)?;
+    stack.came(bytes);
+    if !stack.is_sent() {
+        return Err(Fail::from("pending"));
+    }
+    match stack.expect_greet(true) {
+        Ok(()) => {}
+        Err(_) => return Err(Fail::from("expect")),
+    }
+    heard(&mut log, &mut stack)?;
+    goes(&mut log, &mut stack)?;
+    heard(&mut log, &mut stack)?;
+    message(&mut log, &mut stack, 64)?;
+    message(&mut log, &mut stack, 64)?;
+    goes(&mut log, &mut stack)?;
+    message(&mut log, &mut stack, 64)?;
+    refused(&mut log, &stack, 64)?;
+    Ok(log)
+}
+
+#[test]
+fn a_server_sends_exactly_these_bytes(rt: HostRuntime) -> Result<(), Fail> {
+    let told = session(
+        rt.alloc(),
+        b"GET /chat HTTP/1.1\r\nHost: h\r\nUpgrade: websocket\r\nConnection: keep-alive, Upgrade\r\nSec-WebSocket-Key: dGhlIHNhbXBsZSBub25jZQ==\r\nSec-WebSocket-Version: 13\r\n\r\n\x81\x85\x37\xfa\x21\x3d\x7f\x9f\x4d\x51\x58\x01\x83\0\0\0\0Hel\x89\x80\0\0\0\0\x80\x82\0\0\0\0lo\x81\xfe\x00\x05",
+    )?;
+    assert_eq!(rt;
+        told.as_slice(),
+        b"need;HTTP/1.1 101 Switching Protocols\r\nUpgrade: websocket\r\nConnection: Upgrade\r\nSec-WebSocket-Accept: s3pPLMBiTxaQ9kYGzzhZRbK+xOo=\r\n\r\n;number;Hello;Hello;\x8a\0;EPROTO;ECONNRESET;" as &[u8]
     );
     Ok(())
 }
