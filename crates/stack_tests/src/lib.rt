@@ -6,6 +6,8 @@ mod acts;
 #[cfg(test)]
 mod counting;
 #[cfg(test)]
+mod endings;
+#[cfg(test)]
 mod fronts;
 #[cfg(test)]
 mod greeting;
