@@ -109,6 +109,18 @@ impl Channels {
         recv_has_ended(self.ends.as_slice(), end)
     }
 
+    /// A new channel, as long as there are names for its ends. Answers these. Refused, it changes nothing.
+    pub fn add(&mut self) -> Result<(u64, u64), NoMemory>
+        ensures names { IfOk result (λ ends. ends ≡ next_ends self.old.channels) }
+        ensures ok { OnOk result (self.new ≡ on_channels channels.make self.old) }
+        ensures err { OnErr result (self.new ≡ self.old) }
+    {
+        if 9_223_372_036_854_775_806 < self.last {
+            return Err(NoMemory);
+        }
+        self.make()
+    }
+
     /// A coroutine has a seat, if it can have one. Refused, it changes nothing.
     pub fn sit(&mut self, who: u64) -> Result<(), NoMemory>
         ensures ok { OnOk result (self.new ≡ seats.seat self.old who) }

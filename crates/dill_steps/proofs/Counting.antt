@@ -29,7 +29,7 @@ use Rattle.dill_rules.specs.Effects.{make, add_bundle, next_number, told, give_a
 use Rattle.dill_rules.specs.Entering.{perform, is_too_late, late_answer, meet_deadline}
 use Rattle.dill_rules.specs.Settling.{close_owned, close_all, end, highest_first, is_owned_by, free_all, release_all}
 use Rattle.dill_rules.specs.Turning.{as_running, resume}
-use Rattle.dill_world.specs.Steps.{left, Resumed, WentOn}
+use Rattle.dill_world.specs.Steps.{add_channel, left, Resumed, WentOn}
 use Rattle.dill_steps.specs.declared.settling.Asked.{Asked}
 use Rattle.dill_steps.specs.Asking.{give_asked}
 use Rattle.dill_steps.specs.Needs.{needs_memory}
@@ -177,6 +177,7 @@ module _ {V : Type 0} where
   performed_with p w who view (calls.BundleGo number program args) n =
       some_more (bundle_named w number) w (λ home. reply (start p w view home program args) who (word_of (calls.BundleGo number program args)) (Number 0))
       (λ home. replied (start p w view home program args) who _ _ ∙ started p w view home program args)
+  performed_with p w who view calls.Chmake n = let r : crew (perform p w who view calls.Chmake) ≡ crew w = replied (add_channel w who) who _ _ in omega (arith, r)
   performed_with p w who view _ n = cc
 
   ran : (p : Program V) (old mid : World V) (who : ℕ) (given : Answer) (said : Option Next) (c : Coroutine V) → WentOn p c given said (λ view. mid ≡ resume old who view) → crew mid ≡ crew old

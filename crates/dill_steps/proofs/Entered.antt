@@ -25,6 +25,7 @@ needs_takes (calls.Hown number) n = refl
 needs_takes calls.Bundle n = refl
 needs_takes (calls.Go program args) n = refl
 needs_takes (calls.BundleGo number program args) n = refl
+needs_takes calls.Chmake n = refl
 needs_takes _ n = cc
 
 -- what wants none draws no number

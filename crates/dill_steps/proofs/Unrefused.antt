@@ -58,6 +58,7 @@ module _ {V : Type 0} (p : Program V) (w : World V) (who : ℕ) (view : V) where
   unrefused_room calls.Bundle n e = room_of calls.Bundle e
   unrefused_room (calls.Go program args) n e = room_of (calls.Go program args) e
   unrefused_room (calls.BundleGo number program args) n e = room_of (calls.BundleGo number program args) e
+  unrefused_room calls.Chmake n e = room_of calls.Chmake e
   unrefused_room _ n e = cc
 
   below_last : (a : ℕ) (b : Bool) → (b || nat_le 18446744073709551615 a) ≡ false → a + 1 < 18446744073709551616

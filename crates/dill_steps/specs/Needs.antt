@@ -7,13 +7,14 @@ use Rattle.dill_rules.specs.declared.coroutine.Coroutine.{Coroutine}
 use Rattle.dill_rules.specs.Refusals.{refuse}
 use Rattle.dill_rules.specs.World.{World, coroutine_of}
 
--- it makes a handle or a coroutine, or gives a handle another number
+-- it makes handles or a coroutine, or gives a handle another number
 abbrev pub needs_memory : Call → Bool
 needs_memory (calls.Hmake kind value) = true
 needs_memory (calls.Hown number) = true
 needs_memory calls.Bundle = true
 needs_memory (calls.Go program args) = true
 needs_memory (calls.BundleGo number program args) = true
+needs_memory calls.Chmake = true
 needs_memory call = false
 
 -- the coroutine is there, and its program has this view

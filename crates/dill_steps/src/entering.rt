@@ -2,6 +2,7 @@ ghost use Rattle.std.specs.Prelude.{◌≡◌, ◌+◌, ◌<◌, ◌≤◌, ◌^
 ghost use Rattle.dill_plain.specs.Plain.{is_plain};
 ghost use Rattle.dill_calls.specs.CallTable.{word_of, takes_memory};
 ghost use Rattle.dill_handles.specs.Handles as handles;
+ghost use Rattle.dill_rules.specs.Channeling as channeling;
 ghost use Rattle.dill_rules.specs.Effects as effects;
 ghost use Rattle.dill_rules.specs.Entering as entering;
 ghost use Rattle.dill_rules.specs.Naming as naming;
@@ -126,6 +127,7 @@ fn perform<B: Body>(world: &mut World<B>, who: u64, call: &Call)
         Call::BundleWait(number, deadline) => {
             world.pend(who, Call::BundleWait(*number, *deadline));
         }
+        Call::Chdone(number) => channel_done(world, who, *number),
         Call::Pass(word, fault) => world.reply(who, *word, passed_answer(*fault)),
         _ => {}
     }
@@ -181,6 +183,45 @@ fn make_bundle<B: Body>(world: &mut World<B>, who: u64, call: &Call) -> Result<(
             world.unkeep(1);
             Err(refused)
         }
+    }
+}
+
+/// A new channel, whose ends the caller owns. Refused, nothing changes.
+fn make_channel<B: Body>(world: &mut World<B>, who: u64, call: &Call) -> Result<(), NoMemory>
+    requires call { call.now ≡ calls.Chmake }
+    requires room { handles.has_room world.old.handles 2 ≡ true }
+    ensures ok { OnOk result (world_of world.new ≡ channeling.make_channel (entering.keep_for (world_of world.old) call.now) who) }
+    ensures err { OnErr result (world_of world.new ≡ world_of world.old) }
+{
+    world.keep_for(call)?;
+    match world.add_channel(who) {
+        Ok((first, second)) => {
+            world.reply(who, Word::Chmake, Answer::Pair(first, second));
+            Ok(())
+        }
+        Err(refused) => {
+            world.unkeep(2);
+            Err(refused)
+        }
+    }
+}
+
+/// The sending direction of an end is done, unless it was done or the other end is gone.
+fn done_at<B: Drop>(world: &mut World<B>, who: u64, end: u64)
+    ensures { world_of world.new ≡ channeling.done_at (world_of world.old) who end }
+{
+    if world.finish_end(end) {
+        world.reply(who, Word::Chdone, Answer::Number(0));
+    } else {
+        world.reply(who, Word::Chdone, Answer::Fault(Errno::Epipe));
+    }
+}
+
+fn channel_done<B: Drop>(world: &mut World<B>, who: u64, number: u64)
+    ensures { world_of world.new ≡ channeling.channel_done (world_of world.old) who number }
+{
+    if let Some(end) = world.end_named(number) {
+        done_at(world, who, end);
     }
 }
 
@@ -268,7 +309,12 @@ fn needs_memory(call: &Call) -> bool
 {
     matches!(
         call,
-        Call::Hmake(_, _) | Call::Hown(_) | Call::Bundle | Call::Go(_, _) | Call::BundleGo(_, _, _)
+        Call::Hmake(_, _)
+            | Call::Hown(_)
+            | Call::Bundle
+            | Call::Go(_, _)
+            | Call::BundleGo(_, _, _)
+            | Call::Chmake
     )
 }
 
@@ -292,6 +338,7 @@ fn perform_with<B: Body>(
         Call::BundleGo(bundle, program, args) => {
             bundle_go(alloc, world, who, call, *bundle, *program, args.as_slice())
         }
+        Call::Chmake => make_channel(world, who, call),
         _ => Ok(()),
     }
 }

@@ -4,11 +4,13 @@ use Rattle.dill_base.specs.declared.errno.Errno.{Errno}
 use Rattle.dill_calls.specs.declared.answer.Answer.{Answer}
 use Rattle.dill_calls.specs.declared.body.Next.{Next}
 use Rattle.dill_calls.specs.Program.{Program, Turns}
+use Rattle.dill_chan.specs.Channels as channels
 use Rattle.dill_scope.specs.Scopes as scopes
 use Rattle.dill_base.specs.Maps.{change, without}
 use Rattle.dill_rules.specs.World.{World, is_coroutine, coroutine_of, from_start}
 use Rattle.dill_rules.specs.declared.coroutine.Coroutine.{Coroutine}
-use Rattle.dill_rules.specs.Effects.{bear, add_bundle}
+use Rattle.dill_rules.specs.declared.thing.Thing.TheVariants as things
+use Rattle.dill_rules.specs.Effects.{make, bear, add_bundle}
 use Rattle.dill_rules.specs.Turning.{as_running, resume}
 
 module _ {V : Type 0} where
@@ -19,6 +21,12 @@ module _ {V : Type 0} where
   -- a coroutine is gone, whose program ended so
   abbrev pub left : World V → ℕ → Option Errno → World V
   left w who outcome = record (keep_outcome w who outcome) { coroutines = without (is_coroutine who) w.coroutines; scopes = scopes.ended w.scopes who }
+
+  -- a new channel, whose ends have numbers and this owner
+  abbrev pub add_channel : World V → ℕ → World V
+  add_channel w who =
+      let ends = channels.next_ends w.channels in
+      make (make (record w { channels = channels.make w.channels }) (things.End ends.0) who) (things.End ends.1) who
 
   -- a new bundle of a coroutine, and a new coroutine in it
   abbrev pub bear_apart : World V → ℕ → V → World V

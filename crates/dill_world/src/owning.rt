@@ -1,4 +1,7 @@
-ghost use Rattle.std.specs.Prelude.{◌≡◌, ◌+◌, ◌<◌, ◌≤◌, ◌^◌, length, find, is_some, true, IfOk, OnOk, OnErr};
+ghost use Rattle.std.specs.Prelude.{[], not, ◌≡◌, ◌+◌, ◌<◌, ◌≤◌, ◌^◌, length, find, is_some, true, IfOk, OnOk, OnErr};
+ghost use Rattle.dill_chan.specs.declared.end.Want.TheVariants.{Send};
+ghost use Rattle.dill_chan.specs.Meetings.{has_ended};
+ghost use Rattle.dill_chan.specs.Seats.{done_unless_ended};
 ghost use Rattle.dill_rules.specs.Naming as naming;
 ghost use Rattle.dill_rules.specs.Owning as owning;
 ghost use Rattle.dill_rules.specs.Effects as effects;
@@ -8,7 +11,7 @@ ghost use Rattle.dill_calls.specs.declared.answer.Answer.TheVariants.{Number};
 ghost use Rattle.dill_calls.specs.declared.word.Word.TheVariants as words;
 ghost use Rattle.dill_rules.specs.declared.coroutine.Mode.TheVariants as modes;
 ghost use Rattle.dill_world.specs.Store.{world_of};
-ghost use Rattle.dill_world.specs.Steps.{bear_apart};
+ghost use Rattle.dill_world.specs.Steps.{add_channel, bear_apart};
 
 use crate::naming::draws_of;
 use crate::rows::drop_closing;
@@ -90,6 +93,27 @@ impl<B: Drop> World<B> {
         self.scopes.bundle(name, who)?;
         self.last_bundle = name;
         Ok(self.handles.make(Thing::Bundle(name), who))
+    }
+
+    /// A new channel, whose two ends have this owner. Answers their numbers, which were kept. Refused, it changes nothing.
+    pub fn add_channel(&mut self, who: u64) -> Result<(u64, u64), NoMemory>
+        requires { 2 ≤ self.old.handles.kept }
+        ensures ok { OnOk result (world_of self.new ≡ add_channel (world_of self.old) who) }
+        ensures numbers { IfOk result (λ ends. ends ≡ (effects.next_number (world_of self.old), effects.next_number (world_of self.old) + 1)) }
+        ensures err { OnErr result (self.new ≡ self.old) }
+    {
+        let (here, there) = self.channels.add()?;
+        let first = self.handles.make(Thing::End(here), who);
+        let second = self.handles.make(Thing::End(there), who);
+        Ok((first, second))
+    }
+
+    /// The sending direction of an end is done. False, where it was done or an end is gone; then it changes nothing.
+    pub fn finish_end(&mut self, end: u64) -> bool
+        ensures done { result ≡ not (has_ended self.old.channels end (Send [])) }
+        ensures left { world_of self.new ≡ record (world_of self.old) { channels = done_unless_ended self.old.channels end } }
+    {
+        self.channels.finish(end)
     }
 
     /// A new coroutine lives in a bundle. Refused, it changes nothing.
