@@ -22,6 +22,9 @@ uses_none : (call : Call) → may_wait call ≡ true → uses_link (word_of call
 uses_none (calls.Msleep deadline) e = refl
 uses_none (calls.Hclose number) e = refl
 uses_none (calls.BundleWait number deadline) e = refl
+uses_none (calls.Chsend number bytes deadline) e = refl
+uses_none (calls.Chrecv number size deadline) e = refl
+uses_none (calls.Choose deadline all) e = refl
 uses_none _ e = cc
 
 module _ {V : Type 0} where

@@ -14,7 +14,6 @@ use Rattle.dill_scope.specs.Keeping.{IsThere}
 use Rattle.dill_scope.proofs.Carrying.{some_told}
 use Rattle.dill_scope.proofs.Chains.{search_is_inside}
 use Rattle.dill_base.specs.Maps.{if_some, first_some}
-use Rattle.dill_plain.specs.Plain.{MakesPlain}
 use Rattle.dill_rules.specs.declared.coroutine.Coroutine.{Coroutine}
 use Rattle.dill_rules.specs.Debts.{is_early, share, debt}
 use Rattle.dill_rules.specs.Expiring.{due_of, passed, expire_one}
@@ -24,6 +23,7 @@ use Rattle.dill_rules.specs.Settling.{can_finish, answer_due, settle, IsSettled}
 use Rattle.dill_rules.specs.State.{State, Stamp, is_stamp_of, stamp_of, opening_state, line_up, next_turn, turn_of, fresh, turned, expire_next, expired, shut, woke}
 use Rattle.dill_rules.specs.Turning.{answer_given, go_on, turn}
 use Rattle.dill_rules.specs.World.{World, begin, pending_call, is_ending}
+use Rattle.laws_sound.specs.Plain.{MakesLinkless}
 use Rattle.laws_sound.specs.PlainLaws.{FollowsPlainly}
 use Rattle.laws_queue.specs.Kept.{Kept, opening_kept, queued, turn_first, kept_shut, kept_woke, root_closed}
 use Rattle.laws_queue.specs.Laws.{MayTurn, KeepsWell}
@@ -63,7 +63,7 @@ use Rattle.laws_debt.proofs.Within.{keeps_within}
 home_inside : {V : Type 0} (w : World V) (n : ℕ) → IsInOrder w → IsThere w.scopes n → Inside w.scopes 0 n
 home_inside w n o e = let h = some_told (home_of w.scopes n) e in rooted_inside w.scopes n (o.fits.forest.forest.rooted n h.0 h.1)
 
-module _ {V : Type 0} (p : Program V) (law : IsLawful p) (plainly : MakesPlain p) where
+module _ {V : Type 0} (p : Program V) (law : IsLawful p) (plainly : MakesLinkless p) where
   keeps : KeepsWell p
   keeps = steps_keep_well p law
 
@@ -96,8 +96,8 @@ module _ {V : Type 0} (p : Program V) (law : IsLawful p) (plainly : MakesPlain p
   turn_stable : (lack : Option LackPlace) (k : Kept V) (who : ℕ) (rest : List ℕ) → IsStable p k → k.ready ≡ who ∷ rest → IsStable p (queued (turn p lack k.world who) rest (k.early - 1))
   turn_stable lack k who rest s e = subst (IsStable p) (ap (turn_first p lack k) e) (stable_steps.turned k lack s)
 
-  turn_step : (s : State V) (lack : Option LackPlace) (even : IsEven p s) (who : ℕ) (rest : List ℕ) → even.kept.ready ≡ who ∷ rest → Stepped p law plainly even.kept s (turn p lack even.kept.world who) (λ n. n == who) (filter (λ x. not (is_stamp_of who x)) s.answers)
-  turn_step s lack even who rest e = turn_steps p law plainly keeps within_steps even.kept s lack who rest even.stable even.stands even.stamps even.lowers e
+  turn_step : (s : State V) (lack : Option LackPlace) (even : IsEven p s) (who : ℕ) (rest : List ℕ) → IsSettled even.kept.world → even.kept.ready ≡ who ∷ rest → Stepped p law plainly even.kept s (turn p lack even.kept.world who) (λ n. n == who) (filter (λ x. not (is_stamp_of who x)) s.answers)
+  turn_step s lack even who rest settled e = turn_steps p law plainly keeps within_steps even.kept s lack who rest even.stable settled even.stands even.stamps even.lowers e
 
   turn_settles : (lack : Option LackPlace) (k : Kept V) (who : ℕ) → (s : IsStable p k) → MayTurn p k.world who → IsSettled (turn p lack k.world who)
   turn_settles lack k who s may =
@@ -119,7 +119,7 @@ module _ {V : Type 0} (p : Program V) (law : IsLawful p) (plainly : MakesPlain p
       let even = st.even in
       let k = even.kept in
       record {
-        even = even_after p law plainly k s even.stable even.stands even.stamps (turn p lack k.world who) (λ n. n == who) (filter (λ x. not (is_stamp_of who x)) s.answers) (turn_step s lack even who rest e) rest (k.early - 1) (turn_stable lack k who rest even.stable e) (turn p lack s.world who) (turn_after s lack even who rest e);
+        even = even_after p law plainly k s even.stable even.stands even.stamps (turn p lack k.world who) (λ n. n == who) (filter (λ x. not (is_stamp_of who x)) s.answers) (turn_step s lack even who rest st.settled e) rest (k.early - 1) (turn_stable lack k who rest even.stable e) (turn p lack s.world who) (turn_after s lack even who rest e);
         settled = turn_settled lack k who rest even.stable e;
       }
 
@@ -130,12 +130,12 @@ module _ {V : Type 0} (p : Program V) (law : IsLawful p) (plainly : MakesPlain p
       let gone : ℕ → Bool = λ n. n == who in
       let left = filter (λ x. not (is_stamp_of who x)) s.answers in
       let here : is_closing k.world.scopes b ≡ true = subst (λ (w : World V). is_closing w.scopes b ≡ true) (sym even.stands.world) c in
-      let steps = turn_step s lack even who rest e in
+      let steps = turn_step s lack even who rest st.settled e in
       let now = debt_after p law plainly k s even.stable even.stands even.stamps (turn p lack k.world who) gone left steps rest (k.early - 1) (turn_stable lack k who rest even.stable e) (turn p lack s.world who) (turn_after s lack even who rest e) b here in
       let was = debt_total p k.world s b even.stands.world in
       let lowers : AllByRecursion (LowersAt p (is_inside k.world.scopes b) (is_early s b)) k.world.coroutines =
       subst (λ (w : World V). AllByRecursion (λ d. is_inside w.scopes b d.number ≡ true → IsLowering (is_early s b) d) w.coroutines) (sym even.stands.world) (even.lowers b c) in
-      let falls = turn_falls p law plainly keeps within_steps k lack who rest b (is_early s b) (less_early p law plainly s b gone) even.stable e here (ap (λ g. if g then false else is_early s b who) (equal_number who who refl)) (λ n i. ap (λ g. if g then false else is_early s b n) i) lowers in
+      let falls = turn_falls p law plainly keeps within_steps k lack who rest b (is_early s b) (less_early p law plainly s b gone) even.stable st.settled e here (ap (λ g. if g then false else is_early s b who) (equal_number who who refl)) (λ n i. ap (λ g. if g then false else is_early s b n) i) lowers in
       let owes = falls.falling.owes in (
         record {
           places = λ n there. places_after p law plainly k s even.stable even.stands even.stamps (turn p lack k.world who) gone left steps rest (k.early - 1) (turn_stable lack k who rest even.stable e) (turn p lack s.world who) (turn_after s lack even who rest e) b here n there;
@@ -351,13 +351,13 @@ module _ {V : Type 0} (p : Program V) (law : IsLawful p) (plainly : MakesPlain p
       record { places = λ n there. ap (λ (q : Scopes). is_inside q b n) h.scopes_kept; no_more = omega (arith, same) }
 
   -- a wait makes nothing due
-  due_heated : (w v : World V) (cs : List (Coroutine V)) → AllSit p cs → v.scopes ≡ w.scopes → v.handles ≡ w.handles → v.closings ≡ w.closings → first_some (answer_due v) cs ≡ first_some (answer_due w) cs
-  due_heated w v [] a s h c = refl
-  due_heated w v (x ∷ cs) a s h c = ap (λ o. option_or o (first_some (answer_due v) cs)) (due_at w v x.number (pending_call x.mode) a.0.0 s h c) ∙ ap (λ o. option_or (answer_due w x) o) (due_heated w v cs a.1 s h c)
+  due_heated : (w v : World V) (cs : List (Coroutine V)) → AllSit p cs → v.scopes ≡ w.scopes → v.handles ≡ w.handles → v.closings ≡ w.closings → v.channels ≡ w.channels → first_some (answer_due v) cs ≡ first_some (answer_due w) cs
+  due_heated w v [] a s h c d = refl
+  due_heated w v (x ∷ cs) a s h c d = ap (λ o. option_or o (first_some (answer_due v) cs)) (due_at w v x.number (pending_call x.mode) a.0.0 s h c d) ∙ ap (λ o. option_or (answer_due w x) o) (due_heated w v cs a.1 s h c d)
 
-  heats_more : (ready : List Ready) (w : World V) → ((fold heat_ready w ready).handles ≡ w.handles) × ((fold heat_ready w ready).closings ≡ w.closings)
-  heats_more [] w = (refl, refl)
-  heats_more (x ∷ xs) w = let r = heats_more xs (heat_ready w x) in (r.0, r.1)
+  heats_more : (ready : List Ready) (w : World V) → ((fold heat_ready w ready).handles ≡ w.handles) × ((fold heat_ready w ready).closings ≡ w.closings) × ((fold heat_ready w ready).channels ≡ w.channels)
+  heats_more [] w = (refl, refl, refl)
+  heats_more (x ∷ xs) w = let r = heats_more xs (heat_ready w x) in (r.0, r.1, r.2)
 
   finishes_same : (w v : World V) (cs : List (Coroutine V)) → v.scopes ≡ w.scopes → find (can_finish v) cs ≡ find (can_finish w) cs
   finishes_same w v cs e = ap (λ t. find (can_finish (record w { scopes = t })) cs) e
@@ -371,7 +371,7 @@ module _ {V : Type 0} (p : Program V) (law : IsLawful p) (plainly : MakesPlain p
       let sits = (good_stable p k st.even.stable).sits in
       record {
         endings = ap (find (can_finish v)) h.crew_kept ∙ finishes_same k.world v k.world.coroutines h.scopes_kept ∙ st.settled.endings;
-        answers = ap (first_some (answer_due v)) h.crew_kept ∙ due_heated k.world v k.world.coroutines sits h.scopes_kept m.0 m.1 ∙ st.settled.answers;
+        answers = ap (first_some (answer_due v)) h.crew_kept ∙ due_heated k.world v k.world.coroutines sits h.scopes_kept m.0 m.1 m.2 ∙ st.settled.answers;
       }
 
   -- ---- the laws

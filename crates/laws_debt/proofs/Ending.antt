@@ -13,7 +13,6 @@ use Rattle.dill_calls.specs.Program.{Program, IsLawful}
 use Rattle.dill_scope.specs.declared.forest.Bundle.{Bundle}
 use Rattle.dill_scope.specs.Scopes as scopes
 use Rattle.dill_base.specs.Maps.{if_some, first_some, change}
-use Rattle.dill_plain.specs.Plain.{MakesPlain}
 use Rattle.dill_rules.specs.declared.coroutine.Coroutine.{Coroutine}
 use Rattle.dill_rules.specs.World.{World, is_coroutine, coroutine_of, begin, pending_call, is_answered}
 use Rattle.dill_rules.specs.Taking.{is_cancelled}
@@ -23,8 +22,12 @@ use Rattle.dill_rules.specs.State.{lined, fresh}
 use Rattle.dill_rules.specs.Turning.{as_running, resume, given_of, answer_given, go_on, turn}
 use Rattle.laws_queue.specs.Kept.{Kept, has_answer, queued, turn_first, kept_turn, kept_shut, root_closed}
 use Rattle.laws_queue.specs.Laws.{MayTurn, KeepsWell}
-use Rattle.laws_sound.specs.Plain.{may_wait, IsPlain}
+use Rattle.laws_sound.specs.Plain.{MakesLinkless, may_wait, IsPlain}
 use Rattle.laws_sound.proofs.Apart.{plain_apart}
+use Rattle.laws_sound.proofs.Meeting.{choice_same}
+use Rattle.dill_rules.specs.Answers.{when, choice_fault, clause_fault}
+use Rattle.dill_base.specs.declared.errno.Errno.TheVariants.{Ecanceled}
+use Rattle.dill_calls.specs.declared.answer.Answer.TheVariants.{Fault}
 use Rattle.laws_queue.specs.Well.{Numbered, bit, occurs, IsQueue, IsWell}
 use Rattle.laws_sound.specs.Laws.{SettlesApart, is_closing, CancelsAll, RootGoesOn}
 use Rattle.laws_sound.specs.Order.{IsInOrder}
@@ -37,14 +40,15 @@ use Rattle.laws_sound.proofs.Plainly.{begin_plain}
 use Rattle.laws_sound.proofs.Steps.{settle_one_plain}
 use Rattle.laws_sound.proofs.Turns.{closed_plain, go_on_plain}
 use Rattle.laws_debt.proofs.Bounded.{owes_few, all_early}
-use Rattle.laws_debt.proofs.Keeping.{root_flags, good_stable, sits_resumed, turn_is}
+use Rattle.laws_debt.proofs.Keeping.{root_flags, good_stable, turn_is}
 use Rattle.laws_queue.proofs.Lining.{lined_pending}
 use Rattle.laws_sound.proofs.Leaving.{lined_ends}
 use Rattle.laws_debt.proofs.Lists.{is_total, all_found, all_to, found_passes, equal_number}
 use Rattle.laws_debt.proofs.Lowering.{all_calm, owed_evolves, lowers_evolves, owed_lined, all_lower_lined, others_lower, share_falls, answered_owes, called_falls, ended_falls, first_gone, others_same}
 use Rattle.laws_debt.proofs.Settling.{AllSit, leads_sits, settle_one_leads, settle_leads}
 use Rattle.laws_debt.proofs.Shutting.{settle_shut, AllHold, Lasts, settle_one_shut, go_on_shut}
-use Rattle.laws_debt.proofs.Turning.{given_is, Went, called, ended, go_on_went, went_leads, found_number, all_resumed}
+use Rattle.laws_debt.proofs.Unmet.{unmet}
+use Rattle.laws_debt.proofs.Turning.{sits_resumed, given_is, Went, called, ended, go_on_went, went_leads, found_number, all_resumed}
 use Rattle.laws_debt.proofs.Walking.{Leads, unlike}
 use Rattle.laws_queue.proofs.Numbers.{found_changed}
 use Rattle.laws_sound.proofs.Going.{plain_long}
@@ -121,23 +125,35 @@ module _ {V : Type 0} where
 -- ---- nothing is due behind a step
 
 module _ {V : Type 0} where
-  answer_same : (w v : World V) (who : ℕ) (call : Call) → may_wait call ≡ true → v.scopes ≡ w.scopes → v.handles ≡ w.handles → v.closings ≡ w.closings → answer_of v who call ≡ answer_of w who call
-  answer_same w v who (calls.Msleep deadline) e s h c = ap (λ t. answer_of (record w { scopes = t }) who (calls.Msleep deadline)) s
-  answer_same w v who (calls.BundleWait number deadline) e s h c =
+  answer_same : (w v : World V) (who : ℕ) (call : Call) → may_wait call ≡ true → v.scopes ≡ w.scopes → v.handles ≡ w.handles → v.closings ≡ w.closings → v.channels ≡ w.channels → answer_of v who call ≡ answer_of w who call
+  answer_same w v who (calls.Msleep deadline) e s h c d = ap (λ t. answer_of (record w { scopes = t }) who (calls.Msleep deadline)) s
+  answer_same w v who (calls.BundleWait number deadline) e s h c d =
       ap (λ t. answer_of (record v { scopes = t }) who (calls.BundleWait number deadline)) s ∙ ap (λ t. answer_of (record w { handles = t }) who (calls.BundleWait number deadline)) h
-  answer_same w v who (calls.Hclose number) e s h c =
+  answer_same w v who (calls.Hclose number) e s h c d =
       ap (λ t. answer_of (record v { scopes = t }) who (calls.Hclose number)) s ∙ ap (λ t. answer_of (record w { closings = t }) who (calls.Hclose number)) c
-  answer_same w v who _ e s h c = cc
+  answer_same w v who (calls.Chsend number bytes deadline) e s h c d =
+      ap (λ t. answer_of (record v { scopes = t }) who (calls.Chsend number bytes deadline)) s
+      ∙ ap (λ t. answer_of (record v { scopes = w.scopes; handles = t }) who (calls.Chsend number bytes deadline)) h
+      ∙ ap (λ t. answer_of (record w { channels = t }) who (calls.Chsend number bytes deadline)) d
+  answer_same w v who (calls.Chrecv number size deadline) e s h c d =
+      ap (λ t. answer_of (record v { scopes = t }) who (calls.Chrecv number size deadline)) s
+      ∙ ap (λ t. answer_of (record v { scopes = w.scopes; handles = t }) who (calls.Chrecv number size deadline)) h
+      ∙ ap (λ t. answer_of (record w { channels = t }) who (calls.Chrecv number size deadline)) d
+  answer_same w v who (calls.Choose deadline all) e s h c d =
+      ap (λ t. option_or (when (is_cancelled (record w { scopes = t }) who) (Fault Ecanceled)) (option_or None (choice_fault v 0 all))) s
+      ∙ ap (λ o. option_or (when (is_cancelled w who) (Fault Ecanceled)) (option_or None o))
+      (choice_same v w (λ number want. ap (λ t. clause_fault (record v { handles = t }) number want) h ∙ ap (λ t. clause_fault (record w { channels = t }) number want) d) 0 all)
+  answer_same w v who _ e s h c d = cc
 
-  pub due_at : (w v : World V) (n : ℕ) (o : Option Call) → if_some o true may_wait ≡ true → v.scopes ≡ w.scopes → v.handles ≡ w.handles → v.closings ≡ w.closings → ◌≡◌ {A = Option (ℕ × Call × Answer)} (if_some o None (λ call. if_some (answer_of v n call) None (λ a. Some (n, call, a)))) (if_some o None (λ call. if_some (answer_of w n call) None (λ a. Some (n, call, a))))
-  due_at w v n None m s h c = refl
-  due_at w v n (Some call) m s h c = ap (λ r. if_some r None (λ a. Some (n, call, a))) (answer_same w v n call m s h c)
+  pub due_at : (w v : World V) (n : ℕ) (o : Option Call) → if_some o true may_wait ≡ true → v.scopes ≡ w.scopes → v.handles ≡ w.handles → v.closings ≡ w.closings → v.channels ≡ w.channels → ◌≡◌ {A = Option (ℕ × Call × Answer)} (if_some o None (λ call. if_some (answer_of v n call) None (λ a. Some (n, call, a)))) (if_some o None (λ call. if_some (answer_of w n call) None (λ a. Some (n, call, a))))
+  due_at w v n None m s h c d = refl
+  due_at w v n (Some call) m s h c d = ap (λ r. if_some r None (λ a. Some (n, call, a))) (answer_same w v n call m s h c d)
 
-  due_lined : (p : Program V) (w v : World V) (cs : List (Coroutine V)) → AllSit p cs → v.scopes ≡ w.scopes → v.handles ≡ w.handles → v.closings ≡ w.closings → first_some (answer_due v) (map lined cs) ≡ first_some (answer_due w) cs
-  due_lined p w v [] a s h c = refl
-  due_lined p w v (x ∷ cs) a s h c =
-      let one : answer_due v (lined x) ≡ answer_due w x = ap (λ o. if_some o None (λ call. if_some (answer_of v x.number call) None (λ b. Some (x.number, call, b)))) (lined_pending x.mode) ∙ due_at w v x.number (pending_call x.mode) a.0.0 s h c in
-      ap (λ o. option_or o (first_some (answer_due v) (map lined cs))) one ∙ ap (λ o. option_or (answer_due w x) o) (due_lined p w v cs a.1 s h c)
+  due_lined : (p : Program V) (w v : World V) (cs : List (Coroutine V)) → AllSit p cs → v.scopes ≡ w.scopes → v.handles ≡ w.handles → v.closings ≡ w.closings → v.channels ≡ w.channels → first_some (answer_due v) (map lined cs) ≡ first_some (answer_due w) cs
+  due_lined p w v [] a s h c d = refl
+  due_lined p w v (x ∷ cs) a s h c d =
+      let one : answer_due v (lined x) ≡ answer_due w x = ap (λ o. if_some o None (λ call. if_some (answer_of v x.number call) None (λ b. Some (x.number, call, b)))) (lined_pending x.mode) ∙ due_at w v x.number (pending_call x.mode) a.0.0 s h c d in
+      ap (λ o. option_or o (first_some (answer_due v) (map lined cs))) one ∙ ap (λ o. option_or (answer_due w x) o) (due_lined p w v cs a.1 s h c d)
 
   none_lined : (test more : Coroutine V → Bool) (cs : List (Coroutine V)) → ((x : Coroutine V) → more (lined x) ≡ test x) → find test cs ≡ None → find more (map lined cs) ≡ None
   none_lined test more [] h e = refl
@@ -151,7 +167,7 @@ module _ {V : Type 0} where
   pub settled_queued : (p : Program V) (w : World V) (ready : List ℕ) (early : ℕ) → AllSit p w.coroutines → IsSettled w → IsSettled (queued w ready early).world
   settled_queued p w ready early a s = record {
     endings = none_lined (can_finish w) (can_finish (queued w ready early).world) w.coroutines (λ x. ap (λ b. b && is_clear w x.number) (lined_ends x.mode)) s.endings;
-    answers = due_lined p w (queued w ready early).world w.coroutines a refl refl refl ∙ s.answers;
+    answers = due_lined p w (queued w ready early).world w.coroutines a refl refl refl refl ∙ s.answers;
   }
 
 pub take_all : (xs ys : List ℕ) → take (length xs) (xs ++ ys) ≡ xs
@@ -174,7 +190,7 @@ absent_rest who rest false e = let one : bit (who == who) ≡ 1 = ap bit (equal_
 
 -- ---- worlds in which the root is closing, within a step
 
-module _ {V : Type 0} (p : Program V) (law : IsLawful p) (plainly : MakesPlain p) (cancels : CancelsAll V) (within : KeepsWithin p) where
+module _ {V : Type 0} (p : Program V) (law : IsLawful p) (plainly : MakesLinkless p) (cancels : CancelsAll V) (within : KeepsWithin p) where
   record InClosing (w : World V) : Type 0 where
     plain : IsPlain w
     order : IsOrderly w
@@ -270,10 +286,10 @@ module _ {V : Type 0} (p : Program V) (law : IsLawful p) (plainly : MakesPlain p
         let says = all_found (Says p) (is_coroutine who) c w.coroutines may.found s.stable.says in
         let lowering = all_found (IsLowering (early_of k.early (who ∷ rest))) (is_coroutine who) c w.coroutines may.found lowers in
         let plain_move = plainly c.body (answer_given b who).1 may.real may.some in
-        let went : Went p law all_calm b who c (answer_given b who).1 moved = go_on_went p law all_calm lack b who c plainly may.some (record { found = may.found; real = may.real; cancelled = λ q. off w who c before may.found q; born = λ q. cc }) in
+        let went : Went p law all_calm b who c (answer_given b who).1 moved = go_on_went p law all_calm lack b who c plainly may.some (record { found = may.found; real = may.real; cancelled = λ q. off w who c before may.found q; born = λ q. cc; sits = sits; met = λ other its answer g q. unmet p w sits s.settled other its answer g (λ d h. off w other d before h q) }) in
         let from = went_leads p law all_calm b who c (answer_given b who).1 moved may.found went in
         let view = from.0 in
-        let sits_moved = leads_sits p all_calm (resume b who view) moved from.1 (sits_resumed p law plainly b who view c may.found sits) in
+        let sits_moved = leads_sits p all_calm (resume b who view) moved from.1 (sits_resumed p b who view c may.found sits) in
         let resumed = all_resumed who view (IsLowering (early_of k.early (who ∷ rest))) (IsLowering (early_of (k.early - 1) rest)) w.coroutines 0 w.last_coroutine s.stable.well.numbered
         (others_lower p (early_of k.early (who ∷ rest)) (early_of (k.early - 1) rest) who gone (others_same who rest k.early)) (λ x i f. tt) lowers in
         record {

@@ -12,16 +12,16 @@ use Rattle.dill_calls.specs.declared.word.Word.{Word}
 use Rattle.dill_calls.specs.declared.word.Word.TheVariants as words
 use Rattle.dill_calls.specs.CallTable.{word_of, blocks, makes, gives_up, is_start, is_hclose, is_quiet}
 use Rattle.dill_calls.specs.Program.{Program, PassesWell, Lowers}
-use Rattle.dill_plain.specs.Plain.{is_plain}
 use Rattle.dill_rules.specs.World.{World}
 use Rattle.dill_rules.specs.Naming.{bears}
 use Rattle.dill_rules.specs.Taking.{is_cancelled, takes_anothers}
 use Rattle.dill_rules.specs.Answers.{when, answer_of}
 use Rattle.dill_rules.specs.Refusals.{refuse, holds, is_called_off, is_refused_by_stack, order, giving_order}
 use Rattle.dill_rules.specs.Entering.{entered, lack_fault}
+use Rattle.dill_rules.specs.Channeling.{without_bytes}
 use Rattle.laws_queue.proofs.Acting.{may_pend, may_meet}
 use Rattle.laws_queue.proofs.Walking.{none_behind}
-use Rattle.laws_sound.specs.Plain.{may_wait}
+use Rattle.laws_sound.specs.Plain.{is_of_link, may_wait}
 
 by_quiet : (word : Word) (answer : Answer) → is_quiet word ≡ true → Lowers word answer
 by_quiet word answer e = inr (inl e)
@@ -48,17 +48,27 @@ pub entered_passes : (moment : ℕ) (call : Call) → PassesWell call → Passes
 entered_passes moment (calls.Pass word fault) f = f
 entered_passes moment call f = tt
 
--- plain calls that may stay pending, and that they meet nobody
-pub plain_waits : (call : Call) → is_plain call ≡ true → may_pend call ≡ true → may_wait call ≡ true
+-- calls of no link that may stay pending
+pub plain_waits : (call : Call) → is_of_link (word_of call) ≡ false → may_pend call ≡ true → may_wait call ≡ true
 plain_waits (calls.Msleep deadline) e m = refl
 plain_waits (calls.Hclose number) e m = refl
 plain_waits (calls.BundleWait number deadline) e m = refl
+plain_waits (calls.Chsend number bytes deadline) e m = refl
+plain_waits (calls.Chrecv number size deadline) e m = refl
+plain_waits (calls.Choose deadline all) e m = refl
 plain_waits (calls.Pass word fault) e m = cc
 plain_waits _ e m = cc
 
-pub plain_meets : (call : Call) → is_plain call ≡ true → may_meet call ≡ true → ⊥
-plain_meets (calls.Pass word fault) e m = cc
-plain_meets _ e m = cc
+-- who may meet another waits without its bytes
+pub bare_waits : (call : Call) → may_meet call ≡ true → may_wait (without_bytes call) ≡ true
+bare_waits (calls.Chsend number bytes deadline) m = refl
+bare_waits (calls.Chrecv number size deadline) m = refl
+bare_waits (calls.Choose deadline all) m = refl
+bare_waits _ m = cc
+
+pub word_bare : (call : Call) → word_of (without_bytes call) ≡ word_of call
+word_bare (calls.Chsend number bytes deadline) = refl
+word_bare call = refl
 
 quiet_by : (start block close up : Bool) → start ≡ false → (up ≡ true) ⊎ (block ≡ false) → (not start && (not block || (close || up))) ≡ true
 quiet_by true block close up e f = cc

@@ -9,13 +9,13 @@ use Rattle.dill_scope.specs.Forest.{IsForest}
 use Rattle.dill_scope.specs.Keeping.{IsThere}
 use Rattle.dill_scope.proofs.Chains.{search_is_inside}
 use Rattle.dill_base.specs.Maps.{change}
-use Rattle.dill_plain.specs.Plain.{MakesPlain}
 use Rattle.dill_rules.specs.declared.coroutine.Coroutine.{Coroutine}
 use Rattle.dill_rules.specs.declared.coroutine.Mode.{Mode}
 use Rattle.dill_rules.specs.declared.coroutine.Mode.TheVariants as modes
 use Rattle.dill_rules.specs.World.{World, is_coroutine, coroutine_of, begin, with_mode, is_ending, is_answered}
-use Rattle.dill_rules.specs.Settling.{settle}
+use Rattle.dill_rules.specs.Settling.{settle, IsSettled}
 use Rattle.dill_rules.specs.Turning.{as_running, resume, given_of, answer_given, go_on, turn}
+use Rattle.laws_sound.specs.Plain.{MakesLinkless}
 use Rattle.laws_queue.specs.Kept.{Kept}
 use Rattle.laws_queue.specs.Laws.{KeepsWell}
 use Rattle.laws_queue.specs.Well.{Numbered}
@@ -30,14 +30,15 @@ use Rattle.laws_sound.proofs.Turns.{go_on_plain}
 use Rattle.laws_debt.proofs.Ending.{KeepsWithin, IsShutAs, shut_lasts}
 use Rattle.laws_debt.proofs.Evolving.{Evolves, Suits, newborn, evolves_all, evolves_total}
 use Rattle.laws_debt.proofs.Holding.{new_outside as new_outside_of}
-use Rattle.laws_debt.proofs.Keeping.{good_stable, sits_resumed, turn_is}
+use Rattle.laws_debt.proofs.Keeping.{good_stable, turn_is}
 use Rattle.laws_debt.proofs.Lists.{all_found, all_to, found_passes, number_of, some_same}
 use Rattle.laws_debt.proofs.Lowering.{less_at, others_lower, others_share, share_falls, answered_owes}
 use Rattle.laws_debt.proofs.Settling.{leads_sits}
 use Rattle.laws_debt.proofs.Shutting.{go_on_shut}
 use Rattle.laws_debt.proofs.Tracking.{tracks_self, all_by_key}
 use Rattle.laws_debt.proofs.Tree.{InTree, tree_same, tree_off, tree_leads, settled_tree, facts_of, closing_found, go_on_tracks}
-use Rattle.laws_debt.proofs.Turning.{given_is, Went, called, ended, go_on_went, went_leads, found_number, all_resumed, total_resumed}
+use Rattle.laws_debt.proofs.Unmet.{unmet}
+use Rattle.laws_debt.proofs.Turning.{sits_resumed, given_is, Went, called, ended, go_on_went, went_leads, found_number, all_resumed, total_resumed}
 use Rattle.laws_debt.proofs.Walking.{unlike}
 use Rattle.laws_queue.proofs.Numbers.{found_changed}
 use Rattle.laws_sound.specs.Orderly.{weigh}
@@ -102,7 +103,7 @@ module _ {V : Type 0} where
       let here : find (is_bundle b) w.scopes.bundles ≡ Some y = subst (λ n. find (is_bundle n) w.scopes.bundles ≡ Some y) (number_of y.name b i) e in
       ap (λ z. z.closing) (some_same y x.0 (sym here ∙ x.1)) ∙ x.2) (all_by_key (λ (y : Bundle). y.name) w.scopes.bundles o.fits.forest.ordered.bundles)
 
-module _ {V : Type 0} (p : Program V) (law : IsLawful p) (plainly : MakesPlain p) where
+module _ {V : Type 0} (p : Program V) (law : IsLawful p) (plainly : MakesLinkless p) where
   -- a world between steps is one of its own step
   pub tree_self : (k : Kept V) (b : ℕ) → (s : IsStable p k) → is_closing k.world.scopes b ≡ true → InTree p k.world.scopes b s.order.order.fits.forest.forest k.world
   tree_self k b s c =
@@ -197,8 +198,8 @@ module _ {V : Type 0} (p : Program V) (law : IsLawful p) (plainly : MakesPlain p
     pub strictly : is_inside w.scopes b who ≡ true → weigh (share_in p (is_inside w.scopes b) less) v.coroutines < weigh (share_in p (is_inside w.scopes b) early) w.coroutines
 
   module _ (keeps : KeepsWell p) (within : KeepsWithin p) where
-    pub turn_falls : (k : Kept V) (lack : Option LackPlace) (who : ℕ) (rest : List ℕ) (b : ℕ) (early less : ℕ → Bool) → (s : IsStable p k) → k.ready ≡ who ∷ rest → is_closing k.world.scopes b ≡ true → less who ≡ false → ((n : ℕ) → (n == who) ≡ false → less n ≡ early n) → AllByRecursion (LowersAt p (is_inside k.world.scopes b) early) k.world.coroutines → TurnFalls k.world b early less who (turn p lack k.world who)
-    turn_falls k lack who rest b early less s e closing gone same lowers =
+    pub turn_falls : (k : Kept V) (lack : Option LackPlace) (who : ℕ) (rest : List ℕ) (b : ℕ) (early less : ℕ → Bool) → (s : IsStable p k) → IsSettled k.world → k.ready ≡ who ∷ rest → is_closing k.world.scopes b ≡ true → less who ≡ false → ((n : ℕ) → (n == who) ≡ false → less n ≡ early n) → AllByRecursion (LowersAt p (is_inside k.world.scopes b) early) k.world.coroutines → TurnFalls k.world b early less who (turn p lack k.world who)
+    turn_falls k lack who rest b early less s nothing_due e closing gone same lowers =
         let w = k.world in
         let forest = s.order.order.fits.forest.forest in
         let tree = is_inside w.scopes b in
@@ -213,10 +214,10 @@ module _ {V : Type 0} (p : Program V) (law : IsLawful p) (plainly : MakesPlain p
         let lowering = all_found (LowersAt p tree early) (is_coroutine who) c w.coroutines may.found lowers in
         let plain_move = plainly c.body (answer_given now who).1 may.real may.some in
         let born : tree (w.last_coroutine + 1) ≡ false = new_outside k b s closing in
-        let went : Went p law tree now who c (answer_given now who).1 moved = go_on_went p law tree lack now who c plainly may.some (record { found = may.found; real = may.real; cancelled = λ q. tree_off p w.scopes b forest w who c self may.found q; born = λ q. born }) in
+        let went : Went p law tree now who c (answer_given now who).1 moved = go_on_went p law tree lack now who c plainly may.some (record { found = may.found; real = may.real; cancelled = λ q. tree_off p w.scopes b forest w who c self may.found q; born = λ q. born; sits = self.sits; met = λ other its answer g q. unmet p w self.sits nothing_due other its answer g (λ d h. tree_off p w.scopes b forest w other d self h q) }) in
         let from = went_leads p law tree now who c (answer_given now who).1 moved may.found went in
         let view = from.0 in
-        let sits = leads_sits p tree (resume now who view) moved from.1 (sits_resumed p law plainly now who view c may.found self.sits) in
+        let sits = leads_sits p tree (resume now who view) moved from.1 (sits_resumed p now who view c may.found self.sits) in
         let resumed = all_resumed who view (LowersAt p tree early) (LowersAt p tree less) w.coroutines 0 w.last_coroutine s.well.numbered
         (λ x i l t. others_lower p early less who gone same x i (l t)) (λ x i t f. tt) lowers in
         let in_moved : InTree p w.scopes b forest moved = record {

@@ -4,7 +4,8 @@ use Rattle.std.specs.Prelude.{option_and_then}
 use Rattle.std.specs.List.{AllByRecursion, list_any}
 use Rattle.dill_base.specs.declared.errno.Errno.{Errno}
 use Rattle.dill_base.specs.declared.errno.Errno.TheVariants as errnos
-use Rattle.dill_calls.specs.declared.answer.Answer.TheVariants.{Fault}
+use Rattle.dill_calls.specs.declared.answer.Answer.TheVariants.{Number, Fault}
+use Rattle.dill_calls.specs.declared.word.Word.TheVariants as words
 use Rattle.dill_calls.specs.declared.call.Call.{Call}
 use Rattle.dill_calls.specs.declared.call.Call.TheVariants as calls
 use Rattle.dill_calls.specs.declared.lists.Arg.{Arg}
@@ -18,7 +19,6 @@ use Rattle.dill_scope.specs.Scopes as scopes
 use Rattle.dill_scope.specs.Scopes.{Scopes, is_bundle, home_of, owner_of}
 use Rattle.dill_scope.specs.Forest.{Inside}
 use Rattle.dill_base.specs.Maps.{if_some, without}
-use Rattle.dill_plain.specs.Plain.{is_plain}
 use Rattle.dill_rules.specs.declared.thing.Thing.{Thing}
 use Rattle.dill_rules.specs.declared.thing.Thing.TheVariants as things
 use Rattle.dill_rules.specs.World.{World, call_of, reply, note}
@@ -27,8 +27,15 @@ use Rattle.dill_rules.specs.Owning.{entry_of, take_thing, move, drop, release, c
 use Rattle.dill_rules.specs.Taking.{bundle_of, is_cancelled, is_leaving, is_anothers, takes_anothers, is_held_back, is_within, is_awaited, is_cancelled_taker, cannot_take, bundle_named, is_occupied}
 use Rattle.dill_rules.specs.Refusals.{refuse, order, order_of, holds, is_called_off, is_busy, is_in_use, is_closed_bundle, is_closed_to, is_refused_by_stack}
 use Rattle.dill_rules.specs.Effects.{add_bundle, close_thing, start, give_all}
+use Rattle.dill_chan.specs.Channels as channels
+use Rattle.dill_chan.specs.Meetings.{has_ended}
+use Rattle.dill_chan.specs.declared.end.Want.TheVariants.{Send}
+use Rattle.dill_rules.specs.Answers.{end_named}
+use Rattle.dill_rules.specs.Channeling.{done_at}
+use Rattle.laws_debt.proofs.Channeling.{channel_scopes}
 use Rattle.dill_rules.specs.Entering.{keep_for, perform, is_too_late, late_answer, meet_deadline, done, enter}
 use Rattle.dill_rules.specs.Settling.{close_owned, end}
+use Rattle.laws_sound.specs.Plain.{is_of_link}
 use Rattle.laws_queue.proofs.Crew.{give_all_crew}
 use Rattle.dill_scope.proofs.Carrying.{inside_lives}
 use Rattle.laws_queue.proofs.Walking.{none_behind, or_false}
@@ -320,7 +327,7 @@ module _ {V : Type 0} (p : Program V) (w : World V) (b : ℕ) (facts : Facts w b
       let moved : Tracks w.scopes b (scopes.enter given.scopes home (given.last_coroutine + 1)) = subst (λ k. Tracks w.scopes b (scopes.enter given.scopes home (k + 1))) (sym same) born in
       subst (λ k. Tracks w.scopes b (scopes.enter (give_all v (gifts_of args) (k + 1)).scopes home ((give_all v (gifts_of args) (k + 1)).last_coroutine + 1))) (sym l) moved
 
-  perform_tracks : (who : ℕ) (view : V) (call : Call) → is_plain call ≡ true → refuse p w who view call ≡ None → Tracks w.scopes b w.scopes → Tracks w.scopes b (perform p (keep_for w call) who view call).scopes
+  perform_tracks : (who : ℕ) (view : V) (call : Call) → is_of_link (word_of call) ≡ false → refuse p w who view call ≡ None → Tracks w.scopes b w.scopes → Tracks w.scopes b (perform p (keep_for w call) who view call).scopes
   perform_tracks who view (calls.Print text) e f h = h
   perform_tracks who view calls.Now e f h = h
   perform_tracks who view calls.Yield e f h = h
@@ -362,6 +369,14 @@ module _ {V : Type 0} (p : Program V) (w : World V) (b : ℕ) (facts : Facts w b
           start_tracks (keep_for w (calls.BundleGo number program args)) view home program args refl (λ j. facts.dead number x i (subst (λ n. bundle_of x.thing ≡ Some n) j g)) (not_of w b facts number x home i g free) a h
   perform_tracks who view (calls.BundleWait number deadline) e f h = h
   perform_tracks who view (calls.Pass word fault) e f h = h
+  perform_tracks who view calls.Chmake e f h = h
+  perform_tracks who view (calls.Chdone number) e f h =
+      let k = keep_for w (calls.Chdone number) in
+      some_tracks w b facts (end_named k number) k (done_at k who) h
+      (λ end g. if_tracks w b facts (has_ended k.channels end (Send [])) (reply k who words.Chdone (Fault errnos.Epipe)) (reply (record k { channels = channels.done k.channels end }) who words.Chdone (Number 0)) h h)
+  perform_tracks who view (calls.Chsend number bytes deadline) e f h = let call = calls.Chsend number bytes deadline in subst (λ t. Tracks w.scopes b t) (sym (channel_scopes (keep_for w call) who call)) h
+  perform_tracks who view (calls.Chrecv number size deadline) e f h = let call = calls.Chrecv number size deadline in subst (λ t. Tracks w.scopes b t) (sym (channel_scopes (keep_for w call) who call)) h
+  perform_tracks who view (calls.Choose deadline all) e f h = let call = calls.Choose deadline all in subst (λ t. Tracks w.scopes b t) (sym (channel_scopes (keep_for w call) who call)) h
   perform_tracks who view _ e f h = cc
 
   meet_tracks : (v : World V) (who : ℕ) → Tracks w.scopes b v.scopes → Tracks w.scopes b (meet_deadline v who).scopes
@@ -369,7 +384,7 @@ module _ {V : Type 0} (p : Program V) (w : World V) (b : ℕ) (facts : Facts w b
       some_tracks w b facts (call_of v who) v (λ call. if is_too_late v who call then reply v who (word_of call) (late_answer call) else v) h
       (λ call e. if_tracks w b facts (is_too_late v who call) (reply v who (word_of call) (late_answer call)) v h h)
 
-  pub enter_tracks : (lacks : Bool) (who : ℕ) (view : V) (call : Call) → is_plain call ≡ true → Tracks w.scopes b w.scopes → Tracks w.scopes b (enter p lacks w who view call).scopes
+  pub enter_tracks : (lacks : Bool) (who : ℕ) (view : V) (call : Call) → is_of_link (word_of call) ≡ false → Tracks w.scopes b w.scopes → Tracks w.scopes b (enter p lacks w who view call).scopes
   enter_tracks lacks who view call e h = at (refuse p w who view call) refl
     where
       at : (o : Option Errno) → refuse p w who view call ≡ o → Tracks w.scopes b (if_some o (if lacks && takes_memory (word_of call) then reply w who (word_of call) (Fault errnos.Enomem) else done p w who view call) (λ f. reply w who (word_of call) (Fault f))).scopes

@@ -9,7 +9,6 @@ use Rattle.dill_kernel.specs.declared.ready.Ready.{Ready}
 use Rattle.dill_scope.specs.declared.forest.Bundle.{Bundle}
 use Rattle.dill_scope.specs.Scopes as scopes
 use Rattle.dill_base.specs.Maps.{if_some}
-use Rattle.dill_plain.specs.Plain.{MakesPlain}
 use Rattle.dill_rules.specs.declared.coroutine.Coroutine.{Coroutine}
 use Rattle.dill_rules.specs.declared.coroutine.Mode.{Mode}
 use Rattle.dill_rules.specs.declared.coroutine.Mode.TheVariants as modes
@@ -21,7 +20,7 @@ use Rattle.dill_rules.specs.State.{lined_mode, lined}
 use Rattle.dill_rules.specs.Turning.{as_running, resume, answer_given, go_on, turn}
 use Rattle.laws_queue.specs.Kept.{Kept, opening_kept, queued, turn_first, kept_turn, kept_expire_next, kept_late, kept_expired, kept_shut, kept_woke, root_closed}
 use Rattle.laws_queue.specs.Laws.{MayTurn, KeepsWell}
-use Rattle.laws_sound.specs.Plain.{may_wait, waits_plainly, IsPlain}
+use Rattle.laws_sound.specs.Plain.{MakesLinkless, may_wait, waits_plainly, IsPlain}
 use Rattle.laws_sound.specs.PlainLaws.{KeepsPlain}
 use Rattle.laws_sound.proofs.Plainly.{begin_plain}
 use Rattle.laws_sound.proofs.PlainLaws.{steps_keep_plain}
@@ -39,7 +38,7 @@ use Rattle.laws_queue.proofs.Lining.{lined_pending, numbered_lined}
 use Rattle.laws_debt.proofs.Lists.{all_change, all_map, all_to, number_of}
 use Rattle.laws_debt.proofs.Settling.{Sits, AllSit, leads_sits, leads_numbered, settle_leads, expire_leads}
 use Rattle.laws_debt.proofs.Shutting.{AllHold, Lasts, settle_shut, expire_one_shut, go_on_shut}
-use Rattle.laws_debt.proofs.Turning.{go_on_went, went_leads}
+use Rattle.laws_debt.proofs.Turning.{sits_resumed, go_on_went, went_leads}
 use Rattle.laws_debt.proofs.Walking.{Leads}
 use Rattle.laws_queue.proofs.Numbers.{numbered_change}
 
@@ -128,21 +127,18 @@ module _ {V : Type 0} (p : Program V) where
   }
 
 -- the turn of the first of the queue
-module _ {V : Type 0} (p : Program V) (law : IsLawful p) (plainly : MakesPlain p) where
-  pub sits_resumed : (w : World V) (who : ℕ) (view : V) (c : Coroutine V) → coroutine_of w who ≡ Some c → AllSit p w.coroutines → AllSit p (resume w who view).coroutines
-  sits_resumed w who view c e a = all_change (Sits p) (is_coroutine who) (as_running view) c w.coroutines e (refl, tt) a
-
+module _ {V : Type 0} (p : Program V) (law : IsLawful p) (plainly : MakesLinkless p) where
   -- the world in which it has made its call, or is ending
   pub good_moved : (lack : Option LackPlace) (w : World V) (who : ℕ) → MayTurn p w who → (one : Coroutine V) → coroutine_of w who ≡ Some one → 1 ≤ p.left one.body → p.real one.body ≡ true → IsGood p w → IsGood p (go_on p lack (begin w) who one.body)
   good_moved lack w who may one found some real g =
       let b = begin w in
       let answer = (answer_given b who).1 in
       let moved = go_on p lack b who one.body in
-      let went = go_on_went p law nobody_calm lack b who one plainly some (record { found = found; real = real; cancelled = λ e. cc; born = λ e. refl }) in
+      let went = go_on_went p law nobody_calm lack b who one plainly some (record { found = found; real = real; cancelled = λ e. cc; born = λ e. refl; sits = g.sits; met = λ other its answer e f. cc }) in
       let from = went_leads p law nobody_calm b who one answer moved found went in
       let view = from.0 in
       let before = resume b who view in
-      let sits = sits_resumed b who view one found g.sits in
+      let sits = sits_resumed p b who view one found g.sits in
       let numbered = numbered_change (is_coroutine who) (as_running view) w.coroutines 0 w.last_coroutine (λ d. refl) g.numbered in
       let numbered_then = leads_numbered p nobody_calm before moved from.1 numbered in
       record {
@@ -173,7 +169,7 @@ module _ {V : Type 0} where
   heat_flags [] w f = f
   heat_flags (x ∷ xs) w f = heat_flags xs (heat_ready w x) (record { ranked = f.ranked; flagged = f.flagged })
 
-module _ {V : Type 0} (p : Program V) (law : IsLawful p) (plainly : MakesPlain p) (keeps : KeepsWell p) (ordered : KeepsOrder p) where
+module _ {V : Type 0} (p : Program V) (law : IsLawful p) (plainly : MakesLinkless p) (keeps : KeepsWell p) (ordered : KeepsOrder p) where
   stays : KeepsPlain p
   stays = steps_keep_plain p law plainly
 

@@ -5,6 +5,8 @@ pub mod Evolving
 pub mod Entering
 pub mod Walking
 pub mod Settling
+pub mod Unmet
+pub mod Channeling
 pub mod Flagging
 pub mod Shutting
 pub mod Turning

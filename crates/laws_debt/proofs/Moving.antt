@@ -7,18 +7,17 @@ use Rattle.dill_calls.specs.Program.{Program, IsLawful}
 use Rattle.dill_scope.specs.Scopes as scopes
 use Rattle.dill_scope.specs.Scopes.{Scopes, is_bundle, is_inside}
 use Rattle.dill_scope.specs.Keeping.{IsThere}
-use Rattle.dill_plain.specs.Plain.{MakesPlain}
 use Rattle.dill_rules.specs.declared.coroutine.Coroutine.{Coroutine}
 use Rattle.dill_rules.specs.declared.coroutine.Mode.{Mode}
 use Rattle.dill_rules.specs.declared.coroutine.Mode.TheVariants as modes
 use Rattle.dill_rules.specs.Debts.{is_early}
 use Rattle.dill_rules.specs.State.{State, Stamp, is_stamp_of, stamp_of, is_fresh}
 use Rattle.dill_rules.specs.World.{World, is_coroutine, begin, is_answered}
-use Rattle.dill_rules.specs.Settling.{settle_one, settle_within, settle}
+use Rattle.dill_rules.specs.Settling.{settle_one, settle_within, settle, IsSettled}
 use Rattle.dill_rules.specs.Turning.{resume, answer_given, go_on, turn}
 use Rattle.laws_queue.specs.Kept.{Kept}
 use Rattle.laws_queue.specs.Laws.{MayTurn, KeepsWell}
-use Rattle.laws_sound.specs.Plain.{IsPlain}
+use Rattle.laws_sound.specs.Plain.{MakesLinkless, IsPlain}
 use Rattle.laws_queue.specs.Stands.{StandsFor}
 use Rattle.laws_queue.specs.Well.{Numbered}
 use Rattle.laws_sound.proofs.Plainly.{begin_plain}
@@ -125,7 +124,7 @@ module _ {V : Type 0} (p : Program V) where
 
 -- ---- the turn
 
-module _ {V : Type 0} (p : Program V) (law : IsLawful p) (plainly : MakesPlain p) (keeps : KeepsWell p) (within : KeepsWithin p) where
+module _ {V : Type 0} (p : Program V) (law : IsLawful p) (plainly : MakesLinkless p) (keeps : KeepsWell p) (within : KeepsWithin p) where
   -- what was asked of those who had an answer before
   abbrev HadAnswer : ℕ → List ℕ → Coroutine V → Type 0
   HadAnswer who ready c = is_answered c.mode ≡ true → ((c.number == who) ≡ false) × (list_any (λ m. m == c.number) ready ≡ true)
@@ -155,7 +154,7 @@ module _ {V : Type 0} (p : Program V) (law : IsLawful p) (plainly : MakesPlain p
       let b = begin w in
       let moved = go_on p lack b who c.body in
       let good = good_moved p law plainly lack w who may c may.found may.some may.real (good_stable p k s) in
-      let went = go_on_went p law nobody_calm lack b who c plainly may.some (record { found = may.found; real = may.real; cancelled = λ e. cc; born = λ e. refl }) in
+      let went = go_on_went p law nobody_calm lack b who c plainly may.some (record { found = may.found; real = may.real; cancelled = λ e. cc; born = λ e. refl; sits = (good_stable p k s).sits; met = λ other its answer e f. cc }) in
       let from = went_leads p law nobody_calm b who c (answer_given b who).1 moved may.found went in
       let found = each_found w.coroutines 0 w.last_coroutine s.well.numbered in
       let before = all_to (λ d. find (is_coroutine d.number) w.coroutines ≡ Some d) (λ d. is_answered d.mode ≡ true → list_any (λ m. m == d.number) k.ready ≡ true) w.coroutines (λ d e a. queued_early k.ready w.coroutines s.well.queue d e a) found in
@@ -184,8 +183,8 @@ module _ {V : Type 0} (p : Program V) (law : IsLawful p) (plainly : MakesPlain p
       at moved good plain order closing (none unanswered) = begun_settles p moved b plain order good.sits good.holds unanswered closing
 
   -- the turn is a step, in which its own answer is taken
-  pub turn_steps : (k : Kept V) (s : State V) (lack : Option LackPlace) (who : ℕ) (rest : List ℕ) → (stable : IsStable p k) → StandsFor k s → HasStamps s → ((b : ℕ) → is_closing s.world.scopes b ≡ true → LowersInside s b) → k.ready ≡ who ∷ rest → Stepped p law plainly k s (turn p lack k.world who) (λ n. n == who) (filter (λ x. not (is_stamp_of who x)) s.answers)
-  turn_steps k s lack who rest stable stands stamps lowers e =
+  pub turn_steps : (k : Kept V) (s : State V) (lack : Option LackPlace) (who : ℕ) (rest : List ℕ) → (stable : IsStable p k) → IsSettled k.world → StandsFor k s → HasStamps s → ((b : ℕ) → is_closing s.world.scopes b ≡ true → LowersInside s b) → k.ready ≡ who ∷ rest → Stepped p law plainly k s (turn p lack k.world who) (λ n. n == who) (filter (λ x. not (is_stamp_of who x)) s.answers)
+  turn_steps k s lack who rest stable settled stands stamps lowers e =
       let may = keeps.first k who rest stable.well e in
       let low = subst (λ (w : World V). AllByRecursion {X = Stamp} (λ x. (x.of ≤ w.last_bundle) × (x.at < s.next)) s.closings) (sym stands.world) stamps.low in
       let each = subst (λ (w : World V). AllByRecursion (λ y. is_some (stamp_of s.closings y.name) ≡ y.closing) w.scopes.bundles) (sym stands.world) stamps.each in
@@ -194,7 +193,7 @@ module _ {V : Type 0} (p : Program V) (law : IsLawful p) (plainly : MakesPlain p
         falls = λ b c.
             let here : AllByRecursion (LowersAt p (is_inside k.world.scopes b) (is_early s b)) k.world.coroutines =
             subst (λ (w : World V). AllByRecursion (λ d. is_inside w.scopes b d.number ≡ true → IsLowering (is_early s b) d) w.coroutines) (sym stands.world) (lowers b (subst (λ (w : World V). is_closing w.scopes b ≡ true) stands.world c)) in
-            (turn_falls p law plainly keeps within k lack who rest b (is_early s b) (less_early p law plainly s b (λ n. n == who)) stable e c (ap (λ g. if g then false else is_early s b who) (equal_number who who refl)) (λ n i. ap (λ g. if g then false else is_early s b n) i) here).falling;
+            (turn_falls p law plainly keeps within k lack who rest b (is_early s b) (less_early p law plainly s b (λ n. n == who)) stable settled e c (ap (λ g. if g then false else is_early s b who) (equal_number who who refl)) (λ n i. ap (λ g. if g then false else is_early s b n) i) here).falling;
         begun = λ b c d. turned_begun k lack who rest b stable e may c d;
         answered = turned_answered k lack who stable may;
         left = λ n g. others_stay n who s.answers g;

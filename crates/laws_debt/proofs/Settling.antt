@@ -1,5 +1,5 @@
 -- Settling and expiring change the coroutines as told, and what is given to the calm lowers.
-use Rattle.std.proofs.Common.{◌≡◌, ◌∙◌, ℕ, zero, suc, List, [], ◌∷◌, length, find, Bool, true, false, Option, Some, None, refl, sym, ap, subst}
+use Rattle.std.proofs.Common.{◌≡◌, ◌∙◌, ℕ, zero, suc, List, [], ◌∷◌, length, find, Bool, true, false, cond, Option, Some, None, refl, sym, ap, subst}
 use Rattle.std.specs.List.{AllByRecursion}
 use Rattle.dill_calls.specs.declared.answer.Answer.{Answer}
 use Rattle.dill_calls.specs.declared.call.Call.{Call}
@@ -8,7 +8,7 @@ use Rattle.dill_calls.specs.declared.word.Word.{Word}
 use Rattle.dill_calls.specs.declared.word.Word.TheVariants as words
 use Rattle.dill_calls.specs.CallTable.{word_of}
 use Rattle.dill_calls.specs.Program.{Program, Begins}
-use Rattle.dill_base.specs.Maps.{if_some, first_some, without}
+use Rattle.dill_base.specs.Maps.{if_some, first_some, change, without}
 use Rattle.dill_rules.specs.declared.coroutine.Coroutine.{Coroutine}
 use Rattle.dill_rules.specs.declared.coroutine.Mode.{Mode}
 use Rattle.dill_rules.specs.declared.coroutine.Mode.TheVariants as modes
@@ -85,10 +85,34 @@ module _ {V : Type 0} (p : Program V) where
   pub call_pends : (w : World V) (who : ℕ) (call : Call) → call_of w who ≡ Some call → PendsIn w who call
   call_pends w who call e = found_pends w who call (coroutine_of w who) refl e
 
+module _ {V : Type 0} where
+  abbrev standing : (Coroutine V → V) → Mode → Coroutine V → Coroutine V
+  standing body mode c = record c { body = body c; mode = mode }
+
+  -- where one stands elsewhere and isn't pending, what is still pending was so
+  pub change_calls : (n x : ℕ) (body : Coroutine V → V) (mode : Mode) (call : Call) (cs : List (Coroutine V)) → pending_call mode ≡ None → if_some (find (is_coroutine n) (change (is_coroutine x) (standing body mode) cs)) None (λ c. pending_call c.mode) ≡ Some call → if_some (find (is_coroutine n) cs) None (λ c. pending_call c.mode) ≡ Some call
+  change_calls n x body mode call [] m e = e
+  change_calls n x body mode call (c ∷ cs) m e = at (is_coroutine x c) e (change_calls n x body mode call cs m)
+    where
+      changed : (b : Bool) → if_some (cond b (Some (standing body mode c)) (find (is_coroutine n) cs)) None (λ d. pending_call d.mode) ≡ Some call → if_some (cond b (Some c) (find (is_coroutine n) cs)) None (λ d. pending_call d.mode) ≡ Some call
+      changed true f = let it : ◌≡◌ {A = Option Call} None (Some call) = sym m ∙ f in cc
+      changed false f = f
+
+      others : (b : Bool) → if_some (cond b (Some c) (find (is_coroutine n) (change (is_coroutine x) (standing body mode) cs))) None (λ d. pending_call d.mode) ≡ Some call → (if_some (find (is_coroutine n) (change (is_coroutine x) (standing body mode) cs)) None (λ d. pending_call d.mode) ≡ Some call → if_some (find (is_coroutine n) cs) None (λ d. pending_call d.mode) ≡ Some call) → if_some (cond b (Some c) (find (is_coroutine n) cs)) None (λ d. pending_call d.mode) ≡ Some call
+      others true f rest = f
+      others false f rest = rest f
+
+      at : (b : Bool) → if_some (find (is_coroutine n) (cond b (standing body mode c ∷ cs) (c ∷ change (is_coroutine x) (standing body mode) cs))) None (λ d. pending_call d.mode) ≡ Some call → (if_some (find (is_coroutine n) (change (is_coroutine x) (standing body mode) cs)) None (λ d. pending_call d.mode) ≡ Some call → if_some (find (is_coroutine n) cs) None (λ d. pending_call d.mode) ≡ Some call) → if_some (cond (is_coroutine n c) (Some c) (find (is_coroutine n) cs)) None (λ d. pending_call d.mode) ≡ Some call
+      at true f rest = changed (is_coroutine n c) f
+      at false f rest = others (is_coroutine n c) f rest
+
 module _ {V : Type 0} (p : Program V) (calm : ℕ → Bool) where
   pub give_leads : (w : World V) (who : ℕ) (call : Call) (answer : Answer) → may_wait call ≡ true → Runs p w who (word_of call) → LowersCalm p calm who (word_of call) answer → Leads p calm w (give w who call answer)
   give_leads w who (calls.Msleep deadline) answer e r l = reply_leads p calm w who words.Msleep answer r l
   give_leads w who (calls.BundleWait number deadline) answer e r l = reply_leads p calm w who words.BundleWait answer r l
+  give_leads w who (calls.Chsend number bytes deadline) answer e r l = reply_leads p calm w who words.Chsend answer r l
+  give_leads w who (calls.Chrecv number size deadline) answer e r l = reply_leads p calm w who words.Chrecv answer r l
+  give_leads w who (calls.Choose deadline all) answer e r l = reply_leads p calm w who words.Choose answer r l
   give_leads w who (calls.Hclose number) answer e r l = reply_behind p calm w (if_some (find (is_dead_as number) w.closings) w (free_bundle w)) who words.Hclose answer (free_dead_crew w number) r l
   give_leads w who _ answer e r l = cc
 

@@ -9,7 +9,6 @@ use Rattle.dill_calls.specs.Program.{Program, IsLawful}
 use Rattle.dill_scope.specs.Scopes as scopes
 use Rattle.dill_scope.specs.Scopes.{Scopes, is_bundle, is_inside}
 use Rattle.dill_base.specs.Maps.{if_some, first_some, change}
-use Rattle.dill_plain.specs.Plain.{MakesPlain}
 use Rattle.dill_rules.specs.declared.coroutine.Coroutine.{Coroutine}
 use Rattle.dill_rules.specs.declared.coroutine.Mode.{Mode}
 use Rattle.dill_rules.specs.declared.coroutine.Mode.TheVariants as modes
@@ -23,7 +22,7 @@ use Rattle.dill_rules.specs.Giving.{give}
 use Rattle.dill_rules.specs.Settling.{answer_due, settle, IsSettled}
 use Rattle.dill_rules.specs.Taking.{is_cancelled}
 use Rattle.laws_queue.specs.Kept.{Kept, queued, root_closed}
-use Rattle.laws_sound.specs.Plain.{may_wait}
+use Rattle.laws_sound.specs.Plain.{MakesLinkless, may_wait}
 use Rattle.laws_queue.specs.Stands.{StandsFor}
 use Rattle.laws_sound.proofs.Turns.{closed_plain}
 use Rattle.laws_sound.specs.Laws.{is_closing, is_timed}
@@ -41,7 +40,8 @@ use Rattle.laws_debt.proofs.Keeping.{nobody_calm, AnyBundle, good_stable, root_f
 use Rattle.laws_queue.proofs.Lining.{lined_pending}
 use Rattle.laws_debt.proofs.Lists.{all_found, all_to, found_passes, number_of}
 use Rattle.laws_debt.proofs.Moving.{unfresh_all as all_unfresh_of, begun_settles, flag_was, flags_dropped, settle_scopes}
-use Rattle.laws_debt.proofs.Settling.{AllSit, call_pends, pending_runs, expire_leads}
+use Rattle.laws_debt.proofs.Settling.{AllSit, call_pends, pending_runs, expire_leads, change_calls}
+use Rattle.laws_debt.proofs.Unmet.{cancels_some, unanswered}
 use Rattle.laws_debt.proofs.Shutting.{settle_shut, AllHold, Lasts, expire_one_shut}
 use Rattle.laws_debt.proofs.Stepwise.{StampOk, stamp_lasts, stamps_self, Stepped, less_early}
 use Rattle.laws_debt.proofs.Tree.{InTree, tree_off}
@@ -52,7 +52,7 @@ use Rattle.laws_sound.proofs.Stepping.{order_root_closed}
 abbrev pub none_gone : ℕ → Bool
 none_gone n = false
 
-module _ {V : Type 0} (p : Program V) (law : IsLawful p) (plainly : MakesPlain p) where
+module _ {V : Type 0} (p : Program V) (law : IsLawful p) (plainly : MakesLinkless p) where
   abbrev HadBefore : List ℕ → Coroutine V → Type 0
   HadBefore ready c = is_answered c.mode ≡ true → (false ≡ false) × (list_any (λ m. m == c.number) ready ≡ true)
 
@@ -149,30 +149,14 @@ module _ {V : Type 0} (p : Program V) (law : IsLawful p) (plainly : MakesPlain p
   abbrev pub Hushed : World V → Type 0
   Hushed w = (n : ℕ) (call : Call) → is_cancelled w n ≡ true → call_of w n ≡ Some call → due_of call ≡ None
 
-  first_none : (w : World V) (cs : List (Coroutine V)) → first_some (answer_due w) cs ≡ None → AllByRecursion (λ c. answer_due w c ≡ None) cs
-  first_none w [] e = tt
-  first_none w (c ∷ cs) e = at (answer_due w c) refl e (first_none w cs)
-    where
-      at : (o : Option (ℕ × Call × Answer)) → answer_due w c ≡ o → option_or o (first_some (answer_due w) cs) ≡ None → (first_some (answer_due w) cs ≡ None → AllByRecursion (λ d. answer_due w d ≡ None) cs) → (answer_due w c ≡ None) × AllByRecursion (λ d. answer_due w d ≡ None) cs
-      at None i f rest = (i, rest f)
-      at (Some x) i f rest = cc
-
-  cancels_some : (c : Bool) (x : Answer) (rest : Option Answer) → c ≡ true → option_or (if c then Some x else None) rest ≡ None → ⊥
-  cancels_some true x rest e f = let it : ◌≡◌ {A = Option Answer} (Some x) None = f in cc
-  cancels_some false x rest e f = cc
-
   hushes : (w : World V) (n : ℕ) (call : Call) → may_wait call ≡ true → is_cancelled w n ≡ true → answer_of w n call ≡ None → due_of call ≡ None
   hushes w n (calls.Msleep deadline) m c e = absurd (cancels_some (is_cancelled w n) _ _ c e)
   hushes w n (calls.BundleWait number deadline) m c e = absurd (cancels_some (is_cancelled w n) _ _ c e)
+  hushes w n (calls.Chsend number bytes deadline) m c e = absurd (cancels_some (is_cancelled w n) _ _ c e)
+  hushes w n (calls.Chrecv number size deadline) m c e = absurd (cancels_some (is_cancelled w n) _ _ c e)
+  hushes w n (calls.Choose deadline all) m c e = absurd (cancels_some (is_cancelled w n) _ _ c e)
   hushes w n (calls.Hclose number) m c e = refl
   hushes w n _ m c e = cc
-
-  due_none : (w : World V) (c : Coroutine V) (call : Call) → pending_call c.mode ≡ Some call → answer_due w c ≡ None → answer_of w c.number call ≡ None
-  due_none w c call e f = at (answer_of w c.number call) refl (sym (ap (λ o. if_some o None (λ d. if_some (answer_of w c.number d) None (λ a. Some (c.number, d, a)))) e) ∙ f)
-    where
-      at : (o : Option Answer) → answer_of w c.number call ≡ o → ◌≡◌ {A = Option (ℕ × Call × Answer)} (if_some o None (λ a. Some (c.number, call, a))) None → answer_of w c.number call ≡ None
-      at None i g = i
-      at (Some a) i g = cc
 
   -- nothing is due of who is cancelled, once a world has settled
   pub hushed_settled : (k : Kept V) → IsStable p k → IsSettled k.world → Hushed k.world
@@ -181,25 +165,7 @@ module _ {V : Type 0} (p : Program V) (law : IsLawful p) (plainly : MakesPlain p
       let good = good_stable p k stable in
       let d = call_pends p w n call e in
       let r = pending_runs p w n call good.sits d in
-      let none = all_found (λ x. answer_due w x ≡ None) (is_coroutine n) d.one w.coroutines d.found (first_none w w.coroutines settled.answers) in
-      let number : d.one.number ≡ n = number_of d.one.number n (found_passes (is_coroutine n) w.coroutines d.one d.found) in
-      hushes w n call r.1 c (subst (λ m. answer_of w m call ≡ None) number (due_none w d.one call d.pends none))
-
-  change_calls : (n x : ℕ) (mode : Mode) (call : Call) (cs : List (Coroutine V)) → pending_call mode ≡ None → if_some (find (is_coroutine n) (change (is_coroutine x) (with_mode mode) cs)) None (λ c. pending_call c.mode) ≡ Some call → if_some (find (is_coroutine n) cs) None (λ c. pending_call c.mode) ≡ Some call
-  change_calls n x mode call [] m e = e
-  change_calls n x mode call (c ∷ cs) m e = at (is_coroutine x c) e (change_calls n x mode call cs m)
-    where
-      changed : (b : Bool) → if_some (cond b (Some (with_mode mode c)) (find (is_coroutine n) cs)) None (λ d. pending_call d.mode) ≡ Some call → if_some (cond b (Some c) (find (is_coroutine n) cs)) None (λ d. pending_call d.mode) ≡ Some call
-      changed true f = let it : ◌≡◌ {A = Option Call} None (Some call) = sym m ∙ f in cc
-      changed false f = f
-
-      others : (b : Bool) → if_some (cond b (Some c) (find (is_coroutine n) (change (is_coroutine x) (with_mode mode) cs))) None (λ d. pending_call d.mode) ≡ Some call → (if_some (find (is_coroutine n) (change (is_coroutine x) (with_mode mode) cs)) None (λ d. pending_call d.mode) ≡ Some call → if_some (find (is_coroutine n) cs) None (λ d. pending_call d.mode) ≡ Some call) → if_some (cond b (Some c) (find (is_coroutine n) cs)) None (λ d. pending_call d.mode) ≡ Some call
-      others true f rest = f
-      others false f rest = rest f
-
-      at : (b : Bool) → if_some (find (is_coroutine n) (cond b (with_mode mode c ∷ cs) (c ∷ change (is_coroutine x) (with_mode mode) cs))) None (λ d. pending_call d.mode) ≡ Some call → (if_some (find (is_coroutine n) (change (is_coroutine x) (with_mode mode) cs)) None (λ d. pending_call d.mode) ≡ Some call → if_some (find (is_coroutine n) cs) None (λ d. pending_call d.mode) ≡ Some call) → if_some (cond (is_coroutine n c) (Some c) (find (is_coroutine n) cs)) None (λ d. pending_call d.mode) ≡ Some call
-      at true f rest = changed (is_coroutine n c) f
-      at false f rest = others (is_coroutine n c) f rest
+      hushes w n call r.1 c (unanswered p w n call settled d)
 
   -- what is given up at its deadline leaves the bundles, and the calls of others
   pub record Leaves (w v : World V) : Type 0 where
@@ -207,8 +173,11 @@ module _ {V : Type 0} (p : Program V) (law : IsLawful p) (plainly : MakesPlain p
     pub calls_were : (n : ℕ) (call : Call) → call_of v n ≡ Some call → call_of w n ≡ Some call
 
   give_leaves : (w : World V) (x : ℕ) (call : Call) (answer : Answer) → may_wait call ≡ true → is_some (due_of call) ≡ true → Leaves w (give w x call answer)
-  give_leaves w x (calls.Msleep deadline) answer m d = record { scopes_same = refl; calls_were = λ n call e. change_calls n x _ call w.coroutines refl e }
-  give_leaves w x (calls.BundleWait number deadline) answer m d = record { scopes_same = refl; calls_were = λ n call e. change_calls n x _ call w.coroutines refl e }
+  give_leaves w x (calls.Msleep deadline) answer m d = record { scopes_same = refl; calls_were = λ n call e. change_calls n x (λ c. c.body) (modes.Fresh _ answer) call w.coroutines refl e }
+  give_leaves w x (calls.BundleWait number deadline) answer m d = record { scopes_same = refl; calls_were = λ n call e. change_calls n x (λ c. c.body) (modes.Fresh _ answer) call w.coroutines refl e }
+  give_leaves w x (calls.Chsend number bytes deadline) answer m d = record { scopes_same = refl; calls_were = λ n call e. change_calls n x (λ c. c.body) (modes.Fresh _ answer) call w.coroutines refl e }
+  give_leaves w x (calls.Chrecv number size deadline) answer m d = record { scopes_same = refl; calls_were = λ n call e. change_calls n x (λ c. c.body) (modes.Fresh _ answer) call w.coroutines refl e }
+  give_leaves w x (calls.Choose deadline all) answer m d = record { scopes_same = refl; calls_were = λ n call e. change_calls n x (λ c. c.body) (modes.Fresh _ answer) call w.coroutines refl e }
   give_leaves w x (calls.Hclose number) answer m d = cc
   give_leaves w x _ answer m d = cc
 

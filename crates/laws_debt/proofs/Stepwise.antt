@@ -7,13 +7,13 @@ use Rattle.dill_scope.specs.declared.forest.Bundle.{Bundle}
 use Rattle.dill_scope.specs.Scopes.{Scopes, is_bundle, is_inside}
 use Rattle.dill_scope.specs.Keeping.{IsThere}
 use Rattle.dill_base.specs.Maps.{if_some}
-use Rattle.dill_plain.specs.Plain.{MakesPlain}
 use Rattle.dill_rules.specs.declared.coroutine.Coroutine.{Coroutine}
 use Rattle.dill_rules.specs.declared.coroutine.Mode.{Mode}
 use Rattle.dill_rules.specs.declared.coroutine.Mode.TheVariants as modes
 use Rattle.dill_rules.specs.Debts.{is_early, debt}
 use Rattle.dill_rules.specs.State.{State, Stamp, is_stamp_of, stamp_of, stamped, lined_mode, lined, fresh, line_up}
 use Rattle.dill_rules.specs.World.{World, is_coroutine, is_ending, is_answered}
+use Rattle.laws_sound.specs.Plain.{MakesLinkless}
 use Rattle.laws_queue.specs.Kept.{Kept, queued}
 use Rattle.laws_queue.specs.Lending.{wordless}
 use Rattle.laws_queue.specs.Stands.{StandsFor}
@@ -149,7 +149,7 @@ module _ {V : Type 0} (p : Program V) where
       ∙ total_filter (share_by p (is_early s b)) (λ c. is_inside s.world.scopes b c.number) s.world.coroutines
       ∙ ap (λ (u : World V). weigh (share_in p (is_inside u.scopes b) (is_early s b)) u.coroutines) (sym e)
 
-module _ {V : Type 0} (p : Program V) (law : IsLawful p) (plainly : MakesPlain p) where
+module _ {V : Type 0} (p : Program V) (law : IsLawful p) (plainly : MakesLinkless p) where
   -- who was early and isn't gone
   abbrev pub less_early : State V → ℕ → (ℕ → Bool) → ℕ → Bool
   less_early s b gone n = if gone n then false else is_early s b n

@@ -23,7 +23,6 @@ use Rattle.dill_scope.proofs.Carrying.{parent_told}
 use Rattle.dill_scope.proofs.Chains.{search_is_inside}
 use Rattle.dill_scope.proofs.Numbered.{none_below}
 use Rattle.dill_base.specs.Maps.{if_some, first_some}
-use Rattle.dill_plain.specs.Plain.{MovesPlain}
 use Rattle.dill_rules.specs.declared.coroutine.Closing.{Closing}
 use Rattle.dill_rules.specs.declared.coroutine.Coroutine.{Coroutine}
 use Rattle.dill_rules.specs.declared.thing.Thing.{Thing}
@@ -35,7 +34,7 @@ use Rattle.dill_rules.specs.Owning.{entry_of, drop, release, free_bundle, is_dea
 use Rattle.dill_rules.specs.Taking.{bundle_of, is_cancelled}
 use Rattle.dill_rules.specs.Settling.{can_finish, end, highest_first, is_owned_by, free_all, release_all, finish, answer_due, give_first, settle_one, settle_within, settle}
 use Rattle.dill_rules.specs.Turning.{is_build, is_entry, may_lack_build, resume, answer_given, move_of, make_move, lack_move, go_on}
-use Rattle.laws_sound.specs.Plain.{may_wait, IsPlain}
+use Rattle.laws_sound.specs.Plain.{MovesLinkless, may_wait, IsPlain}
 use Rattle.laws_queue.specs.Well.{Numbered, bit, occurs}
 use Rattle.laws_sound.proofs.Lists.{all_found}
 use Rattle.laws_sound.proofs.Steps.{settle_one_plain}
@@ -149,7 +148,7 @@ module _ {V : Type 0} (p : Program V) where
   facts_resumed : (w : World V) (who : ℕ) (view : V) (b : ℕ) → Facts w b → Facts (resume w who view) b
   facts_resumed w who view b f = record { off = f.off; owned = f.owned; each = f.each; dead = f.dead; known = f.known; new_bundle = f.new_bundle; new_home = f.new_home }
 
-  from_move : (lack : Option LackPlace) (w : World V) (who : ℕ) (b : ℕ) (short : V) (next : V × Move) → Facts w b → Tracks w.scopes b w.scopes → MovesPlain next → Tracks w.scopes b (if is_build lack && may_lack_build next.1 then lack_move (resume w who short) who next.1 else make_move p (is_entry lack) (resume w who next.0) who next.0 next.1).scopes
+  from_move : (lack : Option LackPlace) (w : World V) (who : ℕ) (b : ℕ) (short : V) (next : V × Move) → Facts w b → Tracks w.scopes b w.scopes → MovesLinkless next → Tracks w.scopes b (if is_build lack && may_lack_build next.1 then lack_move (resume w who short) who next.1 else make_move p (is_entry lack) (resume w who next.0) who next.0 next.1).scopes
   from_move lack w who b short (new, Calls call) f h plain = at (is_build lack && build_takes_memory (word_of call))
     where
       at : (c : Bool) → Tracks w.scopes b (if c then reply (resume w who short) who (word_of call) (Fault (lack_fault (resume w who short) who (word_of call))) else make_move p (is_entry lack) (resume w who new) who new (Calls call)).scopes
@@ -164,7 +163,7 @@ module _ {V : Type 0} (p : Program V) where
       at true = over
       at false = over
 
-  pub go_on_tracks : (lack : Option LackPlace) (w : World V) (who : ℕ) (view : V) (b : ℕ) → Facts w b → Tracks w.scopes b w.scopes → MovesPlain (move_of p w who view) → Tracks w.scopes b (go_on p lack w who view).scopes
+  pub go_on_tracks : (lack : Option LackPlace) (w : World V) (who : ℕ) (view : V) (b : ℕ) → Facts w b → Tracks w.scopes b w.scopes → MovesLinkless (move_of p w who view) → Tracks w.scopes b (go_on p lack w who view).scopes
   go_on_tracks lack w who view b f h plain = from_move lack w who b (p.short view (answer_given w who).1) (move_of p w who view) f h plain
 
 -- ---- settling
@@ -202,6 +201,9 @@ module _ {V : Type 0} (Q : Scopes → Type 0) (dropped : (t : Scopes) (name : �
   give_tracks : (v : World V) (who : ℕ) (call : Call) (answer : Answer) → may_wait call ≡ true → QTo v → QTo (give v who call answer)
   give_tracks v who (calls.Msleep deadline) answer e h = h
   give_tracks v who (calls.BundleWait number deadline) answer e h = h
+  give_tracks v who (calls.Chsend number bytes deadline) answer e h = h
+  give_tracks v who (calls.Chrecv number size deadline) answer e h = h
+  give_tracks v who (calls.Choose deadline all) answer e h = h
   give_tracks v who (calls.Hclose number) answer e h = at (find (is_dead_as number) v.closings)
     where
       at : (o : Option Closing) → QTo (if_some o v (free_bundle v))

@@ -4,26 +4,28 @@ use Rattle.std.specs.List.{AllByRecursion}
 use Rattle.dill_base.specs.declared.errno.Errno.{Errno}
 use Rattle.dill_calls.specs.declared.answer.Answer.{Answer}
 use Rattle.dill_calls.specs.declared.answer.Answer.TheVariants.{Number, Fault}
+use Rattle.dill_calls.specs.declared.call.Call.{Call}
 use Rattle.dill_calls.specs.declared.ran.LackPlace.{LackPlace}
 use Rattle.dill_calls.specs.declared.word.Word.{Word}
 use Rattle.dill_calls.specs.declared.word.Word.TheVariants.{Start}
 use Rattle.dill_calls.specs.CallTable.{word_of, build_takes_memory}
-use Rattle.dill_calls.specs.Program.{Program, Move, Calls, Ends, IsLawful, Moves, GoesOn}
+use Rattle.dill_calls.specs.Program.{Program, Move, Calls, Ends, IsLawful, Lowers, Moves, GoesOn}
 use Rattle.dill_base.specs.Maps.{if_some, change}
-use Rattle.dill_plain.specs.Plain.{MovesPlain, MakesPlain}
 use Rattle.dill_rules.specs.declared.coroutine.Coroutine.{Coroutine}
 use Rattle.dill_rules.specs.declared.coroutine.Mode.TheVariants as modes
-use Rattle.dill_rules.specs.World.{World, begin, is_coroutine, coroutine_of, with_mode, reply, pending_call}
+use Rattle.dill_rules.specs.World.{World, begin, is_coroutine, coroutine_of, call_of, with_mode, reply, pending_call}
 use Rattle.dill_rules.specs.Taking.{is_cancelled}
 use Rattle.dill_rules.specs.Entering.{entered, lack_fault}
 use Rattle.dill_rules.specs.Settling.{end}
 use Rattle.dill_rules.specs.Turning.{given_of, is_build, is_entry, as_running, may_lack_build, resume, answer_given, make_move, lack_move, go_on}
+use Rattle.laws_sound.specs.Plain.{MovesLinkless, MakesLinkless}
 use Rattle.laws_queue.specs.Well.{Numbered}
 use Rattle.laws_queue.proofs.Crew.{close_all_crew}
 use Rattle.laws_sound.proofs.Turns.{entered_plain}
-use Rattle.laws_debt.proofs.Entering.{plain_waits, plain_meets, word_entered, entered_passes, lack_lowers}
+use Rattle.laws_debt.proofs.Entering.{plain_waits, word_entered, entered_passes, lack_lowers}
 use Rattle.laws_debt.proofs.Evolving.{Evolves, turns}
-use Rattle.laws_debt.proofs.Lists.{found_passes, number_of, some_same, above_other}
+use Rattle.laws_debt.proofs.Settling.{Sits, AllSit, call_pends, pending_runs, change_calls}
+use Rattle.laws_debt.proofs.Lists.{all_change, found_passes, number_of, some_same, above_other}
 use Rattle.laws_debt.proofs.Walking.{Leads, Runs, Enters, reply_leads, enter_leads}
 use Rattle.laws_queue.proofs.Numbers.{found_changed}
 use Rattle.laws_sound.specs.Orderly.{weigh}
@@ -35,6 +37,9 @@ found_number who cs c e = number_of c.number who (found_passes (is_coroutine who
 -- the answer that is given is that of who has the turn
 pub given_is : {V : Type 0} (w : World V) (who : ℕ) (c : Coroutine V) → coroutine_of w who ≡ Some c → answer_given (begin w) who ≡ given_of c.mode
 given_is w who c e = ap (λ o. if_some o (Start, Number 0) (λ d. given_of d.mode)) e
+
+pub sits_resumed : {V : Type 0} (p : Program V) (w : World V) (who : ℕ) (view : V) (c : Coroutine V) → coroutine_of w who ≡ Some c → AllSit p w.coroutines → AllSit p (resume w who view).coroutines
+sits_resumed p w who view c e a = all_change (Sits p) (is_coroutine who) (as_running view) c w.coroutines e (refl, tt) a
 
 module _ {V : Type 0} (p : Program V) (law : IsLawful p) (calm : ℕ → Bool) where
   -- how a coroutine went on from its answer
@@ -50,6 +55,9 @@ module _ {V : Type 0} (p : Program V) (law : IsLawful p) (calm : ℕ → Bool) w
     pub real : p.real c.body ≡ true
     pub cancelled : calm who ≡ true → is_cancelled w who ≡ true
     pub born : calm who ≡ false → calm (w.last_coroutine + 1) ≡ false
+    pub sits : AllSit p w.coroutines
+    -- whoever is pending isn't calm, or what it is answered lowers
+    pub met : (other : ℕ) (its : Call) (answer : Answer) → call_of w other ≡ Some its → calm other ≡ true → Lowers (word_of its) answer
 
   resumed : (w : World V) (who : ℕ) (view : V) (c : Coroutine V) → coroutine_of w who ≡ Some c → coroutine_of (resume w who view) who ≡ Some (as_running view c)
   resumed w who view c e = found_changed (is_coroutine who) (as_running view) c w.coroutines (λ d. refl) e
@@ -57,7 +65,7 @@ module _ {V : Type 0} (p : Program V) (law : IsLawful p) (calm : ℕ → Bool) w
   runs_resumed : (w : World V) (who : ℕ) (view : V) (word : Word) (c : Coroutine V) → coroutine_of w who ≡ Some c → p.said view ≡ word → Runs p (resume w who view) who word
   runs_resumed w who view word c e s = record { one = as_running view c; found = resumed w who view c e; going = refl; number = found_number who w.coroutines c e; said = s }
 
-  from_move : (lack : Option LackPlace) (w : World V) (who : ℕ) (c : Coroutine V) (answer : Answer) (next : V × Move) → MayGo w who c → Moves p c.body answer next → MovesPlain next → Went w who c answer (if is_build lack && may_lack_build next.1 then lack_move (resume w who (p.short c.body answer)) who next.1 else make_move p (is_entry lack) (resume w who next.0) who next.0 next.1)
+  from_move : (lack : Option LackPlace) (w : World V) (who : ℕ) (c : Coroutine V) (answer : Answer) (next : V × Move) → MayGo w who c → Moves p c.body answer next → MovesLinkless next → Went w who c answer (if is_build lack && may_lack_build next.1 then lack_move (resume w who (p.short c.body answer)) who next.1 else make_move p (is_entry lack) (resume w who next.0) who next.0 next.1)
   from_move lack w who c answer (new, Calls call) g m plain = at (is_build lack && build_takes_memory (word_of call))
     where
       enters : Enters p law calm (resume w who new) who new (entered w.moment call)
@@ -69,7 +77,8 @@ module _ {V : Type 0} (p : Program V) (law : IsLawful p) (calm : ℕ → Bool) w
         cancelled = g.cancelled;
         born = g.born;
         waits = plain_waits (entered w.moment call) (entered_plain w.moment call plain);
-        alone = plain_meets (entered w.moment call) (entered_plain w.moment call plain);
+        others = λ other its e. let here = resume w who new in (pending_runs p here other its (sits_resumed p w who new c g.found g.sits) (call_pends p here other its e)).0;
+        met = λ other its answer e. g.met other its answer (change_calls other who (λ d. new) modes.Running its w.coroutines refl e);
       }
 
       at : (b : Bool) → Went w who c answer (if b then reply (resume w who (p.short c.body answer)) who (word_of call) (Fault (lack_fault (resume w who (p.short c.body answer)) who (word_of call))) else make_move p (is_entry lack) (resume w who new) who new (Calls call))
@@ -90,7 +99,7 @@ module _ {V : Type 0} (p : Program V) (law : IsLawful p) (calm : ℕ → Bool) w
       at true = over
       at false = over
 
-  pub go_on_went : (lack : Option LackPlace) (w : World V) (who : ℕ) (c : Coroutine V) → MakesPlain p → 1 ≤ p.left c.body → MayGo w who c → Went w who c (answer_given w who).1 (go_on p lack w who c.body)
+  pub go_on_went : (lack : Option LackPlace) (w : World V) (who : ℕ) (c : Coroutine V) → MakesLinkless p → 1 ≤ p.left c.body → MayGo w who c → Went w who c (answer_given w who).1 (go_on p lack w who c.body)
   go_on_went lack w who c plainly some g =
       let answer = (answer_given w who).1 in
       from_move lack w who c answer (p.next c.body answer) g (law.moves c.body answer g.real some) (plainly c.body answer g.real some)

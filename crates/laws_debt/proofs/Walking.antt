@@ -1,5 +1,5 @@
 -- Every call changes the coroutines as told: one that isn't ending stands elsewhere, one is gone, or a new one begins.
-use Rattle.std.proofs.Common.{◌≡◌, ◌∙◌, ◌+◌, ℕ, List, [], ◌∷◌, find, Bool, true, false, ◌&&◌, Option, Some, None, if◌then◌else◌, refl, sym, ap, subst}
+use Rattle.std.proofs.Common.{◌≡◌, ◌∙◌, ◌+◌, ℕ, List, [], ◌∷◌, find, Bool, true, false, ◌&&◌, cond, Option, Some, None, if◌then◌else◌, refl, sym, ap, subst}
 use Rattle.dill_base.specs.declared.errno.Errno.{Errno}
 use Rattle.dill_base.specs.declared.errno.Errno.TheVariants as errnos
 use Rattle.dill_calls.specs.declared.answer.Answer.{Answer}
@@ -8,9 +8,11 @@ use Rattle.dill_calls.specs.declared.call.Call.{Call}
 use Rattle.dill_calls.specs.declared.word.Word.{Word}
 use Rattle.dill_calls.specs.CallTable.{word_of, takes_memory}
 use Rattle.dill_calls.specs.Program.{Program, Begins, IsLawful, Lowers, PassesWell}
-use Rattle.dill_base.specs.Maps.{if_some}
+use Rattle.dill_base.specs.Maps.{if_some, change}
 use Rattle.dill_rules.specs.declared.coroutine.Coroutine.{Coroutine}
+use Rattle.dill_rules.specs.declared.coroutine.Mode.{Mode}
 use Rattle.dill_rules.specs.declared.coroutine.Mode.TheVariants as modes
+use Rattle.dill_rules.specs.Channeling.{without_bytes}
 use Rattle.dill_rules.specs.World.{World, is_coroutine, coroutine_of, call_of, with_mode, reply, pend, pending_call, is_ending}
 use Rattle.dill_rules.specs.Naming.{bears}
 use Rattle.dill_rules.specs.Taking.{is_cancelled}
@@ -21,7 +23,7 @@ use Rattle.laws_sound.specs.Plain.{may_wait}
 use Rattle.laws_queue.proofs.Crew.{SameCrew}
 use Rattle.laws_queue.proofs.Acting.{Gives, Acts, idles, answered, waits, waits_bare, meets, bore, may_pend, may_meet, perform_acts}
 use Rattle.laws_queue.proofs.Stepping.{bearing}
-use Rattle.laws_debt.proofs.Entering.{refusal_lowers, unrefused_lowers, starts_nobody}
+use Rattle.laws_debt.proofs.Entering.{refusal_lowers, unrefused_lowers, starts_nobody, bare_waits, word_bare}
 use Rattle.laws_debt.proofs.Evolving.{Evolves, stays, turns, begins, goes_on, newborn}
 use Rattle.laws_queue.proofs.Walking.{unrefused_known}
 use Rattle.laws_queue.proofs.Numbers.{found_changed, find_append}
@@ -34,6 +36,14 @@ Leads p calm w v = Evolves p calm w.coroutines w.last_coroutine v.coroutines v.l
 pub record Runs {V : Type 0} (p : Program V) (w : World V) (who : ℕ) (word : Word) : Type 0 where
   pub one : Coroutine V
   pub found : coroutine_of w who ≡ Some one
+  pub going : is_ending one.mode ≡ false
+  pub number : one.number ≡ who
+  pub said : p.said one.body ≡ word
+
+-- the same of a list of coroutines
+record Found {V : Type 0} (p : Program V) (who : ℕ) (word : Word) (cs : List (Coroutine V)) : Type 0 where
+  pub one : Coroutine V
+  pub found : find (is_coroutine who) cs ≡ Some one
   pub going : is_ending one.mode ≡ false
   pub number : one.number ≡ who
   pub said : p.said one.body ≡ word
@@ -54,6 +64,22 @@ module _ {V : Type 0} (p : Program V) (calm : ℕ → Bool) where
 
   pub runs_crew : (w v : World V) (who : ℕ) (word : Word) → SameCrew w v → Runs p w who word → Runs p v who word
   runs_crew w v who word same r = record { one = r.one; found = ap (find (is_coroutine who)) same.coroutines ∙ r.found; going = r.going; number = r.number; said = r.said }
+
+  -- whoever is answered, it isn't ending, and its program made the same call last
+  runs_found : (who n : ℕ) (mode : Mode) (word : Word) (c : Coroutine V) (cs : List (Coroutine V)) → is_ending mode ≡ false → is_ending c.mode ≡ false → c.number ≡ who → p.said c.body ≡ word → find (is_coroutine who) cs ≡ Some c → Found p who word (change (is_coroutine n) (with_mode mode) cs)
+  runs_found who n mode word c [] e f g s h = cc
+  runs_found who n mode word c (x ∷ cs) e f g s h = at (is_coroutine n x) (is_coroutine who x) refl h (runs_found who n mode word c cs e f g s)
+    where
+      at : (t b : Bool) → is_coroutine who x ≡ b → cond b (Some x) (find (is_coroutine who) cs) ≡ Some c → (find (is_coroutine who) cs ≡ Some c → Found p who word (change (is_coroutine n) (with_mode mode) cs)) → Found p who word (cond t (with_mode mode x ∷ cs) (x ∷ change (is_coroutine n) (with_mode mode) cs))
+      at true true i j rest = let it : x ≡ c = cc in record { one = with_mode mode x; found = rw i refl; going = e; number = ap (λ (y : Coroutine V). y.number) it ∙ g; said = ap (λ (y : Coroutine V). p.said y.body) it ∙ s }
+      at true false i j rest = record { one = c; found = rw i j; going = f; number = g; said = s }
+      at false true i j rest = let it : x ≡ c = cc in record { one = x; found = rw i refl; going = ap (λ (y : Coroutine V). is_ending y.mode) it ∙ f; number = ap (λ (y : Coroutine V). y.number) it ∙ g; said = ap (λ (y : Coroutine V). p.said y.body) it ∙ s }
+      at false false i j rest = let r = rest j in record { one = r.one; found = rw i r.found; going = r.going; number = r.number; said = r.said }
+
+  pub runs_replied : (w : World V) (who n : ℕ) (word its : Word) (answer : Answer) → Runs p w who word → Runs p (reply w n its answer) who word
+  runs_replied w who n word its answer r =
+      let there = runs_found who n (modes.Fresh its answer) word r.one w.coroutines refl r.going r.number r.said r.found in
+      record { one = there.one; found = there.found; going = there.going; number = there.number; said = there.said }
 
   -- an answer of who is calm lowers
   abbrev pub LowersCalm : ℕ → Word → Answer → Type 0
@@ -108,7 +134,9 @@ module _ {V : Type 0} (p : Program V) (law : IsLawful p) (calm : ℕ → Bool) w
     -- who is born of the others isn't calm
     pub born : calm who ≡ false → calm (w.last_coroutine + 1) ≡ false
     pub waits : may_pend call ≡ true → may_wait call ≡ true
-    pub alone : may_meet call ≡ true → ⊥
+    -- whoever is pending made that call last, and isn't calm, or what it is answered lowers
+    pub others : (other : ℕ) (its : Call) → call_of w other ≡ Some its → Runs p w other (word_of its)
+    pub met : (other : ℕ) (its : Call) (answer : Answer) → call_of w other ≡ Some its → LowersCalm p calm other (word_of its) answer
 
   done_leads : (w k v : World V) (who : ℕ) (view : V) (call : Call) → SameCrew w k → Enters w who view call → refuse p w who view call ≡ None → Acts (Begins p) k who call v → Leads p calm w (meet_deadline v who)
   done_leads w k v who view call same n f acts = leads_then p calm w k (meet_deadline v who) (crew_leads p calm w k same) (at acts)
@@ -129,8 +157,14 @@ module _ {V : Type 0} (p : Program V) (law : IsLawful p) (calm : ℕ → Bool) w
           subst (Leads p calm k) (sym (meets_none p calm k who none)) stays
       at {u} (answered g) = over p calm k u who (word_of call) runs low g
       at {u} (waits m s) = pended p calm k u who call s runs (n.waits m) (low (late_answer call))
-      at (waits_bare m s) = absurd (n.alone m)
-      at (meets other its answer m e g) = absurd (n.alone m)
+      at {u} (waits_bare m s) =
+          let bare = without_bytes call in
+          pended p calm k u who bare s (subst (λ x. Runs p k who x) (sym (word_bare call)) runs) (bare_waits call m) (subst (λ x. LowersCalm p calm who x (late_answer bare)) (sym (word_bare call)) (low (late_answer bare)))
+      at {u} (meets other its answer m e g) =
+          let was : call_of w other ≡ Some its = sym (ap (λ cs. if_some (find (is_coroutine other) cs) None (λ c. pending_call c.mode)) same.coroutines) ∙ e in
+          let given = reply k other (word_of its) answer in
+          let one : Leads p calm k given = reply_leads p calm k other (word_of its) answer (runs_crew p calm w k other (word_of its) same (n.others other its was)) (n.met other its answer was) in
+          leads_then p calm k given (meet_deadline u who) one (over p calm given u who (word_of call) (runs_replied p calm k who other (word_of call) (word_of its) answer runs) low g)
       at {u} (bore child home b e g) =
           let new = newborn (k.last_coroutine + 1) child ∷ [] in
           let there : Runs p (bear k child home) who (word_of call) = record { one = runs.one; found = find_append (is_coroutine who) k.coroutines new runs.one runs.found; going = runs.going; number = runs.number; said = runs.said } in

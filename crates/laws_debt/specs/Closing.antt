@@ -11,7 +11,7 @@ use Rattle.laws_debt.specs.Flags.{HasFlags}
 use Rattle.laws_debt.specs.Owed.{is_early}
 use Rattle.laws_debt.specs.Says.{AllSay, AllLower}
 
--- Well and in order, and neither channels nor links are there. What each waits for or has the answer of is its program's last call, nobody is running, and each closing is noted.
+-- Well and in order, and no links are there. What each waits for or has the answer of is its program's last call, nobody is running, and each closing is noted.
 pub record IsStable {V : Type 0} (p : Program V) (k : Kept V) : Type 0 where
   pub well : IsWell p k
   pub plain : IsPlain k.world

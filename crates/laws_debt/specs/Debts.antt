@@ -6,10 +6,10 @@ use Rattle.rand_core.specs.Stream.{Stream}
 use Rattle.dill_kernel.specs.declared.ready.Ready.{Ready}
 use Rattle.dill_scope.specs.Scopes.{is_inside, is_empty}
 use Rattle.dill_base.specs.Maps.{if_some}
-use Rattle.dill_plain.specs.Plain.{MakesPlain}
 use Rattle.dill_rules.specs.Debts.{debt}
 use Rattle.dill_rules.specs.Seen.{lend}
 use Rattle.dill_rules.specs.State.{State, opening_state, next_turn, turned, expired, shut, woke}
+use Rattle.laws_sound.specs.Plain.{MakesLinkless}
 use Rattle.laws_queue.specs.Kept.{Kept, kept_shut}
 use Rattle.laws_queue.specs.Stands.{StandsFor}
 use Rattle.laws_queue.specs.Well.{bit}
@@ -62,4 +62,4 @@ module _ {V : Type 0} where
     pub within : (s : State V) (b : ℕ) (xs : List Step) → IsSteady p s → is_closing s.world.scopes b ≡ true → turns_inside p s b xs ≤ debt p s b
 
 abbrev pub DebtsFall : {V : Type 0} → Program V → Type 0
-DebtsFall p = IsLawful p → MakesPlain p → DebtFalls p
+DebtsFall p = IsLawful p → MakesLinkless p → DebtFalls p

@@ -3,9 +3,9 @@ use Rattle.std.specs.Prelude.{◌≡◌, ℕ, ◌<◌, ◌≤◌, ◌^◌, List,
 use Rattle.dill_calls.specs.declared.ran.LackPlace.{LackPlace}
 use Rattle.dill_calls.specs.Program.{Program, IsLawful, Begins}
 use Rattle.dill_kernel.specs.declared.ready.Ready.{Ready}
-use Rattle.dill_plain.specs.Plain.{MakesPlain}
 use Rattle.dill_rules.specs.Settling.{settle}
 use Rattle.dill_rules.specs.World.{begin}
+use Rattle.laws_sound.specs.Plain.{MakesLinkless}
 use Rattle.laws_queue.specs.Kept.{Kept, has_answer, opening_kept, queued, kept_turn, kept_expire_next, kept_expired, kept_shut, kept_woke}
 use Rattle.laws_sound.specs.Laws.{is_timed}
 use Rattle.laws_debt.specs.Owed.{owed}
@@ -23,7 +23,7 @@ pub record KeepsStable {V : Type 0} (p : Program V) : Type 0 where
   pub woke : (k : Kept V) (told : ℕ) (ready : List Ready) → IsStable p k → IsStable p (kept_woke k told ready)
 
 abbrev pub StepsKeepStable : {V : Type 0} → Program V → Type 0
-StepsKeepStable p = IsLawful p → MakesPlain p → KeepsStable p
+StepsKeepStable p = IsLawful p → MakesLinkless p → KeepsStable p
 
 -- a turn, as long as `main` hasn't ended
 abbrev pub turn_until : {V : Type 0} → Program V → Kept V → Option LackPlace → Kept V
@@ -39,4 +39,4 @@ pub record EndsClosing {V : Type 0} (p : Program V) : Type 0 where
   pub ends : (k : Kept V) (lacks : List (Option LackPlace)) → IsClosing p k → owed p k ≤ length lacks → is_some (fold (turn_until p) k lacks).world.ended ≡ true
 
 abbrev pub RootDebtFalls : {V : Type 0} → Program V → Type 0
-RootDebtFalls p = IsLawful p → MakesPlain p → EndsClosing p
+RootDebtFalls p = IsLawful p → MakesLinkless p → EndsClosing p

@@ -11,16 +11,20 @@ use Rattle.dill_calls.specs.Program.{Program}
 use Rattle.dill_scope.specs.declared.forest.Bundle.{Bundle}
 use Rattle.dill_scope.specs.Scopes as scopes
 use Rattle.dill_base.specs.Maps.{if_some, change, first_some}
+use Rattle.dill_rules.specs.Taking.{is_cancelled}
+use Rattle.dill_base.specs.declared.errno.Errno.TheVariants.{Ecanceled}
+use Rattle.dill_calls.specs.declared.answer.Answer.TheVariants.{Fault}
 use Rattle.dill_rules.specs.declared.coroutine.Coroutine.{Coroutine}
 use Rattle.dill_rules.specs.declared.coroutine.Mode.{Mode}
 use Rattle.dill_rules.specs.declared.coroutine.Mode.TheVariants as modes
 use Rattle.dill_rules.specs.World.{World, begin, from_start, pending_call}
-use Rattle.dill_rules.specs.Answers.{answer_of}
+use Rattle.dill_rules.specs.Answers.{answer_of, when}
 use Rattle.dill_rules.specs.Settling.{answer_due, finish, give_first, settle, settle_one, settle_within, IsSettled}
 use Rattle.dill_rules.specs.Giving.{give}
 use Rattle.dill_rules.specs.State.{lined, lined_mode, is_fresh, fresh}
 use Rattle.laws_queue.specs.Kept.{Kept, queued, kept_shut}
 use Rattle.laws_sound.specs.Plain.{IsPlain, may_wait, waits_plainly}
+use Rattle.laws_sound.proofs.Meeting.{choice_same}
 use Rattle.laws_sound.proofs.Steps.{pass_plain}
 use Rattle.laws_sound.specs.Laws.{is_closing, is_resting, IsAtRest}
 use Rattle.laws_debt.specs.Closing.{IsClosing}
@@ -57,6 +61,9 @@ module _ {V : Type 0} where
   answer_begun w who (calls.Msleep deadline) e = refl
   answer_begun w who (calls.Hclose number) e = refl
   answer_begun w who (calls.BundleWait number deadline) e = refl
+  answer_begun w who (calls.Chsend number bytes deadline) e = refl
+  answer_begun w who (calls.Chrecv number size deadline) e = refl
+  answer_begun w who (calls.Choose deadline all) e = ap (λ o. option_or (when (is_cancelled w who) (Fault Ecanceled)) (option_or None o)) (choice_same (begin w) w (λ number want. refl) 0 all)
   answer_begun w who _ e = cc
 
   due_begun : (w : World V) (n : ℕ) (o : Option Call) → if_some o true may_wait ≡ true
@@ -74,7 +81,7 @@ module _ {V : Type 0} where
   begun_settled w plain settled = record { endings = settled.endings; answers = first_begun w w.coroutines plain.calls ∙ settled.answers }
 
   begun_plain : (w : World V) → IsPlain w → IsPlain (begin w)
-  begun_plain w plain = record { channels = plain.channels; links = plain.links; place = plain.place; wrote = plain.wrote; things = plain.things; calls = plain.calls }
+  begun_plain w plain = record { links = plain.links; place = plain.place; wrote = plain.wrote; things = plain.things; calls = plain.calls }
 
   -- where nothing is due nothing settles
   one_same : (w : World V) → IsSettled w → settle_one w ≡ w

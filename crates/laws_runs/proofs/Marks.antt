@@ -9,7 +9,6 @@ use Rattle.dill_calls.specs.declared.call.Call.TheVariants as calls
 use Rattle.dill_calls.specs.declared.ran.LackPlace.{LackPlace}
 use Rattle.dill_calls.specs.Program.{Program, IsLawful}
 use Rattle.dill_kernel.specs.declared.ready.Ready.{Ready}
-use Rattle.dill_plain.specs.Plain.{MakesPlain}
 use Rattle.dill_handles.specs.declared.entry.Entry.{Entry}
 use Rattle.dill_scope.specs.declared.forest.Bundle.{Bundle}
 use Rattle.dill_scope.specs.Scopes.{as_closing, is_bundle, owner_of}
@@ -29,6 +28,7 @@ use Rattle.dill_rules.specs.declared.coroutine.Coroutine.{Coroutine}
 use Rattle.dill_rules.specs.World.{World, begin, call_of, coroutine_of}
 use Rattle.dill_drive.specs.ByRules.{machine_of}
 use Rattle.dill_drive.specs.Play.{opening, play}
+use Rattle.laws_sound.specs.Plain.{MakesLinkless}
 use Rattle.laws_sound.specs.PlainLaws.{FollowsPlainly}
 use Rattle.laws_queue.specs.Kept.{Kept, kept_expire_next, kept_expired, kept_late, kept_shut, kept_turn, kept_woke, turn_first, root_closed}
 use Rattle.laws_queue.specs.Laws.{KeepsWell}
@@ -141,7 +141,7 @@ pub record IsSteadyMarked {V : Type 0} (tie : Closing) (p : Program V) (s : Stat
   pub steady : IsSteady p s
   pub marked : Marked tie s.world
 
-module _ {V : Type 0} (tie : Closing) (p : Program V) (law : IsLawful p) (plainly : MakesPlain p) (keeps : KeepsWell p) (ordered : KeepsOrder p) (stays : KeepsStable p) (follows : FollowsPlainly p) (debts : DebtFalls p) where
+module _ {V : Type 0} (tie : Closing) (p : Program V) (law : IsLawful p) (plainly : MakesLinkless p) (keeps : KeepsWell p) (ordered : KeepsOrder p) (stays : KeepsStable p) (follows : FollowsPlainly p) (debts : DebtFalls p) where
   -- what a core keeps of it is stable and marked
   kept_marked : (s : State V) (h : IsSteadyMarked tie p s) → Marked tie h.steady.even.kept.world
   kept_marked s h = to_kept tie h.steady.even.kept s h.steady.even.stands h.marked
@@ -273,7 +273,7 @@ module _ {V : Type 0} (w : World V) (order : IsInOrder w) (number name : ℕ) wh
         given = below number w.handles.last (bit_true (nat_le number w.handles.last) (omega (arith, used, noted)));
       }
 
-module _ {V : Type 0} (p : Program V) (law : IsLawful p) (plainly : MakesPlain p) (keeps : KeepsWell p) (ordered : KeepsOrder p) (stays : KeepsStable p) (follows : FollowsPlainly p) (debts : DebtFalls p) where
+module _ {V : Type 0} (p : Program V) (law : IsLawful p) (plainly : MakesLinkless p) (keeps : KeepsWell p) (ordered : KeepsOrder p) (stays : KeepsStable p) (follows : FollowsPlainly p) (debts : DebtFalls p) where
   module _ (who number name : ℕ) where
     abbrev tie : Closing
     tie = record { bundle = name; number = number }
@@ -316,7 +316,7 @@ module _ {V : Type 0} (p : Program V) (law : IsLawful p) (plainly : MakesPlain p
 abbrev no_tie : Closing
 no_tie = record { bundle = 0; number = 0 }
 
-module _ {V : Type 0} (p : Program V) (law : IsLawful p) (plainly : MakesPlain p) (keeps : KeepsWell p) (ordered : KeepsOrder p) (stays : KeepsStable p) (follows : FollowsPlainly p) (debts : DebtFalls p) where
+module _ {V : Type 0} (p : Program V) (law : IsLawful p) (plainly : MakesLinkless p) (keeps : KeepsWell p) (ordered : KeepsOrder p) (stays : KeepsStable p) (follows : FollowsPlainly p) (debts : DebtFalls p) where
   opening_marked : (view : V) (random : Stream) → Marked no_tie (opening_state view random).world
   opening_marked view random = record { ranked = (omega arith, omega arith); marked = ((λ e. refl), tt); noted = tt; things = tt; tied = tt; others = tt; given = omega arith }
 

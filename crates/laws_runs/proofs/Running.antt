@@ -4,12 +4,12 @@ use Rattle.std.specs.List.{AllByRecursion}
 use Rattle.dill_scope.specs.declared.forest.Bundle.{Bundle}
 use Rattle.dill_scope.specs.Scopes.{is_bundle}
 use Rattle.dill_base.specs.Maps.{if_some}
+use Rattle.laws_sound.specs.Plain.{MakesLinkless}
 use Rattle.laws_debt.proofs.Lists.{number_of}
 use Rattle.dill_base.specs.declared.status.Status.{Status}
 use Rattle.dill_base.specs.declared.status.Status.TheVariants as status
 use Rattle.dill_calls.specs.declared.ran.LackPlace.{LackPlace}
 use Rattle.dill_calls.specs.Program.{Program, IsLawful}
-use Rattle.dill_plain.specs.Plain.{MakesPlain}
 use Rattle.dill_rules.specs.Debts.{debt}
 use Rattle.laws_queue.specs.Laws.{KeepsWell}
 use Rattle.laws_runs.proofs.Owing.{owed_is_debt}
@@ -67,7 +67,7 @@ record IsEarly {V : Type 0} (p : Program V) (c : Config (State V)) : Type 0 wher
   pub none : c.tally.closing ≡ 0
   pub place : is_early c.place ≡ true
 
-module _ {V : Type 0} (p : Program V) (law : IsLawful p) (plainly : MakesPlain p) (well : KeepsWell p) (keeps : KeepsStable p) (follows : FollowsPlainly p) (traced : Bool) (most : ℕ) where
+module _ {V : Type 0} (p : Program V) (law : IsLawful p) (plainly : MakesLinkless p) (well : KeepsWell p) (keeps : KeepsStable p) (follows : FollowsPlainly p) (traced : Bool) (most : ℕ) where
   abbrev m : Machine (State V)
   m = machine_of p
 
@@ -231,7 +231,7 @@ module _ {V : Type 0} (p : Program V) (law : IsLawful p) (plainly : MakesPlain p
       at (inl early) rest = later run (play m traced most n (advance m traced most run)).config.tally.closing (rest early)
       at (inr stop) rest = inr (stops_within ends n run h.state stop)
 
-pub runs_are_bounded : {V : Type 0} (p : Program V) → IsLawful p → MakesPlain p → KeepsWell p → KeepsStable p → FollowsPlainly p → EndsClosing p → RunsAreBounded p
+pub runs_are_bounded : {V : Type 0} (p : Program V) → IsLawful p → MakesLinkless p → KeepsWell p → KeepsStable p → FollowsPlainly p → EndsClosing p → RunsAreBounded p
 runs_are_bounded p law plainly well keeps follows ends view random keys traced most replies lacks halt n begins =
     let begun = opening (machine_of p) traced most (opening_state view random) keys replies lacks halt in
     plays p law plainly well keeps follows traced most ends n begun (record {

@@ -11,7 +11,6 @@ use Rattle.dill_calls.specs.declared.answer.Answer.{Answer}
 use Rattle.dill_calls.specs.declared.ran.LackPlace.{LackPlace}
 use Rattle.dill_calls.specs.Program.{Program, IsLawful}
 use Rattle.dill_kernel.specs.declared.ready.Ready.{Ready}
-use Rattle.dill_plain.specs.Plain.{MakesPlain}
 use Rattle.dill_scope.specs.declared.forest.Bundle.{Bundle}
 use Rattle.dill_scope.specs.Scopes.{Scopes, is_bundle, owner_of}
 use Rattle.dill_scope.specs.Keeping.{IsOrderedForest}
@@ -32,7 +31,7 @@ use Rattle.laws_sound.specs.PlainLaws.{FollowsPlainly}
 use Rattle.laws_queue.specs.Kept.{Kept, kept_expire_next, kept_expired, kept_late, kept_turn, turn_first}
 use Rattle.laws_queue.specs.Laws.{KeepsWell}
 use Rattle.laws_queue.specs.Lending.{wordless}
-use Rattle.laws_sound.specs.Plain.{IsPlain, may_wait, waits_plainly}
+use Rattle.laws_sound.specs.Plain.{MakesLinkless, IsPlain, may_wait, waits_plainly}
 use Rattle.laws_sound.proofs.Lists.{all_map}
 use Rattle.laws_queue.specs.Stands.{StandsFor}
 use Rattle.laws_sound.proofs.Plainly.{plain_with}
@@ -129,6 +128,9 @@ module _ {V : Type 0} where
   give_open : (w : World V) (who : ℕ) (call : Call) (answer : Answer) → may_wait call ≡ true → RootIsOpen w.scopes → RootIsOpen (give w who call answer).scopes
   give_open w who (calls.Msleep deadline) answer e a = a
   give_open w who (calls.BundleWait number deadline) answer e a = a
+  give_open w who (calls.Chsend number bytes deadline) answer e a = a
+  give_open w who (calls.Chrecv number size deadline) answer e a = a
+  give_open w who (calls.Choose deadline all) answer e a = a
   give_open w who (calls.Hclose number) answer e a = freed_open w (find (is_dead_as number) w.closings) a
   give_open w who _ answer e a = cc
 
@@ -148,7 +150,7 @@ module _ {V : Type 0} where
   lined_waits cs e = all_map waits_plainly lined cs (λ c f. ap (λ o. if_some o true may_wait) (lined_pending c.mode) ∙ f) e
 
   lined_plain : (w : World V) (answers closings : List Stamp) (next : ℕ) → IsPlain w → IsPlain (line_up w answers closings next).world
-  lined_plain w answers closings next plain = plain_with w (line_up w answers closings next).world refl refl refl refl (λ h. h) (λ h. lined_waits w.coroutines h) plain
+  lined_plain w answers closings next plain = plain_with w (line_up w answers closings next).world refl refl refl (λ h. h) (λ h. lined_waits w.coroutines h) plain
 
   late_unshut : (xs : List ℕ) (s : State V) → IsPlain s.world → IsUnshut s → IsUnshut (fold expire_next s xs)
   late_unshut [] s plain h = h
@@ -175,7 +177,7 @@ module _ {V : Type 0} where
   to_kept : (k : Kept V) (s : State V) → StandsFor k s → RootIsOpen s.world.scopes → RootIsOpen k.world.scopes
   to_kept k s stands a = subst (λ (w : World V). RootIsOpen w.scopes) (sym stands.world) a
 
-module _ {V : Type 0} (p : Program V) (law : IsLawful p) (plainly : MakesPlain p) (keeps : KeepsWell p) (stays : KeepsStable p) (follows : FollowsPlainly p) where
+module _ {V : Type 0} (p : Program V) (law : IsLawful p) (plainly : MakesLinkless p) (keeps : KeepsWell p) (stays : KeepsStable p) (follows : FollowsPlainly p) where
   abbrev Holds : World V → Type 0
   Holds w = AllHold IsOpenUnowned 0 w
 
@@ -220,6 +222,6 @@ module _ {V : Type 0} (p : Program V) (law : IsLawful p) (plainly : MakesPlain p
       let root = to_state (kept_expired k) (expired s) (follows.expired k s stable.plain stands) held in
       let began : State V = record s { world = begin s.world } in
       let plain : IsPlain (wordless s.world) = subst IsPlain stands.world stable.plain in
-      let late = late_unshut (passed s.world) began (record { channels = plain.channels; links = plain.links; place = plain.place; wrote = plain.wrote; things = plain.things; calls = plain.calls }) (record { root = h.root; none = h.none }) in
+      let late = late_unshut (passed s.world) began (record { links = plain.links; place = plain.place; wrote = plain.wrote; things = plain.things; calls = plain.calls }) (record { root = h.root; none = h.none }) in
       let last = fold expire_next began (passed s.world) in
       record { root = root; none = none_lined (settle last.world) last.answers last.closings last.next root late.none }

@@ -26,6 +26,9 @@ pub waits_apart : (mode : Mode) â†’ if_some (pending_call mode) true may_wait â‰
 waits_apart (modes.Pending (calls.Msleep deadline)) e = refl
 waits_apart (modes.Pending (calls.BundleWait number deadline)) e = refl
 waits_apart (modes.Pending (calls.Hclose number)) e = refl
+waits_apart (modes.Pending (calls.Chsend number bytes deadline)) e = refl
+waits_apart (modes.Pending (calls.Chrecv number size deadline)) e = refl
+waits_apart (modes.Pending (calls.Choose deadline all)) e = refl
 waits_apart (modes.Pending _) e = cc
 waits_apart _ e = refl
 

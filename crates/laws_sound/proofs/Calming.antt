@@ -11,12 +11,14 @@ use Rattle.dill_calls.specs.declared.call.Call.TheVariants as calls
 use Rattle.dill_calls.specs.declared.ran.LackPlace.{LackPlace}
 use Rattle.dill_calls.specs.declared.ran.Note.{Note}
 use Rattle.dill_calls.specs.Program.{Program, IsLawful}
-use Rattle.dill_chan.specs.Channels.{Channels}
 use Rattle.dill_kernel.specs.declared.ready.Ready.{Ready}
-use Rattle.dill_plain.specs.Plain.{MovesPlain, MakesPlain}
 use Rattle.dill_base.specs.Maps.{if_some, first_some}
 use Rattle.dill_rules.specs.declared.coroutine.Coroutine.{Coroutine}
-use Rattle.dill_rules.specs.Answers.{answer_of}
+use Rattle.dill_rules.specs.Answers.{answer_of, when}
+use Rattle.dill_rules.specs.Taking.{is_cancelled}
+use Rattle.dill_base.specs.declared.errno.Errno.TheVariants.{Ecanceled}
+use Rattle.dill_calls.specs.declared.answer.Answer.TheVariants.{Fault}
+use Rattle.laws_sound.proofs.Meeting.{choice_same}
 use Rattle.dill_rules.specs.Expiring.{passed}
 use Rattle.dill_rules.specs.Hearing.{heat_ready}
 use Rattle.dill_rules.specs.Links.{Links}
@@ -26,7 +28,7 @@ use Rattle.dill_rules.specs.Turning.{go_on, move_of, answer_given}
 use Rattle.dill_rules.specs.World.{World, Place, at_start, begin, pending_call}
 use Rattle.laws_queue.specs.Kept.{Kept, queued, turn_first, kept_turn, kept_expire_next, kept_late, kept_expired, kept_shut, kept_woke, root_closed}
 use Rattle.laws_queue.specs.Laws.{KeepsWell}
-use Rattle.laws_sound.specs.Plain.{may_wait, waits_plainly, IsPlain}
+use Rattle.laws_sound.specs.Plain.{MovesLinkless, MakesLinkless, may_wait, waits_plainly, IsPlain}
 use Rattle.laws_queue.specs.Well.{Numbered, IsWell}
 use Rattle.laws_queue.proofs.Keeping.{steps_keep_well}
 use Rattle.laws_sound.proofs.Plainly.{begin_plain}
@@ -43,14 +45,17 @@ use Rattle.laws_queue.proofs.Lining.{lined_pending}
 
 module _ {V : Type 0} where
   -- other parts of a world, and other modes, that plain answers don't look at
-  abbrev changed : World V → List (Coroutine V) → Channels → Links → Place → List ℕ → Stream → ℕ → List Note → World V
-  changed w ds c l place wrote random moment notes = record w { coroutines = ds; channels = c; links = l; place = place; wrote = wrote; random = random; moment = moment; notes = notes }
+  abbrev changed : World V → List (Coroutine V) → Links → Place → List ℕ → Stream → ℕ → List Note → World V
+  changed w ds l place wrote random moment notes = record w { coroutines = ds; links = l; place = place; wrote = wrote; random = random; moment = moment; notes = notes }
 
-  answer_same : (w : World V) (ds : List (Coroutine V)) (c : Channels) (l : Links) (place : Place) (wrote : List ℕ) (random : Stream) (moment : ℕ) (notes : List Note) (n : ℕ) (call : Call) → may_wait call ≡ true → answer_of (changed w ds c l place wrote random moment notes) n call ≡ answer_of w n call
-  answer_same w ds c l place wrote random moment notes n (calls.Msleep deadline) e = refl
-  answer_same w ds c l place wrote random moment notes n (calls.Hclose number) e = refl
-  answer_same w ds c l place wrote random moment notes n (calls.BundleWait number deadline) e = refl
-  answer_same w ds c l place wrote random moment notes n _ e = cc
+  answer_same : (w : World V) (ds : List (Coroutine V)) (l : Links) (place : Place) (wrote : List ℕ) (random : Stream) (moment : ℕ) (notes : List Note) (n : ℕ) (call : Call) → may_wait call ≡ true → answer_of (changed w ds l place wrote random moment notes) n call ≡ answer_of w n call
+  answer_same w ds l place wrote random moment notes n (calls.Msleep deadline) e = refl
+  answer_same w ds l place wrote random moment notes n (calls.Hclose number) e = refl
+  answer_same w ds l place wrote random moment notes n (calls.BundleWait number deadline) e = refl
+  answer_same w ds l place wrote random moment notes n (calls.Chsend number bytes deadline) e = refl
+  answer_same w ds l place wrote random moment notes n (calls.Chrecv number size deadline) e = refl
+  answer_same w ds l place wrote random moment notes n (calls.Choose deadline all) e = ap (λ o. option_or (when (is_cancelled w n) (Fault Ecanceled)) (option_or None o)) (choice_same (changed w ds l place wrote random moment notes) w (λ number want. refl) 0 all)
+  answer_same w ds l place wrote random moment notes n _ e = cc
 
   due_same : (w v : World V) (n : ℕ) (o : Option Call) → ((call : Call) → may_wait call ≡ true → answer_of v n call ≡ answer_of w n call) → if_some o true may_wait ≡ true → ◌≡◌ {A = Option (ℕ × Call × Answer)} (if_some o None (λ call. if_some (answer_of v n call) None (λ a. Some (n, call, a)))) (if_some o None (λ call. if_some (answer_of w n call) None (λ a. Some (n, call, a))))
   due_same w v n None same e = refl
@@ -79,19 +84,19 @@ module _ {V : Type 0} where
         endings = none_finish w v lined (λ c. ap (λ b. b && is_clear w c.number) (lined_ends c.mode)) w.coroutines s.endings;
         answers = none_due w v lined
             (λ c e. ap (λ o. if_some o None (λ call. if_some (answer_of v c.number call) None (λ a. Some (c.number, call, a)))) (lined_pending c.mode)
-            ∙ due_same w v c.number (pending_call c.mode) (answer_same w (map lined w.coroutines) w.channels w.links w.place w.wrote w.random w.moment w.notes c.number) e) w.coroutines plain.calls s.answers;
+            ∙ due_same w v c.number (pending_call c.mode) (answer_same w (map lined w.coroutines) w.links w.place w.wrote w.random w.moment w.notes c.number) e) w.coroutines plain.calls s.answers;
       }
 
   map_itself : (cs : List (Coroutine V)) → map (λ c. c) cs ≡ cs
   map_itself [] = refl
   map_itself (c ∷ cs) = ap (λ ds. c ∷ ds) (map_itself cs)
 
-  settled_anyway : (w : World V) (c : Channels) (l : Links) (place : Place) (wrote : List ℕ) (random : Stream) (moment : ℕ) (notes : List Note) → list_all waits_plainly w.coroutines ≡ true → IsSettled w → IsSettled (changed w w.coroutines c l place wrote random moment notes)
-  settled_anyway w c l place wrote random moment notes calls s =
-      let v = changed w w.coroutines c l place wrote random moment notes in
+  settled_anyway : (w : World V) (l : Links) (place : Place) (wrote : List ℕ) (random : Stream) (moment : ℕ) (notes : List Note) → list_all waits_plainly w.coroutines ≡ true → IsSettled w → IsSettled (changed w w.coroutines l place wrote random moment notes)
+  settled_anyway w l place wrote random moment notes calls s =
+      let v = changed w w.coroutines l place wrote random moment notes in
       record {
         endings = ap (find (can_finish v)) (sym (map_itself w.coroutines)) ∙ none_finish w v (λ d. d) (λ d. refl) w.coroutines s.endings;
-        answers = ap (first_some (answer_due v)) (sym (map_itself w.coroutines)) ∙ none_due w v (λ d. d) (λ d e. due_same w v d.number (pending_call d.mode) (answer_same w w.coroutines c l place wrote random moment notes d.number) e) w.coroutines calls s.answers;
+        answers = ap (first_some (answer_due v)) (sym (map_itself w.coroutines)) ∙ none_due w v (λ d. d) (λ d e. due_same w v d.number (pending_call d.mode) (answer_same w w.coroutines l place wrote random moment notes d.number) e) w.coroutines calls s.answers;
       }
 
   -- what settles
@@ -99,19 +104,19 @@ module _ {V : Type 0} where
   queued_settled w ready early plain n = settled_lined (settle w) (settle_plain w plain) (settles_apart V w (plain_apart w plain) n)
 
   begin_settled : (w : World V) → list_all waits_plainly w.coroutines ≡ true → IsSettled w → IsSettled (begin w)
-  begin_settled w calls s = settled_anyway w w.channels w.links w.place w.wrote w.random w.moment [] calls s
+  begin_settled w calls s = settled_anyway w w.links w.place w.wrote w.random w.moment [] calls s
 
   heated_settled : (ready : List Ready) (w : World V) → list_all waits_plainly w.coroutines ≡ true → IsSettled w → (list_all waits_plainly (fold heat_ready w ready).coroutines ≡ true) × IsSettled (fold heat_ready w ready)
   heated_settled [] w calls s = (calls, s)
-  heated_settled (x ∷ xs) w calls s = heated_settled xs (heat_ready w x) calls (settled_anyway w w.channels (heat_ready w x).links w.place w.wrote w.random w.moment w.notes calls s)
+  heated_settled (x ∷ xs) w calls s = heated_settled xs (heat_ready w x) calls (settled_anyway w (heat_ready w x).links w.place w.wrote w.random w.moment w.notes calls s)
 
   woke_settled : (k : Kept V) (told : ℕ) (ready : List Ready) → list_all waits_plainly k.world.coroutines ≡ true → IsSettled k.world → IsSettled (kept_woke k told ready).world
   woke_settled k told ready calls s =
       let heated = fold heat_ready (begin k.world) ready in
       let h = heated_settled ready (begin k.world) calls (begin_settled k.world calls s) in
-      settled_anyway heated heated.channels heated.links at_start [] heated.random (max k.world.moment told) heated.notes h.0 h.1
+      settled_anyway heated heated.links at_start [] heated.random (max k.world.moment told) heated.notes h.0 h.1
 
-module _ {V : Type 0} (p : Program V) (law : IsLawful p) (plainly : MakesPlain p) where
+module _ {V : Type 0} (p : Program V) (law : IsLawful p) (plainly : MakesLinkless p) where
   well : KeepsWell p
   well = steps_keep_well p law
 
@@ -123,7 +128,7 @@ module _ {V : Type 0} (p : Program V) (law : IsLawful p) (plainly : MakesPlain p
       at (who ∷ rest) e =
           let m = well.first k who rest w e in
           let c = m.one in
-          let moves : MovesPlain (move_of p k.world who c.body) = plainly c.body (answer_given k.world who).1 m.real m.some in
+          let moves : MovesLinkless (move_of p k.world who c.body) = plainly c.body (answer_given k.world who).1 m.real m.some in
           let order = (go_on_goes p lack k.world who c o m.found m.answered).good.order in
           subst (λ v. IsSettled (queued v rest (k.early - 1)).world) (turn_is p lack k.world who c m.found)
           (queued_settled (go_on p lack (begin k.world) who c.body) rest (k.early - 1) (go_on_plain p lack (begin k.world) who c.body moves (begin_plain k.world plain)) order.fits.numbered)

@@ -280,6 +280,9 @@ plain_long w plain = all_follow waits_plainly (λ c. waits_long c.mode) w.corout
     by_mode (modes.Pending (calls.Msleep deadline)) e = refl
     by_mode (modes.Pending (calls.BundleWait number deadline)) e = refl
     by_mode (modes.Pending (calls.Hclose number)) e = refl
+    by_mode (modes.Pending (calls.Chsend number bytes deadline)) e = refl
+    by_mode (modes.Pending (calls.Chrecv number size deadline)) e = refl
+    by_mode (modes.Pending (calls.Choose deadline all)) e = refl
     by_mode (modes.Pending _) e = cc
     by_mode _ e = refl
 

@@ -1,5 +1,7 @@
 pub mod Lists
 pub mod Plainly
+pub mod Linkless
+pub mod Meeting
 pub mod Blind
 pub mod Settles
 pub mod Apart

@@ -5,7 +5,6 @@ use Rattle.dill_calls.specs.declared.ran.LackPlace.{LackPlace}
 use Rattle.dill_calls.specs.Program.{Program, IsLawful}
 use Rattle.dill_kernel.specs.declared.ready.Ready.{Ready}
 use Rattle.dill_base.specs.Maps.{if_some}
-use Rattle.dill_plain.specs.Plain.{MovesPlain, MakesPlain}
 use Rattle.dill_rules.specs.declared.coroutine.Coroutine.{Coroutine}
 use Rattle.dill_rules.specs.World.{World, begin, coroutine_of}
 use Rattle.dill_rules.specs.Expiring.{expire_one, passed}
@@ -23,7 +22,7 @@ use Rattle.laws_queue.specs.Well.{IsWell}
 use Rattle.laws_queue.proofs.Following.{follows_states, stands_queued}
 use Rattle.laws_queue.proofs.Keeping.{steps_keep_well}
 use Rattle.laws_queue.proofs.Lining.{lined_pending}
-use Rattle.laws_sound.specs.Plain.{may_wait, waits_plainly, IsPlain}
+use Rattle.laws_sound.specs.Plain.{MovesLinkless, MakesLinkless, may_wait, waits_plainly, IsPlain}
 use Rattle.laws_sound.specs.PlainLaws.{StepsKeepPlain, FollowsStatesPlainly}
 use Rattle.laws_sound.proofs.Lists.{all_map}
 use Rattle.laws_sound.proofs.Plainly.{plain_with, begin_plain}
@@ -34,13 +33,12 @@ use Rattle.laws_sound.proofs.Untried.{ask_none}
 module _ {V : Type 0} where
   queued_plain : (w : World V) (ready : List ℕ) (early : ℕ) → IsPlain w → IsPlain (queued w ready early).world
   queued_plain w ready early plain =
-      plain_with w (queued w ready early).world refl refl refl refl (λ h. h) (all_map waits_plainly lined w.coroutines (λ c f. ap (λ o. if_some o true may_wait) (lined_pending c.mode) ∙ f)) plain
+      plain_with w (queued w ready early).world refl refl refl (λ h. h) (all_map waits_plainly lined w.coroutines (λ c f. ap (λ o. if_some o true may_wait) (lined_pending c.mode) ∙ f)) plain
 
   heated_plain : (ready : List Ready) (w : World V) → IsPlain w → IsPlain (fold heat_ready w ready)
   heated_plain [] w plain = plain
   heated_plain (x ∷ xs) w plain =
       heated_plain xs (heat_ready w x) (record {
-        channels = plain.channels;
         links = ap (λ l. (heat_ready (record w { links = l }) x).links) plain.links;
         place = plain.place;
         wrote = plain.wrote;
@@ -51,7 +49,7 @@ module _ {V : Type 0} where
   woke_plain : (k : Kept V) (told : ℕ) (ready : List Ready) → IsPlain k.world → IsPlain (kept_woke k told ready).world
   woke_plain k told ready plain =
       let heated = heated_plain ready (begin k.world) (begin_plain k.world plain) in
-      record { channels = heated.channels; links = heated.links; place = refl; wrote = refl; things = heated.things; calls = heated.calls }
+      record { links = heated.links; place = refl; wrote = refl; things = heated.things; calls = heated.calls }
 
   late_plain : (xs : List ℕ) (k : Kept V) → IsPlain k.world → IsPlain (fold kept_expire_next k xs).world
   late_plain [] k plain = plain
@@ -88,7 +86,7 @@ module _ {V : Type 0} where
   unlent_step f k s u blind stands = ap returned (blind u) ∙ sym (blind no_random) ∙ ap f (unlent k s stands)
 
   unlent_plain : (w : World V) → IsPlain (wordless w) → IsPlain w
-  unlent_plain w plain = record { channels = plain.channels; links = plain.links; place = plain.place; wrote = plain.wrote; things = plain.things; calls = plain.calls }
+  unlent_plain w plain = record { links = plain.links; place = plain.place; wrote = plain.wrote; things = plain.things; calls = plain.calls }
 
   plain_of : (k : Kept V) (s : State V) → IsPlain k.world → StandsFor k s → IsPlain s.world
   plain_of k s plain stands = unlent_plain s.world (subst IsPlain stands.world plain)
@@ -103,16 +101,16 @@ module _ {V : Type 0} where
       stands_queued (settle k.world) k.ready k.early (settle s.world) s.answers s.closings s.next
       (ap settle stands.world ∙ settle_blind no_random s.world (plain_of k s plain stands)) stands.order stands.rise
 
-module _ {V : Type 0} (p : Program V) (law : IsLawful p) (plainly : MakesPlain p) where
+module _ {V : Type 0} (p : Program V) (law : IsLawful p) (plainly : MakesLinkless p) where
   keeps : KeepsWell p
   keeps = steps_keep_well p law
 
-  goes : (k : Kept V) (who : ℕ) (rest : List ℕ) → IsWell p k → k.ready ≡ who ∷ rest → (c : Coroutine V) → coroutine_of k.world who ≡ Some c → MovesPlain (move_of p k.world who c.body)
+  goes : (k : Kept V) (who : ℕ) (rest : List ℕ) → IsWell p k → k.ready ≡ who ∷ rest → (c : Coroutine V) → coroutine_of k.world who ≡ Some c → MovesLinkless (move_of p k.world who c.body)
   goes k who rest well e c f =
       let may = keeps.first k who rest well e in
       let there = may.found in
       let it : may.one ≡ c = cc in
-      subst (λ d. MovesPlain (move_of p k.world who d.body)) it (plainly may.one.body (answer_given k.world who).1 may.real may.some)
+      subst (λ d. MovesLinkless (move_of p k.world who d.body)) it (plainly may.one.body (answer_given k.world who).1 may.real may.some)
 
   turned_plain : (k : Kept V) (lack : Option LackPlace) → IsWell p k → IsPlain k.world → IsPlain (kept_turn p lack k).world
   turned_plain k lack well plain = at k.ready refl
@@ -146,7 +144,7 @@ module _ {V : Type 0} (p : Program V) (law : IsLawful p) (plainly : MakesPlain p
 
 pub steps_keep_plain : {V : Type 0} (p : Program V) → StepsKeepPlain p
 steps_keep_plain p law plainly = record {
-  opening = λ view. record { channels = refl; links = refl; place = refl; wrote = refl; things = refl; calls = refl };
+  opening = λ view. record { links = refl; place = refl; wrote = refl; things = refl; calls = refl };
   turned = turned_plain p law plainly;
   expires = λ k who plain. queued_plain (expire_one k.world who) k.ready k.early (expire_one_plain k.world who plain);
   settled = settled_plain;

@@ -16,18 +16,25 @@ use Rattle.dill_rules.specs.declared.thing.Thing.{Thing}
 use Rattle.dill_rules.specs.World.{World, reply, pending_call, from_start}
 use Rattle.dill_rules.specs.Owning.{free_bundle, release, close_bundle, is_dead_as}
 use Rattle.dill_rules.specs.Taking.{bundle_of}
-use Rattle.dill_rules.specs.Answers.{answer_of}
+use Rattle.dill_rules.specs.Answers.{answer_of, when}
+use Rattle.dill_rules.specs.Taking.{is_cancelled}
+use Rattle.dill_base.specs.declared.errno.Errno.TheVariants.{Ecanceled}
+use Rattle.dill_calls.specs.declared.answer.Answer.TheVariants.{Fault}
 use Rattle.dill_rules.specs.Giving.{give}
 use Rattle.dill_rules.specs.Settling.{close_owned, close_all, highest_first, is_owned_by, free_all, release_all, outcome_of, leave, finish, answer_due}
 use Rattle.laws_queue.specs.Lending.{lent}
 use Rattle.laws_sound.specs.Plain.{may_wait, waits_plainly}
 use Rattle.laws_sound.proofs.Blind.{some_blind, if_blind, fold_blind, release_blind}
+use Rattle.laws_sound.proofs.Meeting.{choice_same}
 
 module _ {V : Type 0} where
   pub answer_blind : (u : Stream) (w : World V) (who : ℕ) (call : Call) → may_wait call ≡ true → answer_of ((lent u) w) who call ≡ answer_of w who call
   answer_blind u w who (calls.Msleep deadline) e = refl
   answer_blind u w who (calls.Hclose number) e = refl
   answer_blind u w who (calls.BundleWait number deadline) e = refl
+  answer_blind u w who (calls.Chsend number bytes deadline) e = refl
+  answer_blind u w who (calls.Chrecv number size deadline) e = refl
+  answer_blind u w who (calls.Choose deadline all) e = ap (λ o. option_or (when (is_cancelled w who) (Fault Ecanceled)) (option_or None o)) (choice_same ((lent u) w) w (λ number want. refl) 0 all)
   answer_blind u w who _ e = cc
 
   due_blind : (u : Stream) (w : World V) (n : ℕ) (o : Option Call) → if_some o true may_wait ≡ true → ◌≡◌ {A = Option (ℕ × Call × Answer)} (if_some o None (λ call. if_some (answer_of ((lent u) w) n call) None (λ a. Some (n, call, a)))) (if_some o None (λ call. if_some (answer_of w n call) None (λ a. Some (n, call, a))))
@@ -43,6 +50,9 @@ module _ {V : Type 0} where
   pub give_blind : (u : Stream) (w : World V) (who : ℕ) (call : Call) (answer : Answer) → may_wait call ≡ true → give ((lent u) w) who call answer ≡ (lent u) (give w who call answer)
   give_blind u w who (calls.Msleep deadline) answer e = refl
   give_blind u w who (calls.BundleWait number deadline) answer e = refl
+  give_blind u w who (calls.Chsend number bytes deadline) answer e = refl
+  give_blind u w who (calls.Chrecv number size deadline) answer e = refl
+  give_blind u w who (calls.Choose deadline all) answer e = refl
   give_blind u w who (calls.Hclose number) answer e =
       ap (λ v. reply v who words.Hclose answer) ((some_blind u) (find (is_dead_as number) w.closings) ((lent u) w) w (free_bundle ((lent u) w)) (free_bundle w) refl (λ x. refl))
   give_blind u w who _ answer e = cc

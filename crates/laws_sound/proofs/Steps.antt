@@ -70,6 +70,9 @@ module _ {V : Type 0} where
   pub give_plain : (w : World V) (who : ℕ) (call : Call) (answer : Answer) → may_wait call ≡ true → IsPlain w → IsPlain (give w who call answer)
   give_plain w who (calls.Msleep deadline) answer e plain = reply_plain w who words.Msleep answer plain
   give_plain w who (calls.BundleWait number deadline) answer e plain = reply_plain w who words.BundleWait answer plain
+  give_plain w who (calls.Chsend number bytes deadline) answer e plain = reply_plain w who words.Chsend answer plain
+  give_plain w who (calls.Chrecv number size deadline) answer e plain = reply_plain w who words.Chrecv answer plain
+  give_plain w who (calls.Choose deadline all) answer e plain = reply_plain w who words.Choose answer plain
   give_plain w who (calls.Hclose number) answer e plain =
       reply_plain (if_some (find (is_dead_as number) w.closings) w (free_bundle w)) who words.Hclose answer (some_plain_at (find (is_dead_as number) w.closings) w (free_bundle w) plain (λ x f. free_bundle_plain w x plain))
   give_plain w who _ answer e plain = cc
@@ -85,12 +88,12 @@ module _ {V : Type 0} where
   keep_end_plain : (w : World V) (c : Coroutine V) → IsPlain w → IsPlain (keep_end w c)
   keep_end_plain w c plain =
       if_plain (c.number == 1) (from_start (record w { ended = Some (outcome_of c.mode) })) w
-      (record { channels = plain.channels; links = plain.links; place = refl; wrote = refl; things = plain.things; calls = plain.calls }) plain
+      (record { links = plain.links; place = refl; wrote = refl; things = plain.things; calls = plain.calls }) plain
 
   leave_plain : (w : World V) (c : Coroutine V) → IsPlain w → IsPlain (leave w c)
   leave_plain w c plain =
       let kept = keep_end_plain w c plain in
-      plain_with (keep_end w c) (leave w c) refl refl refl refl (λ h. h) (λ h. all_without waits_plainly (is_coroutine c.number) w.coroutines plain.calls) kept
+      plain_with (keep_end w c) (leave w c) refl refl refl (λ h. h) (λ h. all_without waits_plainly (is_coroutine c.number) w.coroutines plain.calls) kept
 
   pub finish_plain : (w : World V) (c : Coroutine V) → IsPlain w → IsPlain (finish w c)
   finish_plain w c plain =
@@ -129,5 +132,5 @@ module _ {V : Type 0} where
   settle_blind u w plain =
       let kept = within_plain (length w.coroutines) w plain in
       let done = settle_within (length w.coroutines) w in
-      let same : IsPlain ((lent u) done) = plain_with done ((lent u) done) refl refl refl refl (λ h. h) (λ h. h) kept in
+      let same : IsPlain ((lent u) done) = plain_with done ((lent u) done) refl refl refl (λ h. h) (λ h. h) kept in
       ap pass_all ((within_blind u) (length w.coroutines) w plain) ∙ pass_plain ((lent u) done) same ∙ ap (lent u) (sym (pass_plain done kept))

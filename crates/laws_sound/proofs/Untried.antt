@@ -26,12 +26,18 @@ module _ {V : Type 0} where
   listen_none w n (calls.Msleep deadline) e = refl
   listen_none w n (calls.Hclose number) e = refl
   listen_none w n (calls.BundleWait number deadline) e = refl
+  listen_none w n (calls.Chsend number bytes deadline) e = refl
+  listen_none w n (calls.Chrecv number size deadline) e = refl
+  listen_none w n (calls.Choose deadline all) e = refl
   listen_none w n _ e = cc
 
   connect_none : (w : World V) (n : ℕ) (call : Call) → may_wait call ≡ true → connect_of w n call ≡ None
   connect_none w n (calls.Msleep deadline) e = refl
   connect_none w n (calls.Hclose number) e = refl
   connect_none w n (calls.BundleWait number deadline) e = refl
+  connect_none w n (calls.Chsend number bytes deadline) e = refl
+  connect_none w n (calls.Chrecv number size deadline) e = refl
+  connect_none w n (calls.Choose deadline all) e = refl
   connect_none w n _ e = cc
 
   nothing_in : (f : ℕ → Call → Option Try) (cs : List (Coroutine V)) → ((n : ℕ) (call : Call) → may_wait call ≡ true → f n call ≡ None) → list_all waits_plainly cs ≡ true → filter_map (λ (c : Coroutine V). if_some (pending_call c.mode) None (f c.number)) cs ≡ []

@@ -4,7 +4,6 @@ use Rattle.std.specs.List.{list_all}
 use Rattle.dill_calls.specs.declared.ran.LackPlace.{LackPlace}
 use Rattle.dill_calls.specs.CallTable.{word_of, blocks}
 use Rattle.dill_calls.specs.Program.{Program, IsLawful}
-use Rattle.dill_plain.specs.Plain.{MakesPlain}
 use Rattle.dill_kernel.specs.declared.ready.Ready.{Ready}
 use Rattle.dill_kernel.specs.declared.replies.KernelReply.{KernelReply}
 use Rattle.dill_scope.specs.Scopes.{Scopes, is_bundle, is_empty}
@@ -22,7 +21,7 @@ use Rattle.dill_rules.specs.Trying.{Try}
 use Rattle.dill_rules.specs.Turning.{turn}
 use Rattle.dill_rules.specs.World.{World, begin, call_of, coroutine_of, is_answered, pending_call}
 use Rattle.laws_queue.specs.Kept.{Kept, has_answer, opening_kept, queued, kept_turn, kept_hear, kept_expire_next, kept_expired, root_closed, kept_shut, kept_woke}
-use Rattle.laws_sound.specs.Plain.{IsPlain}
+use Rattle.laws_sound.specs.Plain.{MakesLinkless, IsPlain}
 use Rattle.dill_rules.specs.LinkAnswers.{is_on_stack}
 use Rattle.laws_queue.specs.Well.{occurs, is_at, Numbered, IsWell}
 use Rattle.laws_sound.specs.Order.{closes, is_there, IsInOrder}
@@ -112,7 +111,7 @@ pub record KeepsSettled {V : Type 0} (p : Program V) : Type 0 where
   pub woke : (k : Kept V) (told : ℕ) (ready : List Ready) → IsPlain k.world → IsSettled k.world → IsSettled (kept_woke k told ready).world
 
 abbrev pub StepsKeepSettled : {V : Type 0} → Program V → Type 0
-StepsKeepSettled p = IsLawful p → MakesPlain p → KeepsSettled p
+StepsKeepSettled p = IsLawful p → MakesLinkless p → KeepsSettled p
 
 -- a world in order is sound
 abbrev pub OrderIsSound : (V : Type 0) → Type 0

@@ -4,7 +4,6 @@ use Rattle.rand_core.specs.Stream.{Stream}
 use Rattle.dill_calls.specs.declared.ran.LackPlace.{LackPlace}
 use Rattle.dill_calls.specs.Program.{Program, IsLawful}
 use Rattle.dill_kernel.specs.declared.ready.Ready.{Ready}
-use Rattle.dill_plain.specs.Plain.{MakesPlain}
 use Rattle.dill_rules.specs.Seen.{turn_seen, ask_seen}
 use Rattle.dill_rules.specs.Settling.{settle}
 use Rattle.dill_rules.specs.State.{State, opening_state, expired, shut, woke}
@@ -12,7 +11,7 @@ use Rattle.laws_queue.specs.Following.{SeenAlike}
 use Rattle.laws_queue.specs.Kept.{Kept, opening_kept, queued, kept_turn, kept_expire_next, kept_expired, kept_shut, kept_woke}
 use Rattle.laws_queue.specs.Stands.{StandsFor}
 use Rattle.laws_queue.specs.Well.{IsWell}
-use Rattle.laws_sound.specs.Plain.{IsPlain}
+use Rattle.laws_sound.specs.Plain.{MakesLinkless, IsPlain}
 
 pub record KeepsPlain {V : Type 0} (p : Program V) : Type 0 where
   pub opening : (view : V) → IsPlain (opening_kept view).world
@@ -24,7 +23,7 @@ pub record KeepsPlain {V : Type 0} (p : Program V) : Type 0 where
   pub woke : (k : Kept V) (told : ℕ) (ready : List Ready) → IsPlain k.world → IsPlain (kept_woke k told ready).world
 
 abbrev pub StepsKeepPlain : {V : Type 0} → Program V → Type 0
-StepsKeepPlain p = IsLawful p → MakesPlain p → KeepsPlain p
+StepsKeepPlain p = IsLawful p → MakesLinkless p → KeepsPlain p
 
 -- The steps of what is kept are those of the state with no random number lent, none is drawn, and nothing is asked of the kernel.
 pub record FollowsPlainly {V : Type 0} (p : Program V) : Type 0 where
@@ -38,4 +37,4 @@ pub record FollowsPlainly {V : Type 0} (p : Program V) : Type 0 where
   pub woke : (k : Kept V) (s : State V) (told : ℕ) (ready : List Ready) → StandsFor k s → StandsFor (kept_woke k told ready) (woke s told ready)
 
 abbrev pub FollowsStatesPlainly : {V : Type 0} → Program V → Type 0
-FollowsStatesPlainly p = IsLawful p → MakesPlain p → FollowsPlainly p
+FollowsStatesPlainly p = IsLawful p → MakesLinkless p → FollowsPlainly p

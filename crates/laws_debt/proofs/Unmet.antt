@@ -1,0 +1,59 @@
+-- Once nothing is due, who is pending and cancelled is answered by nobody whom it could meet: its answer would be due, or it lowers whatever it is.
+use Rattle.std.proofs.Common.{◌≡◌, ◌∙◌, ◌==◌, ◌⊎◌, inl, inr, ℕ, List, [], ◌∷◌, Bool, true, false, Option, Some, None, if◌then◌else◌, refl, sym, ap, subst}
+use Rattle.std.specs.List.{AllByRecursion}
+use Rattle.std.specs.Option.{option_or}
+use Rattle.dill_base.specs.Maps.{if_some, first_some}
+use Rattle.dill_calls.specs.declared.answer.Answer.{Answer}
+use Rattle.dill_calls.specs.declared.call.Call.{Call}
+use Rattle.dill_calls.specs.declared.call.Call.TheVariants as calls
+use Rattle.dill_calls.specs.CallTable.{word_of}
+use Rattle.dill_calls.specs.Program.{Program, Lowers}
+use Rattle.dill_rules.specs.declared.coroutine.Coroutine.{Coroutine}
+use Rattle.dill_rules.specs.Answers.{answer_of}
+use Rattle.dill_rules.specs.Settling.{answer_due, IsSettled}
+use Rattle.dill_rules.specs.Taking.{is_cancelled}
+use Rattle.dill_rules.specs.World.{World, is_coroutine, coroutine_of, call_of, pending_call}
+use Rattle.laws_sound.specs.Plain.{may_wait}
+use Rattle.laws_debt.proofs.Lists.{all_found, found_passes, number_of}
+use Rattle.laws_debt.proofs.Settling.{AllSit, PendsIn, call_pends, pending_runs}
+
+pub cancels_some : (c : Bool) (x : Answer) (rest : Option Answer) → c ≡ true → option_or (if c then Some x else None) rest ≡ None → ⊥
+cancels_some true x rest e f = let it : ◌≡◌ {A = Option Answer} (Some x) None = f in cc
+cancels_some false x rest e f = cc
+
+module _ {V : Type 0} where
+  first_none : (w : World V) (cs : List (Coroutine V)) → first_some (answer_due w) cs ≡ None → AllByRecursion (λ c. answer_due w c ≡ None) cs
+  first_none w [] e = tt
+  first_none w (c ∷ cs) e = at (answer_due w c) refl e (first_none w cs)
+    where
+      at : (o : Option (ℕ × Call × Answer)) → answer_due w c ≡ o → option_or o (first_some (answer_due w) cs) ≡ None → (first_some (answer_due w) cs ≡ None → AllByRecursion (λ d. answer_due w d ≡ None) cs) → (answer_due w c ≡ None) × AllByRecursion (λ d. answer_due w d ≡ None) cs
+      at None i f rest = (i, rest f)
+      at (Some x) i f rest = cc
+
+  due_none : (w : World V) (c : Coroutine V) (call : Call) → pending_call c.mode ≡ Some call → answer_due w c ≡ None → answer_of w c.number call ≡ None
+  due_none w c call e f = at (answer_of w c.number call) refl (sym (ap (λ o. if_some o None (λ d. if_some (answer_of w c.number d) None (λ a. Some (c.number, d, a)))) e) ∙ f)
+    where
+      at : (o : Option Answer) → answer_of w c.number call ≡ o → ◌≡◌ {A = Option (ℕ × Call × Answer)} (if_some o None (λ a. Some (c.number, call, a))) None → answer_of w c.number call ≡ None
+      at None i g = i
+      at (Some a) i g = cc
+
+  -- nothing is due of who is pending
+  pub unanswered : (p : Program V) (w : World V) (n : ℕ) (call : Call) → IsSettled w → PendsIn w n call → answer_of w n call ≡ None
+  unanswered p w n call settled d =
+      let none = all_found (λ x. answer_due w x ≡ None) (is_coroutine n) d.one w.coroutines d.found (first_none w w.coroutines settled.answers) in
+      let number : d.one.number ≡ n = number_of d.one.number n (found_passes (is_coroutine n) w.coroutines d.one d.found) in
+      subst (λ m. answer_of w m call ≡ None) number (due_none w d.one call d.pends none)
+
+  lowers_unmet : (w : World V) (n : ℕ) (call : Call) (answer : Answer) → may_wait call ≡ true → is_cancelled w n ≡ true → answer_of w n call ≡ None → Lowers (word_of call) answer
+  lowers_unmet w n (calls.Msleep deadline) answer m c e = absurd (cancels_some (is_cancelled w n) _ _ c e)
+  lowers_unmet w n (calls.BundleWait number deadline) answer m c e = absurd (cancels_some (is_cancelled w n) _ _ c e)
+  lowers_unmet w n (calls.Chsend number bytes deadline) answer m c e = absurd (cancels_some (is_cancelled w n) _ _ c e)
+  lowers_unmet w n (calls.Chrecv number size deadline) answer m c e = absurd (cancels_some (is_cancelled w n) _ _ c e)
+  lowers_unmet w n (calls.Choose deadline all) answer m c e = absurd (cancels_some (is_cancelled w n) _ _ c e)
+  lowers_unmet w n (calls.Hclose number) answer m c e = inr (inl refl)
+  lowers_unmet w n _ answer m c e = cc
+
+  pub unmet : (p : Program V) (w : World V) → AllSit p w.coroutines → IsSettled w → (n : ℕ) (call : Call) (answer : Answer) → call_of w n ≡ Some call → ((c : Coroutine V) → coroutine_of w n ≡ Some c → is_cancelled w n ≡ true) → Lowers (word_of call) answer
+  unmet p w sits settled n call answer e cancelled =
+      let d = call_pends p w n call e in
+      lowers_unmet w n call answer (pending_runs p w n call sits d).1 (cancelled d.one d.found) (unanswered p w n call settled d)
