@@ -14,7 +14,7 @@ use Rattle.dill_rules.specs.Trying.{Try, tries}
 use Rattle.dill_rules.specs.Waiting.{Waiter, waiter_of, until, least_due, has_close, awaits_link}
 use Rattle.dill_rules.specs.World.{pending_call}
 use Rattle.laws_queue.specs.Kept.{Kept, has_answer, kept_limit, kept_stuck}
-use Rattle.laws_sound.specs.Plain.{may_wait, waits_plainly, IsPlain}
+use Rattle.laws_sound.specs.Linkless.{may_wait, waits_linkless, IsLinkless}
 use Rattle.laws_sound.proofs.Untried.{tries_none, closes_none}
 
 -- a call that may wait without links uses none
@@ -32,25 +32,25 @@ module _ {V : Type 0} where
   awaits_at c None ws e r = r
   awaits_at c (Some call) ws e r = ap (λ b. b || list_any (λ (x : Waiter). uses_link x.word) ws) (uses_none call e) ∙ r
 
-  awaits_none : (cs : List (Coroutine V)) → list_all waits_plainly cs ≡ true → list_any (λ x. uses_link x.word) (filter_map waiter_of cs) ≡ false
+  awaits_none : (cs : List (Coroutine V)) → list_all waits_linkless cs ≡ true → list_any (λ x. uses_link x.word) (filter_map waiter_of cs) ≡ false
   awaits_none [] e = refl
   awaits_none (c ∷ cs) e =
-      let b = and_parts (waits_plainly c) (list_all waits_plainly cs) e in
+      let b = and_parts (waits_linkless c) (list_all waits_linkless cs) e in
       awaits_at c (pending_call c.mode) (filter_map waiter_of cs) b.0 (awaits_none cs b.1)
 
   -- where nobody has an answer the next wait lasts until the least deadline
-  pub limit_is : (k : Kept V) → IsPlain k.world → has_answer k.ready ≡ false → kept_limit k ≡ until (least_due k.world)
-  limit_is k plain none =
-      ap (λ (xs : List Try). if has_answer k.ready || nat_lt 0 (length xs) then NoWait else until (least_due k.world)) (tries_none k.world plain) ∙ ap (λ b. if b || false then NoWait else until (least_due k.world)) none
+  pub limit_is : (k : Kept V) → IsLinkless k.world → has_answer k.ready ≡ false → kept_limit k ≡ until (least_due k.world)
+  limit_is k linkless none =
+      ap (λ (xs : List Try). if has_answer k.ready || nat_lt 0 (length xs) then NoWait else until (least_due k.world)) (tries_none k.world linkless) ∙ ap (λ b. if b || false then NoWait else until (least_due k.world)) none
 
   pub no_limit : (k : Kept V) → has_answer k.ready ≡ true → kept_limit k ≡ NoWait
   no_limit k some = ap (λ b. if b || nat_lt 0 (length (tries k.world)) then NoWait else until (least_due k.world)) some
 
   -- and where there is no deadline either, nobody can go on
-  pub stuck_is : (k : Kept V) → IsPlain k.world → has_answer k.ready ≡ false → kept_stuck k ≡ is_none (least_due k.world)
-  stuck_is k plain none =
-      ap (λ (xs : List Try). not (has_answer k.ready || nat_lt 0 (length xs)) && (not (awaits_link k.world) && is_none (least_due k.world))) (closes_none k.world plain)
-      ∙ ap (λ b. not (has_answer k.ready || false) && (not b && is_none (least_due k.world))) (awaits_none k.world.coroutines plain.calls)
+  pub stuck_is : (k : Kept V) → IsLinkless k.world → has_answer k.ready ≡ false → kept_stuck k ≡ is_none (least_due k.world)
+  stuck_is k linkless none =
+      ap (λ (xs : List Try). not (has_answer k.ready || nat_lt 0 (length xs)) && (not (awaits_link k.world) && is_none (least_due k.world))) (closes_none k.world linkless)
+      ∙ ap (λ b. not (has_answer k.ready || false) && (not b && is_none (least_due k.world))) (awaits_none k.world.coroutines linkless.calls)
       ∙ ap (λ b. not (b || false) && is_none (least_due k.world)) none
 
   pub not_stuck : (k : Kept V) → has_answer k.ready ≡ true → kept_stuck k ≡ false

@@ -14,7 +14,7 @@ use dill_drive::{RunEnd, drive};
 use dill_kernel::Kernel;
 use dill_plain::PlainBody;
 use laws_queue::steps_keep_well;
-use laws_sound::{follows_plainly, steps_keep_plain};
+use laws_sound::{follows_linkless, steps_keep_linkless};
 use rand_core::Rng;
 use std::alloc::Global;
 
@@ -40,8 +40,8 @@ pub fn run<B: PlainBody, K: Kernel, W: Sink, R: Rng>(
     ensures wait { is_sink (status_of result) ≡ false → ReplyHasCause (K.faults kernel.old) (K.faults kernel.new) (is_wait (status_of result)) }
 {
     steps_keep_well::<B>();
-    steps_keep_plain::<B>();
-    follows_plainly::<B>();
+    steps_keep_linkless::<B>();
+    follows_linkless::<B>();
     match Core::new(alloc, first) {
         Ok(core) => drive(core, traced, turns, kernel, out, keys),
         Err(_) => RunEnd::NoMemory,

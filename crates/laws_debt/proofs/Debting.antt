@@ -23,22 +23,22 @@ use Rattle.dill_rules.specs.Settling.{can_finish, answer_due, settle, IsSettled}
 use Rattle.dill_rules.specs.State.{State, Stamp, is_stamp_of, stamp_of, opening_state, line_up, next_turn, turn_of, fresh, turned, expire_next, expired, shut, woke}
 use Rattle.dill_rules.specs.Turning.{answer_given, go_on, turn}
 use Rattle.dill_rules.specs.World.{World, begin, pending_call, is_ending}
-use Rattle.laws_sound.specs.Plain.{MakesLinkless}
-use Rattle.laws_sound.specs.PlainLaws.{FollowsPlainly}
+use Rattle.laws_sound.specs.Linkless.{MakesLinkless}
+use Rattle.laws_sound.specs.LinklessLaws.{FollowsLinkless}
 use Rattle.laws_queue.specs.Kept.{Kept, opening_kept, queued, turn_first, kept_shut, kept_woke, root_closed}
 use Rattle.laws_queue.specs.Laws.{MayTurn, KeepsWell}
 use Rattle.laws_queue.specs.Lending.{wordless}
 use Rattle.laws_queue.specs.Stands.{StandsFor}
 use Rattle.laws_queue.specs.Well.{bit}
 use Rattle.laws_queue.proofs.Following.{next_is, nobody_next}
-use Rattle.laws_sound.proofs.PlainLaws.{follows_plainly, expired_next, settled_after}
-use Rattle.laws_sound.proofs.Apart.{plain_apart, settles_apart}
+use Rattle.laws_sound.proofs.LinklessLaws.{follows_linkless, expired_next, settled_after}
+use Rattle.laws_sound.proofs.Apart.{linkless_apart, settles_apart}
 use Rattle.laws_queue.proofs.Keeping.{steps_keep_well}
-use Rattle.laws_sound.proofs.Plainly.{begin_plain}
-use Rattle.laws_sound.proofs.Turns.{closed_plain, go_on_plain}
+use Rattle.laws_sound.proofs.Linkless.{begin_linkless}
+use Rattle.laws_sound.proofs.Turns.{closed_linkless, go_on_linkless}
 use Rattle.laws_sound.specs.Laws.{is_closing, is_timed, HasGoing}
 use Rattle.laws_sound.specs.Order.{IsInOrder}
-use Rattle.laws_sound.proofs.Going.{closing_goes_on, plain_long}
+use Rattle.laws_sound.proofs.Going.{closing_goes_on, linkless_long}
 use Rattle.laws_sound.proofs.Sound.{rooted_inside}
 use Rattle.laws_sound.proofs.Stepping.{steps_keep_order, passed_timed, expire_timed}
 use Rattle.laws_debt.specs.Closing.{IsStable}
@@ -63,18 +63,18 @@ use Rattle.laws_debt.proofs.Within.{keeps_within}
 home_inside : {V : Type 0} (w : World V) (n : ℕ) → IsInOrder w → IsThere w.scopes n → Inside w.scopes 0 n
 home_inside w n o e = let h = some_told (home_of w.scopes n) e in rooted_inside w.scopes n (o.fits.forest.forest.rooted n h.0 h.1)
 
-module _ {V : Type 0} (p : Program V) (law : IsLawful p) (plainly : MakesLinkless p) where
+module _ {V : Type 0} (p : Program V) (law : IsLawful p) (unlinked : MakesLinkless p) where
   keeps : KeepsWell p
   keeps = steps_keep_well p law
 
-  follows : FollowsPlainly p
-  follows = follows_plainly p law plainly
+  follows : FollowsLinkless p
+  follows = follows_linkless p law unlinked
 
   stable_steps : KeepsStable p
-  stable_steps = steps_keep_stable p law plainly
+  stable_steps = steps_keep_stable p law unlinked
 
   root_ends : EndsClosing p
-  root_ends = root_debt_falls p law plainly
+  root_ends = root_debt_falls p law unlinked
 
   within_steps : KeepsWithin p
   within_steps = keeps_within p keeps
@@ -89,29 +89,29 @@ module _ {V : Type 0} (p : Program V) (law : IsLawful p) (plainly : MakesLinkles
   turn_after : (s : State V) (lack : Option LackPlace) (even : IsEven p s) (who : ℕ) (rest : List ℕ) → even.kept.ready ≡ who ∷ rest → StandsFor (queued (turn p lack even.kept.world who) rest (even.kept.early - 1)) (turn_of p lack s who)
   turn_after s lack even who rest e =
       let k = even.kept in
-      let stands = follows.turned k s lack s.world.random even.stable.well even.stable.plain even.stands in
+      let stands = follows.turned k s lack s.world.random even.stable.well even.stable.linkless even.stands in
       let next : turned p lack s ≡ turn_of p lack s who = ap (λ o. if_some o s (turn_of p lack s)) (next_is k.ready s who rest even.stands.order even.stands.rise e) in
       subst (StandsFor (queued (turn p lack k.world who) rest (k.early - 1))) next (subst (λ (l : Kept V). StandsFor l (turned p lack s)) (ap (turn_first p lack k) e) stands)
 
   turn_stable : (lack : Option LackPlace) (k : Kept V) (who : ℕ) (rest : List ℕ) → IsStable p k → k.ready ≡ who ∷ rest → IsStable p (queued (turn p lack k.world who) rest (k.early - 1))
   turn_stable lack k who rest s e = subst (IsStable p) (ap (turn_first p lack k) e) (stable_steps.turned k lack s)
 
-  turn_step : (s : State V) (lack : Option LackPlace) (even : IsEven p s) (who : ℕ) (rest : List ℕ) → IsSettled even.kept.world → even.kept.ready ≡ who ∷ rest → Stepped p law plainly even.kept s (turn p lack even.kept.world who) (λ n. n == who) (filter (λ x. not (is_stamp_of who x)) s.answers)
-  turn_step s lack even who rest settled e = turn_steps p law plainly keeps within_steps even.kept s lack who rest even.stable settled even.stands even.stamps even.lowers e
+  turn_step : (s : State V) (lack : Option LackPlace) (even : IsEven p s) (who : ℕ) (rest : List ℕ) → IsSettled even.kept.world → even.kept.ready ≡ who ∷ rest → Stepped p law unlinked even.kept s (turn p lack even.kept.world who) (λ n. n == who) (filter (λ x. not (is_stamp_of who x)) s.answers)
+  turn_step s lack even who rest settled e = turn_steps p law unlinked keeps within_steps even.kept s lack who rest even.stable settled even.stands even.stamps even.lowers e
 
   turn_settles : (lack : Option LackPlace) (k : Kept V) (who : ℕ) → (s : IsStable p k) → MayTurn p k.world who → IsSettled (turn p lack k.world who)
   turn_settles lack k who s may =
       let w = k.world in
       let c = may.one in
       let moved = go_on p lack (begin w) who c.body in
-      let plain_move = plainly c.body (answer_given (begin w) who).1 may.real may.some in
-      let good = good_moved p law plainly lack w who may c may.found may.some may.real (good_stable p k s) in
-      subst IsSettled (sym (turn_is p law plainly lack w who c may.found)) (settles_apart V moved (plain_apart moved (go_on_plain p lack (begin w) who c.body plain_move (begin_plain w s.plain))) good.numbered)
+      let linkless_move = unlinked c.body (answer_given (begin w) who).1 may.real may.some in
+      let good = good_moved p law unlinked lack w who may c may.found may.some may.real (good_stable p k s) in
+      subst IsSettled (sym (turn_is p law unlinked lack w who c may.found)) (settles_apart V moved (linkless_apart moved (go_on_linkless p lack (begin w) who c.body linkless_move (begin_linkless w s.linkless))) good.numbered)
 
   turn_settled : (lack : Option LackPlace) (k : Kept V) (who : ℕ) (rest : List ℕ) → IsStable p k → k.ready ≡ who ∷ rest → IsSettled (queued (turn p lack k.world who) rest (k.early - 1)).world
   turn_settled lack k who rest s e =
       let may = keeps.first k who rest s.well e in
-      let good = good_turn p law plainly lack k.world who may (good_stable p k s) in
+      let good = good_turn p law unlinked lack k.world who may (good_stable p k s) in
       settled_queued p (turn p lack k.world who) rest (k.early - 1) good.sits (turn_settles lack k who s may)
 
   turn_steady : (s : State V) (lack : Option LackPlace) (st : IsSteady p s) (who : ℕ) (rest : List ℕ) → st.even.kept.ready ≡ who ∷ rest → IsSteady p (turn_of p lack s who)
@@ -119,7 +119,7 @@ module _ {V : Type 0} (p : Program V) (law : IsLawful p) (plainly : MakesLinkles
       let even = st.even in
       let k = even.kept in
       record {
-        even = even_after p law plainly k s even.stable even.stands even.stamps (turn p lack k.world who) (λ n. n == who) (filter (λ x. not (is_stamp_of who x)) s.answers) (turn_step s lack even who rest st.settled e) rest (k.early - 1) (turn_stable lack k who rest even.stable e) (turn p lack s.world who) (turn_after s lack even who rest e);
+        even = even_after p law unlinked k s even.stable even.stands even.stamps (turn p lack k.world who) (λ n. n == who) (filter (λ x. not (is_stamp_of who x)) s.answers) (turn_step s lack even who rest st.settled e) rest (k.early - 1) (turn_stable lack k who rest even.stable e) (turn p lack s.world who) (turn_after s lack even who rest e);
         settled = turn_settled lack k who rest even.stable e;
       }
 
@@ -131,14 +131,14 @@ module _ {V : Type 0} (p : Program V) (law : IsLawful p) (plainly : MakesLinkles
       let left = filter (λ x. not (is_stamp_of who x)) s.answers in
       let here : is_closing k.world.scopes b ≡ true = subst (λ (w : World V). is_closing w.scopes b ≡ true) (sym even.stands.world) c in
       let steps = turn_step s lack even who rest st.settled e in
-      let now = debt_after p law plainly k s even.stable even.stands even.stamps (turn p lack k.world who) gone left steps rest (k.early - 1) (turn_stable lack k who rest even.stable e) (turn p lack s.world who) (turn_after s lack even who rest e) b here in
+      let now = debt_after p law unlinked k s even.stable even.stands even.stamps (turn p lack k.world who) gone left steps rest (k.early - 1) (turn_stable lack k who rest even.stable e) (turn p lack s.world who) (turn_after s lack even who rest e) b here in
       let was = debt_total p k.world s b even.stands.world in
       let lowers : AllByRecursion (LowersAt p (is_inside k.world.scopes b) (is_early s b)) k.world.coroutines =
       subst (λ (w : World V). AllByRecursion (λ d. is_inside w.scopes b d.number ≡ true → IsLowering (is_early s b) d) w.coroutines) (sym even.stands.world) (even.lowers b c) in
-      let falls = turn_falls p law plainly keeps within_steps k lack who rest b (is_early s b) (less_early p law plainly s b gone) even.stable st.settled e here (ap (λ g. if g then false else is_early s b who) (equal_number who who refl)) (λ n i. ap (λ g. if g then false else is_early s b n) i) lowers in
+      let falls = turn_falls p law unlinked keeps within_steps k lack who rest b (is_early s b) (less_early p law unlinked s b gone) even.stable st.settled e here (ap (λ g. if g then false else is_early s b who) (equal_number who who refl)) (λ n i. ap (λ g. if g then false else is_early s b n) i) lowers in
       let owes = falls.falling.owes in (
         record {
-          places = λ n there. places_after p law plainly k s even.stable even.stands even.stamps (turn p lack k.world who) gone left steps rest (k.early - 1) (turn_stable lack k who rest even.stable e) (turn p lack s.world who) (turn_after s lack even who rest e) b here n there;
+          places = λ n there. places_after p law unlinked k s even.stable even.stands even.stamps (turn p lack k.world who) gone left steps rest (k.early - 1) (turn_stable lack k who rest even.stable e) (turn p lack s.world who) (turn_after s lack even who rest e) b here n there;
           no_more = omega (arith, now, was, owes);
         },
         λ i. let less = falls.strictly (subst (λ (w : World V). is_inside w.scopes b who ≡ true) (sym even.stands.world) i) in omega (arith, now, was, less),
@@ -176,19 +176,19 @@ module _ {V : Type 0} (p : Program V) (law : IsLawful p) (plainly : MakesLinkles
 
   -- ---- steps in which no answer is taken
 
-  module _ (s : State V) (even : IsEven p s) (v : World V) (steps : Stepped p law plainly even.kept s v none_gone s.answers) (early : ℕ) (stable : IsStable p (queued v even.kept.ready early)) (u : World V) (stands : StandsFor (queued v even.kept.ready early) (line_up u s.answers s.closings s.next)) where
+  module _ (s : State V) (even : IsEven p s) (v : World V) (steps : Stepped p law unlinked even.kept s v none_gone s.answers) (early : ℕ) (stable : IsStable p (queued v even.kept.ready early)) (u : World V) (stands : StandsFor (queued v even.kept.ready early) (line_up u s.answers s.closings s.next)) where
     abbrev other_even : IsEven p (line_up u s.answers s.closings s.next)
-    other_even = even_after p law plainly even.kept s even.stable even.stands even.stamps v none_gone s.answers steps even.kept.ready early stable u stands
+    other_even = even_after p law unlinked even.kept s even.stable even.stands even.stamps v none_gone s.answers steps even.kept.ready early stable u stands
 
     other_comes : (b : ℕ) → is_closing s.world.scopes b ≡ true → Comes s (line_up u s.answers s.closings s.next) b
     other_comes b c =
         let k = even.kept in
         let here : is_closing k.world.scopes b ≡ true = subst (λ (w : World V). is_closing w.scopes b ≡ true) (sym even.stands.world) c in
-        let now = debt_after p law plainly k s even.stable even.stands even.stamps v none_gone s.answers steps k.ready early stable u stands b here in
+        let now = debt_after p law unlinked k s even.stable even.stands even.stamps v none_gone s.answers steps k.ready early stable u stands b here in
         let was = debt_total p k.world s b even.stands.world in
         let owes = (steps.falls b here).owes in
         record {
-          places = λ n there. places_after p law plainly k s even.stable even.stands even.stamps v none_gone s.answers steps k.ready early stable u stands b here n there;
+          places = λ n there. places_after p law unlinked k s even.stable even.stands even.stamps v none_gone s.answers steps k.ready early stable u stands b here n there;
           no_more = omega (arith, now, was, owes);
         }
 
@@ -198,24 +198,24 @@ module _ {V : Type 0} (p : Program V) (law : IsLawful p) (plainly : MakesLinkles
   shut_steady s st =
       let even = st.even in
       let k = even.kept in
-      let steps = shut_steps p law plainly k s even.stable even.stands even.stamps even.lowers in
+      let steps = shut_steps p law unlinked k s even.stable even.stands even.stamps even.lowers in
       let r = root_closed k.world in
-      let good = good_closed p law plainly keeps (steps_keep_order p law) k.world (good_stable p k even.stable) in
+      let good = good_closed p law unlinked keeps (steps_keep_order p law) k.world (good_stable p k even.stable) in
       record {
-        even = other_even s even (settle r) steps (length k.ready) (stable_steps.shut k even.stable) _ (follows.shut k s even.stable.plain even.stands);
-        settled = settled_queued p (settle r) k.ready (length k.ready) (good_settle p r good).sits (settles_apart V r (plain_apart r (closed_plain k.world even.stable.plain)) good.numbered);
+        even = other_even s even (settle r) steps (length k.ready) (stable_steps.shut k even.stable) _ (follows.shut k s even.stable.linkless even.stands);
+        settled = settled_queued p (settle r) k.ready (length k.ready) (good_settle p r good).sits (settles_apart V r (linkless_apart r (closed_linkless k.world even.stable.linkless)) good.numbered);
       }
 
   shut_comes : (s : State V) (b : ℕ) → IsSteady p s → is_closing s.world.scopes b ≡ true → Comes s (shut s) b
   shut_comes s b st c =
       let even = st.even in
       let k = even.kept in
-      other_comes s even (settle (root_closed k.world)) (shut_steps p law plainly k s even.stable even.stands even.stamps even.lowers) (length k.ready) (stable_steps.shut k even.stable) _ (follows.shut k s even.stable.plain even.stands) b c
+      other_comes s even (settle (root_closed k.world)) (shut_steps p law unlinked k s even.stable even.stands even.stamps even.lowers) (length k.ready) (stable_steps.shut k even.stable) _ (follows.shut k s even.stable.linkless even.stands) b c
 
   -- ---- expiries
 
   timed_lined : (v : World V) (ready : List ℕ) (early n : ℕ) → is_timed v n ≡ true → is_timed (queued v ready early).world n ≡ true
-  timed_lined v ready early n e = ap (λ o. if_some o true (λ call. is_some (due_of call))) (calls_lined p law plainly v.coroutines n) ∙ e
+  timed_lined v ready early n e = ap (λ o. if_some o true (λ call. is_some (due_of call))) (calls_lined p law unlinked v.coroutines n) ∙ e
 
   all_follow : (test more : ℕ → Bool) (xs : List ℕ) → ((n : ℕ) → test n ≡ true → more n ≡ true) → list_all test xs ≡ true → list_all more xs ≡ true
   all_follow test more [] h e = refl
@@ -226,7 +226,7 @@ module _ {V : Type 0} (p : Program V) (law : IsLawful p) (plainly : MakesLinkles
   -- between two expiries
   record Expires (s t : State V) (xs : List ℕ) : Type 0 where
     even_now : IsEven p t
-    hushed : Hushed p law plainly even_now.kept.world
+    hushed : Hushed p law unlinked even_now.kept.world
     timed : list_all (is_timed even_now.kept.world) xs ≡ true
     scopes_still : t.world.scopes ≡ s.world.scopes
     owed_still : (b : ℕ) → is_closing s.world.scopes b ≡ true → debt p t b ≤ debt p s b
@@ -239,13 +239,13 @@ module _ {V : Type 0} (p : Program V) (law : IsLawful p) (plainly : MakesLinkles
       let b = and_parts (is_timed w x) (list_all (is_timed w) xs) m.timed in
       let v = expire_one w x in
       let sits = (good_stable p k even.stable).sits in
-      let steps = expire_steps p law plainly k t x even.stable even.stands even.stamps even.lowers m.hushed b.0 in
-      let stands = expired_next k t x even.stable.plain even.stands in
+      let steps = expire_steps p law unlinked k t x even.stable even.stands even.stamps even.lowers m.hushed b.0 in
+      let stands = expired_next k t x even.stable.linkless even.stands in
       let stable = stable_steps.expires k x even.stable b.0 in
-      let leaves = expire_leaves p law plainly w x sits b.0 in
+      let leaves = expire_leaves p law unlinked w x sits b.0 in
       record {
         even_now = other_even t even v steps k.early stable (expire_one t.world x) stands;
-        hushed = hushed_queued p law plainly v k.ready k.early (hushed_expire p law plainly w x sits b.0 m.hushed);
+        hushed = hushed_queued p law unlinked v k.ready k.early (hushed_expire p law unlinked w x sits b.0 m.hushed);
         timed = all_follow (is_timed w) (is_timed (queued v k.ready k.early).world) xs (λ n e. timed_lined v k.ready k.early n (expire_timed w x n e)) b.1;
         scopes_still = sym (ap (λ (u : World V). u.scopes) stands.world) ∙ leaves.scopes_same ∙ ap (λ (u : World V). u.scopes) even.stands.world ∙ m.scopes_still;
         owed_still = λ c e.
@@ -273,7 +273,7 @@ module _ {V : Type 0} (p : Program V) (law : IsLawful p) (plainly : MakesLinkles
       let k = st.even.kept in
       record {
         even_now = begun_even s st.even;
-        hushed = hushed_settled p law plainly k st.even.stable st.settled;
+        hushed = hushed_settled p law unlinked k st.even.stable st.settled;
         timed = subst (λ xs. list_all (is_timed k.world) xs ≡ true) (ap passed st.even.stands.world) (passed_timed k.world st.even.stable.order.order);
         scopes_still = refl;
         owed_still = λ b e. omega arith;
@@ -290,8 +290,8 @@ module _ {V : Type 0} (p : Program V) (law : IsLawful p) (plainly : MakesLinkles
       let k = even.kept in
       let good = good_stable p k even.stable in
       record {
-        even = other_even late even (settle k.world) (settle_steps p law plainly k late even.stable even.stands even.stamps even.lowers) k.early (stable_steps.settled k even.stable) (settle late.world) (settled_after k late even.stable.plain even.stands);
-        settled = settled_queued p (settle k.world) k.ready k.early (good_settle p k.world good).sits (settles_apart V k.world (plain_apart k.world even.stable.plain) good.numbered);
+        even = other_even late even (settle k.world) (settle_steps p law unlinked k late even.stable even.stands even.stamps even.lowers) k.early (stable_steps.settled k even.stable) (settle late.world) (settled_after k late even.stable.linkless even.stands);
+        settled = settled_queued p (settle k.world) k.ready k.early (good_settle p k.world good).sits (settles_apart V k.world (linkless_apart k.world even.stable.linkless) good.numbered);
       }
 
   expired_comes : (s : State V) (b : ℕ) → IsSteady p s → is_closing s.world.scopes b ≡ true → Comes s (expired s) b
@@ -301,7 +301,7 @@ module _ {V : Type 0} (p : Program V) (law : IsLawful p) (plainly : MakesLinkles
       let even = m.even_now in
       let k = even.kept in
       let here : is_closing late.world.scopes b ≡ true = subst (λ (q : Scopes). is_closing q b ≡ true) (sym m.scopes_still) c in
-      let comes = other_comes late even (settle k.world) (settle_steps p law plainly k late even.stable even.stands even.stamps even.lowers) k.early (stable_steps.settled k even.stable) (settle late.world) (settled_after k late even.stable.plain even.stands) b here in
+      let comes = other_comes late even (settle k.world) (settle_steps p law unlinked k late even.stable even.stands even.stamps even.lowers) k.early (stable_steps.settled k even.stable) (settle late.world) (settled_after k late even.stable.linkless even.stands) b here in
       let was = m.owed_still b c in
       let now = comes.no_more in
       record {
@@ -428,7 +428,7 @@ module _ {V : Type 0} (p : Program V) (law : IsLawful p) (plainly : MakesLinkles
       let same = st.even.stands.world in
       let here : is_closing k.world.scopes b ≡ true = subst (λ (w : World V). is_closing w.scopes b ≡ true) (sym same) c in
       let full : is_empty k.world.scopes b ≡ false = subst (λ (w : World V). is_empty w.scopes b ≡ false) (sym same) e in
-      let g = closing_goes_on V k.world b st.even.stable.order.order (plain_long k.world st.even.stable.plain) st.settled st.even.stable.rest here full in
+      let g = closing_goes_on V k.world b st.even.stable.order.order (linkless_long k.world st.even.stable.linkless) st.settled st.even.stable.rest here full in
       let there : HasGoing (wordless s.world) b = subst (λ w. HasGoing w b) same g in
       record { who = there.who; inside = there.inside; answered = there.answered }
 
@@ -438,8 +438,8 @@ module _ {V : Type 0} (p : Program V) (law : IsLawful p) (plainly : MakesLinkles
       let v = settle (root_closed k.world) in
       let after = kept_shut k in
       let kept = stable_steps.shut k stable in
-      let steps = shut_steps p law plainly k s stable stands st.even.stamps st.even.lowers in
-      let stands_after = follows.shut k s stable.plain stands in
+      let steps = shut_steps p law unlinked k s stable stands st.even.stamps st.even.lowers in
+      let stands_after = follows.shut k s stable.linkless stands in
       let shut_now : is_closing v.scopes 0 ≡ true = (root_ends.shut k stable).closing in
       let open_here : is_closing k.world.scopes 0 ≡ false = subst (λ (w : World V). is_closing w.scopes 0 ≡ false) (sym stands.world) open_root in
       let queue = take_all (k.ready) (fresh v) in
@@ -447,7 +447,7 @@ module _ {V : Type 0} (p : Program V) (law : IsLawful p) (plainly : MakesLinkles
       let same = all_to (λ (c : Coroutine V). IsThere after.world.scopes c.number) (λ c. share_by p (early_in after) c ≡ share_in p (is_inside after.world.scopes 0) (is_early (shut s) 0) c) after.world.coroutines
       (λ c e.
       let inside = (search_is_inside after.world.scopes 0 c.number kept.order.order.fits.forest.forest).1 (home_inside after.world c.number kept.order.order e) in
-      let early = early_queued p law plainly k s stable stands st.even.stamps v none_gone s.answers steps k.ready (length k.ready) kept _ stands_after 0 open_here shut_now c.number refl in
+      let early = early_queued p law unlinked k s stable stands st.even.stamps v none_gone s.answers steps k.ready (length k.ready) kept _ stands_after 0 open_here shut_now c.number refl in
       ap (λ xs. if is_ending c.mode then 0 else (if list_any (λ m. m == c.number) xs then 1 + p.most c.body else p.left c.body)) queue
       ∙ ap (λ b. if is_ending c.mode then 0 else (if b then 1 + p.most c.body else p.left c.body)) (sym early)
       ∙ ap (λ b. if b then share_by p (is_early (shut s) 0) c else 0) (sym inside)) there in
@@ -489,4 +489,4 @@ module _ {V : Type 0} (p : Program V) (law : IsLawful p) (plainly : MakesLinkles
   }
 
 pub debts_fall : {V : Type 0} (p : Program V) → DebtsFall p
-debts_fall p law plainly = debt_falls p law plainly
+debts_fall p law unlinked = debt_falls p law unlinked

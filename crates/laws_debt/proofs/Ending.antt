@@ -22,8 +22,8 @@ use Rattle.dill_rules.specs.State.{lined, fresh}
 use Rattle.dill_rules.specs.Turning.{as_running, resume, given_of, answer_given, go_on, turn}
 use Rattle.laws_queue.specs.Kept.{Kept, has_answer, queued, turn_first, kept_turn, kept_shut, root_closed}
 use Rattle.laws_queue.specs.Laws.{MayTurn, KeepsWell}
-use Rattle.laws_sound.specs.Plain.{MakesLinkless, may_wait, IsPlain}
-use Rattle.laws_sound.proofs.Apart.{plain_apart}
+use Rattle.laws_sound.specs.Linkless.{MakesLinkless, may_wait, IsLinkless}
+use Rattle.laws_sound.proofs.Apart.{linkless_apart}
 use Rattle.laws_sound.proofs.Meeting.{choice_same}
 use Rattle.dill_rules.specs.Answers.{when, choice_fault, clause_fault}
 use Rattle.dill_base.specs.declared.errno.Errno.TheVariants.{Ecanceled}
@@ -36,9 +36,9 @@ use Rattle.laws_debt.specs.Closing.{IsStable, IsClosing}
 use Rattle.laws_debt.specs.Laws.{KeepsStable, EndsClosing, turn_until}
 use Rattle.laws_debt.specs.Owed.{share_by, is_early, owed}
 use Rattle.laws_debt.specs.Says.{Says, SaysIn, IsLowering, AllLower}
-use Rattle.laws_sound.proofs.Plainly.{begin_plain}
-use Rattle.laws_sound.proofs.Steps.{settle_one_plain}
-use Rattle.laws_sound.proofs.Turns.{closed_plain, go_on_plain}
+use Rattle.laws_sound.proofs.Linkless.{begin_linkless}
+use Rattle.laws_sound.proofs.Steps.{settle_one_linkless}
+use Rattle.laws_sound.proofs.Turns.{closed_linkless, go_on_linkless}
 use Rattle.laws_debt.proofs.Bounded.{owes_few, all_early}
 use Rattle.laws_debt.proofs.Keeping.{root_flags, good_stable, turn_is}
 use Rattle.laws_queue.proofs.Lining.{lined_pending}
@@ -51,7 +51,7 @@ use Rattle.laws_debt.proofs.Unmet.{unmet}
 use Rattle.laws_debt.proofs.Turning.{sits_resumed, given_is, Went, called, ended, go_on_went, went_leads, found_number, all_resumed}
 use Rattle.laws_debt.proofs.Walking.{Leads, unlike}
 use Rattle.laws_queue.proofs.Numbers.{found_changed}
-use Rattle.laws_sound.proofs.Going.{plain_long}
+use Rattle.laws_sound.proofs.Going.{linkless_long}
 
 -- steps within a step keep a world in order
 pub record KeepsWithin {V : Type 0} (p : Program V) : Type 0 where
@@ -190,9 +190,9 @@ absent_rest who rest false e = let one : bit (who == who) ≡ 1 = ap bit (equal_
 
 -- ---- worlds in which the root is closing, within a step
 
-module _ {V : Type 0} (p : Program V) (law : IsLawful p) (plainly : MakesLinkless p) (cancels : CancelsAll V) (within : KeepsWithin p) where
+module _ {V : Type 0} (p : Program V) (law : IsLawful p) (unlinked : MakesLinkless p) (cancels : CancelsAll V) (within : KeepsWithin p) where
   record InClosing (w : World V) : Type 0 where
-    plain : IsPlain w
+    linkless : IsLinkless w
     order : IsOrderly w
     sits : AllSit p w.coroutines
     holds : AllHold (IsShutAs 0) 0 w
@@ -205,7 +205,7 @@ module _ {V : Type 0} (p : Program V) (law : IsLawful p) (plainly : MakesLinkles
 
   settles : (w : World V) → InClosing w → InClosing (settle_one w)
   settles w i = record {
-    plain = settle_one_plain w i.plain;
+    linkless = settle_one_linkless w i.linkless;
     order = within.one w i.order;
     sits = leads_sits p all_calm w (settle_one w) (one_leads w i) i.sits;
     holds = settle_one_shut (IsShutAs 0) 0 (shut_lasts 0) w i.holds;
@@ -243,7 +243,7 @@ module _ {V : Type 0} (p : Program V) (law : IsLawful p) (plainly : MakesLinkles
         record {
           sits_then = leads_sits p all_calm w (settle w) e i.sits;
           holds_then = settling_holds w i;
-          settled_then = settling_ends w (plain_apart w i.plain) i.order.order.fits.numbered;
+          settled_then = settling_ends w (linkless_apart w i.linkless) i.order.order.fits.numbered;
           leads_then_to = e;
         }
 
@@ -279,14 +279,14 @@ module _ {V : Type 0} (p : Program V) (law : IsLawful p) (plainly : MakesLinkles
         let good = good_stable p k s.stable in
         let sits = good.sits in
         let shut : AllHold (IsShutAs 0) 0 w = record { given = omega arith; bundles = of_closing w s.stable.order.order.fits.forest.ordered.bundles (find (scopes.is_bundle 0) w.scopes.bundles) refl s.closing; flags = s.stable.flags } in
-        let before : InClosing w = record { plain = s.stable.plain; order = s.stable.order; sits = sits; holds = shut } in
+        let before : InClosing w = record { linkless = s.stable.linkless; order = s.stable.order; sits = sits; holds = shut } in
         let once = (subst (λ q. IsQueue q w.coroutines) e s.stable.well.queue).once who in
         let gone = first_gone who rest k.early (absent_rest who rest _ once) in
         let lowers : AllLower (early_of k.early (who ∷ rest)) w.coroutines = subst (λ q. AllLower (λ n. list_any (λ m. m == n) (take k.early q)) w.coroutines) e s.lowers in
         let says = all_found (Says p) (is_coroutine who) c w.coroutines may.found s.stable.says in
         let lowering = all_found (IsLowering (early_of k.early (who ∷ rest))) (is_coroutine who) c w.coroutines may.found lowers in
-        let plain_move = plainly c.body (answer_given b who).1 may.real may.some in
-        let went : Went p law all_calm b who c (answer_given b who).1 moved = go_on_went p law all_calm lack b who c plainly may.some (record { found = may.found; real = may.real; cancelled = λ q. off w who c before may.found q; born = λ q. cc; sits = sits; met = λ other its answer g q. unmet p w sits s.settled other its answer g (λ d h. off w other d before h q) }) in
+        let linkless_move = unlinked c.body (answer_given b who).1 may.real may.some in
+        let went : Went p law all_calm b who c (answer_given b who).1 moved = go_on_went p law all_calm lack b who c unlinked may.some (record { found = may.found; real = may.real; cancelled = λ q. off w who c before may.found q; born = λ q. cc; sits = sits; met = λ other its answer g q. unmet p w sits s.settled other its answer g (λ d h. off w other d before h q) }) in
         let from = went_leads p law all_calm b who c (answer_given b who).1 moved may.found went in
         let view = from.0 in
         let sits_moved = leads_sits p all_calm (resume b who view) moved from.1 (sits_resumed p b who view c may.found sits) in
@@ -294,7 +294,7 @@ module _ {V : Type 0} (p : Program V) (law : IsLawful p) (plainly : MakesLinkles
         (others_lower p (early_of k.early (who ∷ rest)) (early_of (k.early - 1) rest) who gone (others_same who rest k.early)) (λ x i f. tt) lowers in
         record {
           in_closing = record {
-            plain = go_on_plain p lack b who c.body plain_move (begin_plain w s.stable.plain);
+            linkless = go_on_linkless p lack b who c.body linkless_move (begin_linkless w s.stable.linkless);
             order = within.moved k lack who rest c s.stable.well s.stable.order e may.found;
             sits = sits_moved;
             holds = go_on_shut (IsShutAs 0) 0 (shut_lasts 0) p lack b who c.body (record { given = shut.given; bundles = shut.bundles; flags = shut.flags });
@@ -319,7 +319,7 @@ module _ {V : Type 0} (p : Program V) (law : IsLawful p) (plainly : MakesLinkles
           lowers = lowers_evolves p less moved.coroutines (settle moved).coroutines moved.last_coroutine (settle moved).last_coroutine over.leads_then_to m.lowers_moved;
           falls = omega (arith, before, kept);
         } in
-        subst (TurnsOff w k.early who rest) (sym (turn_is p law plainly lack w who may.one may.found)) done
+        subst (TurnsOff w k.early who rest) (sym (turn_is p law unlinked lack w who may.one may.found)) done
 
   module _ (settling_ends : SettlesApart V) (stable : KeepsStable p) (goes : RootGoesOn p) where
     few : (k : Kept V) → IsClosing p k → owed p k ≤ 2 ^ 48
@@ -330,7 +330,7 @@ module _ {V : Type 0} (p : Program V) (law : IsLawful p) (plainly : MakesLinkles
         let w = root_closed k.world in
         let good = good_stable p k s in
         let before : InClosing w = record {
-          plain = closed_plain k.world s.plain;
+          linkless = closed_linkless k.world s.linkless;
           order = within.closed k.world s.order;
           sits = good.sits;
           holds = record { given = omega arith; bundles = root_shuts k.world.scopes.bundles s.order.order.fits.forest.ordered.bundles; flags = root_flags k.world s.flags };
@@ -390,7 +390,7 @@ module _ {V : Type 0} (p : Program V) (law : IsLawful p) (plainly : MakesLinkles
         at (who ∷ rest) e h = (turned_first k lack who rest keeps s e).1
 
     goes_on : (k : Kept V) → IsClosing p k → k.world.ended ≡ None → has_answer k.ready ≡ true
-    goes_on k s e = goes k s.stable.well (plain_long k.world s.stable.plain) s.stable.order.order s.settled s.stable.rest s.closing e
+    goes_on k s e = goes k s.stable.well (linkless_long k.world s.stable.linkless) s.stable.order.order s.settled s.stable.rest s.closing e
 
     stays_ended : (k : Kept V) (lacks : List (Option LackPlace)) → is_some k.world.ended ≡ true → is_some (fold (turn_until p) k lacks).world.ended ≡ true
     stays_ended k [] e = e

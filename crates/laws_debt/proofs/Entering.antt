@@ -21,7 +21,7 @@ use Rattle.dill_rules.specs.Entering.{entered, lack_fault}
 use Rattle.dill_rules.specs.Channeling.{without_bytes}
 use Rattle.laws_queue.proofs.Acting.{may_pend, may_meet}
 use Rattle.laws_queue.proofs.Walking.{none_behind}
-use Rattle.laws_sound.specs.Plain.{is_of_link, may_wait}
+use Rattle.laws_sound.specs.Linkless.{is_of_link, may_wait}
 
 by_quiet : (word : Word) (answer : Answer) → is_quiet word ≡ true → Lowers word answer
 by_quiet word answer e = inr (inl e)
@@ -49,15 +49,15 @@ entered_passes moment (calls.Pass word fault) f = f
 entered_passes moment call f = tt
 
 -- calls of no link that may stay pending
-pub plain_waits : (call : Call) → is_of_link (word_of call) ≡ false → may_pend call ≡ true → may_wait call ≡ true
-plain_waits (calls.Msleep deadline) e m = refl
-plain_waits (calls.Hclose number) e m = refl
-plain_waits (calls.BundleWait number deadline) e m = refl
-plain_waits (calls.Chsend number bytes deadline) e m = refl
-plain_waits (calls.Chrecv number size deadline) e m = refl
-plain_waits (calls.Choose deadline all) e m = refl
-plain_waits (calls.Pass word fault) e m = cc
-plain_waits _ e m = cc
+pub linkless_waits : (call : Call) → is_of_link (word_of call) ≡ false → may_pend call ≡ true → may_wait call ≡ true
+linkless_waits (calls.Msleep deadline) e m = refl
+linkless_waits (calls.Hclose number) e m = refl
+linkless_waits (calls.BundleWait number deadline) e m = refl
+linkless_waits (calls.Chsend number bytes deadline) e m = refl
+linkless_waits (calls.Chrecv number size deadline) e m = refl
+linkless_waits (calls.Choose deadline all) e m = refl
+linkless_waits (calls.Pass word fault) e m = cc
+linkless_waits _ e m = cc
 
 -- who may meet another waits without its bytes
 pub bare_waits : (call : Call) → may_meet call ≡ true → may_wait (without_bytes call) ≡ true

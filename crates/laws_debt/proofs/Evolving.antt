@@ -10,7 +10,7 @@ use Rattle.dill_rules.specs.declared.coroutine.Coroutine.{Coroutine}
 use Rattle.dill_rules.specs.declared.coroutine.Mode.{Mode}
 use Rattle.dill_rules.specs.declared.coroutine.Mode.TheVariants as modes
 use Rattle.dill_rules.specs.World.{is_coroutine, with_mode, is_ending}
-use Rattle.laws_sound.specs.Plain.{may_wait}
+use Rattle.laws_sound.specs.Linkless.{may_wait}
 use Rattle.laws_queue.specs.Well.{Numbered}
 use Rattle.laws_debt.proofs.Lists.{all_append, all_without, all_change, total_more}
 use Rattle.laws_queue.proofs.Numbers.{numbered_change, numbered_without, numbered_append}

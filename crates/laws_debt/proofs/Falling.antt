@@ -15,7 +15,7 @@ use Rattle.dill_rules.specs.declared.coroutine.Mode.TheVariants as modes
 use Rattle.dill_rules.specs.World.{World, is_coroutine, coroutine_of, begin, with_mode, is_ending, is_answered}
 use Rattle.dill_rules.specs.Settling.{settle, IsSettled}
 use Rattle.dill_rules.specs.Turning.{as_running, resume, given_of, answer_given, go_on, turn}
-use Rattle.laws_sound.specs.Plain.{MakesLinkless}
+use Rattle.laws_sound.specs.Linkless.{MakesLinkless}
 use Rattle.laws_queue.specs.Kept.{Kept}
 use Rattle.laws_queue.specs.Laws.{KeepsWell}
 use Rattle.laws_queue.specs.Well.{Numbered}
@@ -25,8 +25,8 @@ use Rattle.laws_debt.specs.Closing.{IsStable}
 use Rattle.laws_debt.specs.Flags.{Ranked}
 use Rattle.laws_debt.specs.Owed.{share_by}
 use Rattle.laws_debt.specs.Says.{Says, SaysIn, IsLowering}
-use Rattle.laws_sound.proofs.Plainly.{begin_plain}
-use Rattle.laws_sound.proofs.Turns.{go_on_plain}
+use Rattle.laws_sound.proofs.Linkless.{begin_linkless}
+use Rattle.laws_sound.proofs.Turns.{go_on_linkless}
 use Rattle.laws_debt.proofs.Ending.{KeepsWithin, IsShutAs, shut_lasts}
 use Rattle.laws_debt.proofs.Evolving.{Evolves, Suits, newborn, evolves_all, evolves_total}
 use Rattle.laws_debt.proofs.Holding.{new_outside as new_outside_of}
@@ -103,7 +103,7 @@ module _ {V : Type 0} where
       let here : find (is_bundle b) w.scopes.bundles ≡ Some y = subst (λ n. find (is_bundle n) w.scopes.bundles ≡ Some y) (number_of y.name b i) e in
       ap (λ z. z.closing) (some_same y x.0 (sym here ∙ x.1)) ∙ x.2) (all_by_key (λ (y : Bundle). y.name) w.scopes.bundles o.fits.forest.ordered.bundles)
 
-module _ {V : Type 0} (p : Program V) (law : IsLawful p) (plainly : MakesLinkless p) where
+module _ {V : Type 0} (p : Program V) (law : IsLawful p) (unlinked : MakesLinkless p) where
   -- a world between steps is one of its own step
   pub tree_self : (k : Kept V) (b : ℕ) → (s : IsStable p k) → is_closing k.world.scopes b ≡ true → InTree p k.world.scopes b s.order.order.fits.forest.forest k.world
   tree_self k b s c =
@@ -111,7 +111,7 @@ module _ {V : Type 0} (p : Program V) (law : IsLawful p) (plainly : MakesLinkles
       let x = closing_found w.scopes b c in
       let name : x.0.name ≡ b = number_of x.0.name b (found_passes (is_bundle b) w.scopes.bundles x.0 x.1) in
       record {
-        plain = s.plain;
+        linkless = s.linkless;
         order = s.order;
         sits = (good_stable p k s).sits;
         holds = record { given = subst (λ n. n ≤ w.last_bundle) name (ranked_bound w.scopes.bundles 0 w.last_bundle b x.0 s.flags.ranked x.1); bundles = closing_shut w b s.order.order c; flags = s.flags };
@@ -212,20 +212,20 @@ module _ {V : Type 0} (p : Program V) (law : IsLawful p) (plainly : MakesLinkles
         let number = found_number who w.coroutines c may.found in
         let says = all_found (Says p) (is_coroutine who) c w.coroutines may.found s.says in
         let lowering = all_found (LowersAt p tree early) (is_coroutine who) c w.coroutines may.found lowers in
-        let plain_move = plainly c.body (answer_given now who).1 may.real may.some in
+        let linkless_move = unlinked c.body (answer_given now who).1 may.real may.some in
         let born : tree (w.last_coroutine + 1) ≡ false = new_outside k b s closing in
-        let went : Went p law tree now who c (answer_given now who).1 moved = go_on_went p law tree lack now who c plainly may.some (record { found = may.found; real = may.real; cancelled = λ q. tree_off p w.scopes b forest w who c self may.found q; born = λ q. born; sits = self.sits; met = λ other its answer g q. unmet p w self.sits nothing_due other its answer g (λ d h. tree_off p w.scopes b forest w other d self h q) }) in
+        let went : Went p law tree now who c (answer_given now who).1 moved = go_on_went p law tree lack now who c unlinked may.some (record { found = may.found; real = may.real; cancelled = λ q. tree_off p w.scopes b forest w who c self may.found q; born = λ q. born; sits = self.sits; met = λ other its answer g q. unmet p w self.sits nothing_due other its answer g (λ d h. tree_off p w.scopes b forest w other d self h q) }) in
         let from = went_leads p law tree now who c (answer_given now who).1 moved may.found went in
         let view = from.0 in
         let sits = leads_sits p tree (resume now who view) moved from.1 (sits_resumed p now who view c may.found self.sits) in
         let resumed = all_resumed who view (LowersAt p tree early) (LowersAt p tree less) w.coroutines 0 w.last_coroutine s.well.numbered
         (λ x i l t. others_lower p early less who gone same x i (l t)) (λ x i t f. tt) lowers in
         let in_moved : InTree p w.scopes b forest moved = record {
-          plain = go_on_plain p lack now who c.body plain_move (begin_plain w s.plain);
+          linkless = go_on_linkless p lack now who c.body linkless_move (begin_linkless w s.linkless);
           order = within.moved k lack who rest c s.well s.order e may.found;
           sits = sits;
           holds = go_on_shut (IsShutAs b) b (shut_lasts b) p lack now who c.body (record { given = self.holds.given; bundles = self.holds.bundles; flags = self.holds.flags });
-          tracks = go_on_tracks p lack now who c.body b (record { off = facts.off; owned = facts.owned; each = facts.each; dead = facts.dead; known = facts.known; new_bundle = facts.new_bundle; new_home = facts.new_home }) self.tracks plain_move;
+          tracks = go_on_tracks p lack now who c.body b (record { off = facts.off; owned = facts.owned; each = facts.each; dead = facts.dead; known = facts.known; new_bundle = facts.new_bundle; new_home = facts.new_home }) self.tracks linkless_move;
         } in
         let lower = lowers_tree p tree less (resume now who view).coroutines moved.coroutines w.last_coroutine moved.last_coroutine from.1 resumed in
         let owes = went_owes early less who gone same tree w c moved may.found may.answered may.some says lowering s.well.numbered (tree c.number) refl (subst (λ a. Went p law tree now who c a.1 moved) (given_is w who c may.found) went) in
@@ -233,4 +233,4 @@ module _ {V : Type 0} (p : Program V) (law : IsLawful p) (plainly : MakesLinkles
         let after = tree_leads p w.scopes b forest moved in_moved in
         let kept = owed_tree p tree less moved.coroutines (settle moved).coroutines moved.last_coroutine (settle moved).last_coroutine after in
         let strictly : tree who ≡ true → weigh (share_in p tree less) (settle moved).coroutines < weigh (share_in p tree early) w.coroutines = λ t. let f = owes.falls (ap tree number ∙ t) in omega (arith, kept, f) in
-        subst (TurnFalls w b early less who) (sym (turn_is p law plainly lack w who c may.found)) (record { falling = settled; strictly = strictly })
+        subst (TurnFalls w b early less who) (sym (turn_is p law unlinked lack w who c may.found)) (record { falling = settled; strictly = strictly })

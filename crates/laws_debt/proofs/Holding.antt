@@ -35,7 +35,7 @@ use Rattle.dill_rules.specs.Channeling.{done_at}
 use Rattle.laws_debt.proofs.Channeling.{channel_scopes}
 use Rattle.dill_rules.specs.Entering.{keep_for, perform, is_too_late, late_answer, meet_deadline, done, enter}
 use Rattle.dill_rules.specs.Settling.{close_owned, end}
-use Rattle.laws_sound.specs.Plain.{is_of_link}
+use Rattle.laws_sound.specs.Linkless.{is_of_link}
 use Rattle.laws_queue.proofs.Crew.{give_all_crew}
 use Rattle.dill_scope.proofs.Carrying.{inside_lives}
 use Rattle.laws_queue.proofs.Walking.{none_behind, or_false}

@@ -20,10 +20,10 @@ use Rattle.dill_rules.specs.State.{lined_mode, lined}
 use Rattle.dill_rules.specs.Turning.{as_running, resume, answer_given, go_on, turn}
 use Rattle.laws_queue.specs.Kept.{Kept, opening_kept, queued, turn_first, kept_turn, kept_expire_next, kept_late, kept_expired, kept_shut, kept_woke, root_closed}
 use Rattle.laws_queue.specs.Laws.{MayTurn, KeepsWell}
-use Rattle.laws_sound.specs.Plain.{MakesLinkless, may_wait, waits_plainly, IsPlain}
-use Rattle.laws_sound.specs.PlainLaws.{KeepsPlain}
-use Rattle.laws_sound.proofs.Plainly.{begin_plain}
-use Rattle.laws_sound.proofs.PlainLaws.{steps_keep_plain}
+use Rattle.laws_sound.specs.Linkless.{MakesLinkless, may_wait, waits_linkless, IsLinkless}
+use Rattle.laws_sound.specs.LinklessLaws.{KeepsLinkless}
+use Rattle.laws_sound.proofs.Linkless.{begin_linkless}
+use Rattle.laws_sound.proofs.LinklessLaws.{steps_keep_linkless}
 use Rattle.laws_queue.specs.Well.{Numbered, IsWell}
 use Rattle.laws_sound.specs.Laws.{KeepsOrder, is_resting, is_timed, IsAtRest, KeepsRest}
 use Rattle.laws_sound.proofs.Resting.{steps_keep_rest}
@@ -35,7 +35,7 @@ use Rattle.laws_debt.specs.Says.{SaysIn, Says, AllSay}
 use Rattle.laws_debt.proofs.Entering.{start_only}
 use Rattle.laws_debt.proofs.Flagging.{all_picked, ranked_change}
 use Rattle.laws_queue.proofs.Lining.{lined_pending, numbered_lined}
-use Rattle.laws_debt.proofs.Lists.{all_change, all_map, all_to, number_of}
+use Rattle.laws_debt.proofs.Lists.{all_map, all_to, number_of}
 use Rattle.laws_debt.proofs.Settling.{Sits, AllSit, leads_sits, leads_numbered, settle_leads, expire_leads}
 use Rattle.laws_debt.proofs.Shutting.{AllHold, Lasts, settle_shut, expire_one_shut, go_on_shut}
 use Rattle.laws_debt.proofs.Turning.{sits_resumed, go_on_went, went_leads}
@@ -85,14 +85,14 @@ module _ {V : Type 0} (p : Program V) where
         holds = expire_one_shut AnyBundle 0 any_lasts w who g.holds;
       }
 
-  all_sit : (cs : List (Coroutine V)) → list_all waits_plainly cs ≡ true → AllSay p cs → AllSit p cs
+  all_sit : (cs : List (Coroutine V)) → list_all waits_linkless cs ≡ true → AllSay p cs → AllSit p cs
   all_sit [] e a = tt
-  all_sit (c ∷ cs) e a = let h = and_parts (waits_plainly c) (list_all waits_plainly cs) e in ((h.0, a.0), all_sit cs h.1 a.1)
+  all_sit (c ∷ cs) e a = let h = and_parts (waits_linkless c) (list_all waits_linkless cs) e in ((h.0, a.0), all_sit cs h.1 a.1)
 
   pub good_stable : (k : Kept V) → IsStable p k → IsGood k.world
   good_stable k s = record {
     numbered = s.well.numbered;
-    sits = all_sit k.world.coroutines s.plain.calls s.says;
+    sits = all_sit k.world.coroutines s.linkless.calls s.says;
     holds = record { given = omega arith; bundles = all_any k.world.scopes.bundles; flags = s.flags };
   }
 
@@ -104,10 +104,10 @@ module _ {V : Type 0} (p : Program V) where
   says_lined said (modes.Ending outcome) s = tt
 
   -- who was answered in a step is queued
-  pub stable_queued : (v : World V) (ready : List ℕ) (early : ℕ) → IsWell p (queued v ready early) → IsPlain (queued v ready early).world → IsOrderly (queued v ready early).world → IsAtRest (queued v ready early).world → IsGood v → IsStable p (queued v ready early)
-  stable_queued v ready early well plain order rest g = record {
+  pub stable_queued : (v : World V) (ready : List ℕ) (early : ℕ) → IsWell p (queued v ready early) → IsLinkless (queued v ready early).world → IsOrderly (queued v ready early).world → IsAtRest (queued v ready early).world → IsGood v → IsStable p (queued v ready early)
+  stable_queued v ready early well linkless order rest g = record {
     well = well;
-    plain = plain;
+    linkless = linkless;
     order = order;
     says = all_map (Says p) lined v.coroutines (λ c s. says_lined (p.said c.body) c.mode s) (all_to (Sits p) (Says p) v.coroutines (λ c s. s.1) g.sits);
     rest = rest;
@@ -127,14 +127,14 @@ module _ {V : Type 0} (p : Program V) where
   }
 
 -- the turn of the first of the queue
-module _ {V : Type 0} (p : Program V) (law : IsLawful p) (plainly : MakesLinkless p) where
+module _ {V : Type 0} (p : Program V) (law : IsLawful p) (unlinked : MakesLinkless p) where
   -- the world in which it has made its call, or is ending
   pub good_moved : (lack : Option LackPlace) (w : World V) (who : ℕ) → MayTurn p w who → (one : Coroutine V) → coroutine_of w who ≡ Some one → 1 ≤ p.left one.body → p.real one.body ≡ true → IsGood p w → IsGood p (go_on p lack (begin w) who one.body)
   good_moved lack w who may one found some real g =
       let b = begin w in
       let answer = (answer_given b who).1 in
       let moved = go_on p lack b who one.body in
-      let went = go_on_went p law nobody_calm lack b who one plainly some (record { found = found; real = real; cancelled = λ e. cc; born = λ e. refl; sits = g.sits; met = λ other its answer e f. cc }) in
+      let went = go_on_went p law nobody_calm lack b who one unlinked some (record { found = found; real = real; cancelled = λ e. cc; born = λ e. refl; sits = g.sits; met = λ other its answer e f. cc }) in
       let from = went_leads p law nobody_calm b who one answer moved found went in
       let view = from.0 in
       let before = resume b who view in
@@ -169,9 +169,9 @@ module _ {V : Type 0} where
   heat_flags [] w f = f
   heat_flags (x ∷ xs) w f = heat_flags xs (heat_ready w x) (record { ranked = f.ranked; flagged = f.flagged })
 
-module _ {V : Type 0} (p : Program V) (law : IsLawful p) (plainly : MakesLinkless p) (keeps : KeepsWell p) (ordered : KeepsOrder p) where
-  stays : KeepsPlain p
-  stays = steps_keep_plain p law plainly
+module _ {V : Type 0} (p : Program V) (law : IsLawful p) (unlinked : MakesLinkless p) (keeps : KeepsWell p) (ordered : KeepsOrder p) where
+  stays : KeepsLinkless p
+  stays = steps_keep_linkless p law unlinked
 
   rests : KeepsRest p
   rests = steps_keep_rest p law
@@ -179,7 +179,7 @@ module _ {V : Type 0} (p : Program V) (law : IsLawful p) (plainly : MakesLinkles
   opening : (view : V) → Begins p view → IsStable p (opening_kept view)
   opening view b = record {
     well = keeps.opening view b;
-    plain = stays.opening view;
+    linkless = stays.opening view;
     order = ordered.opening view;
     says = (start_only (p.said view) b.start, tt);
     rest = refl;
@@ -194,13 +194,13 @@ module _ {V : Type 0} (p : Program V) (law : IsLawful p) (plainly : MakesLinkles
       at (who ∷ rest) e =
           let may = keeps.first k who rest s.well e in
           let is : kept_turn p lack k ≡ turn_first p lack k (who ∷ rest) = ap (turn_first p lack k) e in
-          stable_queued p (turn p lack k.world who) rest (k.early - 1) (subst (IsWell p) is (keeps.turned k lack s.well)) (subst (λ (l : Kept V). IsPlain l.world) is (stays.turned k lack s.well s.plain)) (subst (λ (l : Kept V). IsOrderly l.world) is (ordered.turned k lack s.well s.order)) (subst (λ (l : Kept V). IsAtRest l.world) is (rests.turned k lack s.well s.order s.rest)) (good_turn p law plainly lack k.world who may (good_stable p k s))
+          stable_queued p (turn p lack k.world who) rest (k.early - 1) (subst (IsWell p) is (keeps.turned k lack s.well)) (subst (λ (l : Kept V). IsLinkless l.world) is (stays.turned k lack s.well s.linkless)) (subst (λ (l : Kept V). IsOrderly l.world) is (ordered.turned k lack s.well s.order)) (subst (λ (l : Kept V). IsAtRest l.world) is (rests.turned k lack s.well s.order s.rest)) (good_turn p law unlinked lack k.world who may (good_stable p k s))
 
   started : (k : Kept V) → IsStable p k → IsStable p (record k { world = begin k.world })
-  started k s = record { well = keeps.started k s.well; plain = begin_plain k.world s.plain; order = ordered.started k s.order; says = s.says; rest = s.rest; flags = s.flags }
+  started k s = record { well = keeps.started k s.well; linkless = begin_linkless k.world s.linkless; order = ordered.started k s.order; says = s.says; rest = s.rest; flags = s.flags }
 
   expires : (k : Kept V) (who : ℕ) → IsStable p k → is_timed k.world who ≡ true → IsStable p (kept_expire_next k who)
-  expires k who s e = stable_queued p (expire_one k.world who) k.ready k.early (keeps.expires k who s.well) (stays.expires k who s.plain) (ordered.expires k who s.order e) (rests.expires k who s.rest) (good_expire p k.world who (good_stable p k s))
+  expires k who s e = stable_queued p (expire_one k.world who) k.ready k.early (keeps.expires k who s.well) (stays.expires k who s.linkless) (ordered.expires k who s.order e) (rests.expires k who s.rest) (good_expire p k.world who (good_stable p k s))
 
   good_late : (xs : List ℕ) (k : Kept V) → IsGood p k.world → IsGood p (fold kept_expire_next k xs).world
   good_late [] k g = g
@@ -211,23 +211,23 @@ module _ {V : Type 0} (p : Program V) (law : IsLawful p) (plainly : MakesLinkles
       let g = good_stable p k s in
       let begun : IsGood p (begin k.world) = record { numbered = g.numbered; sits = g.sits; holds = record { given = omega arith; bundles = g.holds.bundles; flags = g.holds.flags } } in
       let late = good_late (passed k.world) (record k { world = begin k.world }) begun in
-      stable_queued p (settle (kept_late k).world) (kept_late k).ready (kept_late k).early (keeps.expired k s.well) (stays.expired k s.plain) (ordered.expired k s.order) (rests.expired k s.rest) (good_settle p (kept_late k).world late)
+      stable_queued p (settle (kept_late k).world) (kept_late k).ready (kept_late k).early (keeps.expired k s.well) (stays.expired k s.linkless) (ordered.expired k s.order) (rests.expired k s.rest) (good_settle p (kept_late k).world late)
 
   settled : (k : Kept V) → IsStable p k → IsStable p (queued (settle k.world) k.ready k.early)
-  settled k s = stable_queued p (settle k.world) k.ready k.early (keeps.settled k s.well) (stays.settled k s.plain) (ordered.settled k s.order) (rests.settled k s.rest) (good_settle p k.world (good_stable p k s))
+  settled k s = stable_queued p (settle k.world) k.ready k.early (keeps.settled k s.well) (stays.settled k s.linkless) (ordered.settled k s.order) (rests.settled k s.rest) (good_settle p k.world (good_stable p k s))
 
   pub good_closed : (w : World V) → IsGood p w → IsGood p (root_closed w)
   good_closed w g = record { numbered = g.numbered; sits = g.sits; holds = record { given = omega arith; bundles = all_any (root_closed w).scopes.bundles; flags = root_flags w g.holds.flags } }
 
   shut : (k : Kept V) → IsStable p k → IsStable p (kept_shut k)
-  shut k s = stable_queued p (settle (root_closed k.world)) k.ready (length k.ready) (keeps.shut k s.well) (stays.shut k s.plain) (ordered.shut k s.order) (rests.shut k s.rest) (good_settle p (root_closed k.world) (good_closed k.world (good_stable p k s)))
+  shut k s = stable_queued p (settle (root_closed k.world)) k.ready (length k.ready) (keeps.shut k s.well) (stays.shut k s.linkless) (ordered.shut k s.order) (rests.shut k s.rest) (good_settle p (root_closed k.world) (good_closed k.world (good_stable p k s)))
 
   woke : (k : Kept V) (told : ℕ) (ready : List Ready) → IsStable p k → IsStable p (kept_woke k told ready)
   woke k told ready s =
       let h = heated ready (begin k.world) in
       record {
         well = keeps.woke k told ready s.well;
-        plain = stays.woke k told ready s.plain;
+        linkless = stays.woke k told ready s.linkless;
         order = ordered.woke k told ready s.order;
         says = subst (AllSay p) (sym h.0) s.says;
         rest = subst (λ cs. list_all (λ c. is_resting c.mode) cs ≡ true) (sym h.0) s.rest;

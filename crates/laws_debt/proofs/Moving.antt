@@ -17,11 +17,11 @@ use Rattle.dill_rules.specs.Settling.{settle_one, settle_within, settle, IsSettl
 use Rattle.dill_rules.specs.Turning.{resume, answer_given, go_on, turn}
 use Rattle.laws_queue.specs.Kept.{Kept}
 use Rattle.laws_queue.specs.Laws.{MayTurn, KeepsWell}
-use Rattle.laws_sound.specs.Plain.{MakesLinkless, IsPlain}
+use Rattle.laws_sound.specs.Linkless.{MakesLinkless, IsLinkless}
 use Rattle.laws_queue.specs.Stands.{StandsFor}
 use Rattle.laws_queue.specs.Well.{Numbered}
-use Rattle.laws_sound.proofs.Plainly.{begin_plain}
-use Rattle.laws_sound.proofs.Turns.{go_on_plain}
+use Rattle.laws_sound.proofs.Linkless.{begin_linkless}
+use Rattle.laws_sound.proofs.Turns.{go_on_linkless}
 use Rattle.laws_sound.specs.Laws.{is_closing, is_resting}
 use Rattle.laws_sound.specs.Orderly.{IsOrderly}
 use Rattle.laws_debt.specs.Closing.{IsStable}
@@ -100,8 +100,8 @@ module _ {V : Type 0} (p : Program V) where
   suits_answers tree c (modes.Ending outcome) s t = tt
 
   -- In a world whose closings have just begun and in which nobody was answered yet, settling gives who is inside one what lowers.
-  pub begun_settles : (moved : World V) (b : ℕ) → IsPlain moved → IsOrderly moved → AllSit p moved.coroutines → AllHold AnyBundle 0 moved → AllByRecursion NoAnswer moved.coroutines → is_closing (settle moved).scopes b ≡ true → AllByRecursion (λ c. is_inside (settle moved).scopes b c.number ≡ true → LowersFresh c.mode) (settle moved).coroutines
-  begun_settles moved b plain order sits holds unanswered closing =
+  pub begun_settles : (moved : World V) (b : ℕ) → IsLinkless moved → IsOrderly moved → AllSit p moved.coroutines → AllHold AnyBundle 0 moved → AllByRecursion NoAnswer moved.coroutines → is_closing (settle moved).scopes b ≡ true → AllByRecursion (λ c. is_inside (settle moved).scopes b c.number ≡ true → LowersFresh c.mode) (settle moved).coroutines
+  begun_settles moved b linkless order sits holds unanswered closing =
       let v = settle moved in
       let forest = order.order.fits.forest.forest in
       let tree = is_inside moved.scopes b in
@@ -110,7 +110,7 @@ module _ {V : Type 0} (p : Program V) where
       let x = closing_found moved.scopes b was in
       let name : x.0.name ≡ b = number_of x.0.name b (found_passes (is_bundle b) moved.scopes.bundles x.0 x.1) in
       let self : InTree p moved.scopes b forest moved = record {
-        plain = plain;
+        linkless = linkless;
         order = order;
         sits = sits;
         holds = record { given = subst (λ n. n ≤ moved.last_bundle) name (ranked_bound moved.scopes.bundles 0 moved.last_bundle b x.0 holds.flags.ranked x.1); bundles = closing_shut moved b order.order was; flags = holds.flags };
@@ -124,7 +124,7 @@ module _ {V : Type 0} (p : Program V) where
 
 -- ---- the turn
 
-module _ {V : Type 0} (p : Program V) (law : IsLawful p) (plainly : MakesLinkless p) (keeps : KeepsWell p) (within : KeepsWithin p) where
+module _ {V : Type 0} (p : Program V) (law : IsLawful p) (unlinked : MakesLinkless p) (keeps : KeepsWell p) (within : KeepsWithin p) where
   -- what was asked of those who had an answer before
   abbrev HadAnswer : ℕ → List ℕ → Coroutine V → Type 0
   HadAnswer who ready c = is_answered c.mode ≡ true → ((c.number == who) ≡ false) × (list_any (λ m. m == c.number) ready ≡ true)
@@ -141,11 +141,11 @@ module _ {V : Type 0} (p : Program V) (law : IsLawful p) (plainly : MakesLinkles
       let w = k.world in
       let P = StampOk w.scopes closings in
       let lasts = stamp_lasts w closings next s.flags low in
-      let good = good_moved p law plainly lack w who may may.one may.found may.some may.real (good_stable p k s) in
+      let good = good_moved p law unlinked lack w who may may.one may.found may.some may.real (good_stable p k s) in
       let moved = go_on p lack (begin w) who may.one.body in
       let first = go_on_shut P w.last_bundle lasts p lack (begin w) who may.one.body
       (record { given = omega arith; bundles = stamps_self w closings s.order.order each; flags = s.flags }) in
-      subst (AllHold P w.last_bundle) (sym (turn_is p law plainly lack w who may.one may.found)) (settle_shut P w.last_bundle lasts moved first)
+      subst (AllHold P w.last_bundle) (sym (turn_is p law unlinked lack w who may.one may.found)) (settle_shut P w.last_bundle lasts moved first)
 
   turned_answered : (k : Kept V) (lack : Option LackPlace) (who : ℕ) → (s : IsStable p k) → MayTurn p k.world who → AllByRecursion (HadAnswer who k.ready) (turn p lack k.world who).coroutines
   turned_answered k lack who s may =
@@ -153,37 +153,37 @@ module _ {V : Type 0} (p : Program V) (law : IsLawful p) (plainly : MakesLinkles
       let c = may.one in
       let b = begin w in
       let moved = go_on p lack b who c.body in
-      let good = good_moved p law plainly lack w who may c may.found may.some may.real (good_stable p k s) in
-      let went = go_on_went p law nobody_calm lack b who c plainly may.some (record { found = may.found; real = may.real; cancelled = λ e. cc; born = λ e. refl; sits = (good_stable p k s).sits; met = λ other its answer e f. cc }) in
+      let good = good_moved p law unlinked lack w who may c may.found may.some may.real (good_stable p k s) in
+      let went = go_on_went p law nobody_calm lack b who c unlinked may.some (record { found = may.found; real = may.real; cancelled = λ e. cc; born = λ e. refl; sits = (good_stable p k s).sits; met = λ other its answer e f. cc }) in
       let from = went_leads p law nobody_calm b who c (answer_given b who).1 moved may.found went in
       let found = each_found w.coroutines 0 w.last_coroutine s.well.numbered in
       let before = all_to (λ d. find (is_coroutine d.number) w.coroutines ≡ Some d) (λ d. is_answered d.mode ≡ true → list_any (λ m. m == d.number) k.ready ≡ true) w.coroutines (λ d e a. queued_early k.ready w.coroutines s.well.queue d e a) found in
       let resumed = all_resumed who from.0 (λ d. is_answered d.mode ≡ true → list_any (λ m. m == d.number) k.ready ≡ true) (HadAnswer who k.ready) w.coroutines 0 w.last_coroutine s.well.numbered (λ x i h a. (i, h a)) (λ x i a. cc) before in
       let after = evolves_all p nobody_calm (HadAnswer who k.ready) (λ d mode q a. absurd (suits_unanswered nobody_calm d mode q a)) (λ number view q r a. cc) (resume b who from.0).coroutines moved.coroutines w.last_coroutine moved.last_coroutine from.1 resumed in
       let done = evolves_all p nobody_calm (HadAnswer who k.ready) (λ d mode q a. absurd (suits_unanswered nobody_calm d mode q a)) (λ number view q r a. cc) moved.coroutines (settle moved).coroutines moved.last_coroutine (settle moved).last_coroutine (settles p moved good.sits good.numbered) after in
-      subst (λ (v : World V). AllByRecursion (HadAnswer who k.ready) v.coroutines) (sym (turn_is p law plainly lack w who c may.found)) done
+      subst (λ (v : World V). AllByRecursion (HadAnswer who k.ready) v.coroutines) (sym (turn_is p law unlinked lack w who c may.found)) done
 
   turned_begun : (k : Kept V) (lack : Option LackPlace) (who : ℕ) (rest : List ℕ) (b : ℕ) → (s : IsStable p k) → k.ready ≡ who ∷ rest → MayTurn p k.world who → is_closing k.world.scopes b ≡ false → is_closing (turn p lack k.world who).scopes b ≡ true → AllByRecursion (λ c. is_inside (turn p lack k.world who).scopes b c.number ≡ true → LowersFresh c.mode) (turn p lack k.world who).coroutines
   turned_begun k lack who rest b s e may old new =
       let w = k.world in
       let c = may.one in
       let moved = go_on p lack (begin w) who c.body in
-      let is = turn_is p law plainly lack w who c may.found in
-      let good = good_moved p law plainly lack w who may c may.found may.some may.real (good_stable p k s) in
-      let plain_move = plainly c.body (answer_given (begin w) who).1 may.real may.some in
+      let is = turn_is p law unlinked lack w who c may.found in
+      let good = good_moved p law unlinked lack w who may c may.found may.some may.real (good_stable p k s) in
+      let linkless_move = unlinked c.body (answer_given (begin w) who).1 may.real may.some in
       let begun = go_on_begun w.scopes p lack (begin w) who c may.found (unfresh_all w.coroutines s.rest) (old_flags w.scopes s.order.order.fits.forest) in
       let closing : is_closing (settle moved).scopes b ≡ true = subst (λ (v : World V). is_closing v.scopes b ≡ true) is new in
       subst (λ (v : World V). AllByRecursion (λ d. is_inside v.scopes b d.number ≡ true → LowersFresh d.mode) v.coroutines) (sym is)
-      (at moved good (go_on_plain p lack (begin w) who c.body plain_move (begin_plain w s.plain)) (within.moved k lack who rest c s.well s.order e may.found) closing begun)
+      (at moved good (go_on_linkless p lack (begin w) who c.body linkless_move (begin_linkless w s.linkless)) (within.moved k lack who rest c s.well s.order e may.found) closing begun)
     where
-      at : (moved : World V) → IsGood p moved → IsPlain moved → IsOrderly moved → is_closing (settle moved).scopes b ≡ true → Begun k.world.scopes moved → AllByRecursion (λ d. is_inside (settle moved).scopes b d.number ≡ true → LowersFresh d.mode) (settle moved).coroutines
-      at moved good plain order closing (same flags) =
+      at : (moved : World V) → IsGood p moved → IsLinkless moved → IsOrderly moved → is_closing (settle moved).scopes b ≡ true → Begun k.world.scopes moved → AllByRecursion (λ d. is_inside (settle moved).scopes b d.number ≡ true → LowersFresh d.mode) (settle moved).coroutines
+      at moved good linkless order closing (same flags) =
           let kept = settle_scopes (λ t. AllByRecursion (OldFlag k.world.scopes) t.bundles) (λ t name h. flags_dropped k.world.scopes t name h) (λ t n h. h) p moved good.sits good.numbered flags in
           unlike (is_closing k.world.scopes b) old (flag_was k.world.scopes (settle moved).scopes b kept closing)
-      at moved good plain order closing (none unanswered) = begun_settles p moved b plain order good.sits good.holds unanswered closing
+      at moved good linkless order closing (none unanswered) = begun_settles p moved b linkless order good.sits good.holds unanswered closing
 
   -- the turn is a step, in which its own answer is taken
-  pub turn_steps : (k : Kept V) (s : State V) (lack : Option LackPlace) (who : ℕ) (rest : List ℕ) → (stable : IsStable p k) → IsSettled k.world → StandsFor k s → HasStamps s → ((b : ℕ) → is_closing s.world.scopes b ≡ true → LowersInside s b) → k.ready ≡ who ∷ rest → Stepped p law plainly k s (turn p lack k.world who) (λ n. n == who) (filter (λ x. not (is_stamp_of who x)) s.answers)
+  pub turn_steps : (k : Kept V) (s : State V) (lack : Option LackPlace) (who : ℕ) (rest : List ℕ) → (stable : IsStable p k) → IsSettled k.world → StandsFor k s → HasStamps s → ((b : ℕ) → is_closing s.world.scopes b ≡ true → LowersInside s b) → k.ready ≡ who ∷ rest → Stepped p law unlinked k s (turn p lack k.world who) (λ n. n == who) (filter (λ x. not (is_stamp_of who x)) s.answers)
   turn_steps k s lack who rest stable settled stands stamps lowers e =
       let may = keeps.first k who rest stable.well e in
       let low = subst (λ (w : World V). AllByRecursion {X = Stamp} (λ x. (x.of ≤ w.last_bundle) × (x.at < s.next)) s.closings) (sym stands.world) stamps.low in
@@ -193,7 +193,7 @@ module _ {V : Type 0} (p : Program V) (law : IsLawful p) (plainly : MakesLinkles
         falls = λ b c.
             let here : AllByRecursion (LowersAt p (is_inside k.world.scopes b) (is_early s b)) k.world.coroutines =
             subst (λ (w : World V). AllByRecursion (λ d. is_inside w.scopes b d.number ≡ true → IsLowering (is_early s b) d) w.coroutines) (sym stands.world) (lowers b (subst (λ (w : World V). is_closing w.scopes b ≡ true) stands.world c)) in
-            (turn_falls p law plainly keeps within k lack who rest b (is_early s b) (less_early p law plainly s b (λ n. n == who)) stable settled e c (ap (λ g. if g then false else is_early s b who) (equal_number who who refl)) (λ n i. ap (λ g. if g then false else is_early s b n) i) here).falling;
+            (turn_falls p law unlinked keeps within k lack who rest b (is_early s b) (less_early p law unlinked s b (λ n. n == who)) stable settled e c (ap (λ g. if g then false else is_early s b who) (equal_number who who refl)) (λ n i. ap (λ g. if g then false else is_early s b n) i) here).falling;
         begun = λ b c d. turned_begun k lack who rest b stable e may c d;
         answered = turned_answered k lack who stable may;
         left = λ n g. others_stay n who s.answers g;

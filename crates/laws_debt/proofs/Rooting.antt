@@ -11,9 +11,9 @@ use Rattle.laws_debt.proofs.Keeping.{keeps_stable}
 use Rattle.laws_debt.proofs.Within.{keeps_within}
 
 pub steps_keep_stable : {V : Type 0} (p : Program V) → StepsKeepStable p
-steps_keep_stable p law plainly = keeps_stable p law plainly (steps_keep_well p law) (steps_keep_order p law)
+steps_keep_stable p law unlinked = keeps_stable p law unlinked (steps_keep_well p law) (steps_keep_order p law)
 
 pub root_debt_falls : {V : Type 0} (p : Program V) → RootDebtFalls p
-root_debt_falls {V} p law plainly =
+root_debt_falls {V} p law unlinked =
     let keeps = steps_keep_well p law in
-    ends_closing p law plainly (all_cancelled V) (keeps_within p keeps) (settles_apart V) (steps_keep_stable p law plainly) (root_goes_on p) keeps
+    ends_closing p law unlinked (all_cancelled V) (keeps_within p keeps) (settles_apart V) (steps_keep_stable p law unlinked) (root_goes_on p) keeps

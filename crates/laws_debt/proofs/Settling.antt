@@ -19,7 +19,7 @@ use Rattle.dill_rules.specs.Entering.{late_answer}
 use Rattle.dill_rules.specs.Expiring.{expire_one}
 use Rattle.dill_rules.specs.Giving.{give}
 use Rattle.dill_rules.specs.Settling.{can_finish, free_all, release_all, finish, answer_due, give_first, settle_one, settle_within, pass_all, settle}
-use Rattle.laws_sound.specs.Plain.{may_wait, waits_plainly}
+use Rattle.laws_sound.specs.Linkless.{may_wait, waits_linkless}
 use Rattle.laws_queue.specs.Well.{Numbered}
 use Rattle.laws_debt.specs.Says.{SaysIn, Says}
 use Rattle.laws_queue.proofs.Crew.{bare_crew, free_dead_crew, keep_end_last}
@@ -35,7 +35,7 @@ use Rattle.laws_sound.proofs.Apart.{waits_apart, pass_apart}
 
 -- it waits in a call that may, and what its program made last is that call or the one that it is answered
 abbrev pub Sits : {V : Type 0} → Program V → Coroutine V → Type 0
-Sits p c = (waits_plainly c ≡ true) × Says p c
+Sits p c = (waits_linkless c ≡ true) × Says p c
 
 abbrev pub AllSit : {V : Type 0} → Program V → List (Coroutine V) → Type 0
 AllSit p cs = AllByRecursion (Sits p) cs

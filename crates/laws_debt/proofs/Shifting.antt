@@ -1,14 +1,13 @@
 -- The closing of the root, an expiry and a settling, as steps of a state.
-use Rattle.std.proofs.Common.{◌≡◌, ◌∙◌, ◌≤◌, ◌<◌, ◌==◌, ℕ, List, [], ◌∷◌, map, find, Bool, true, false, cond, Option, Some, None, is_some, if◌then◌else◌, refl, sym, ap, subst, arith}
+use Rattle.std.proofs.Common.{◌≡◌, ◌∙◌, ◌≤◌, ◌<◌, ◌==◌, ℕ, List, [], ◌∷◌, map, find, Bool, true, false, cond, Option, Some, None, is_some, refl, sym, ap, subst, arith}
 use Rattle.std.specs.List.{AllByRecursion, list_any}
-use Rattle.std.specs.Option.{option_or}
 use Rattle.dill_calls.specs.declared.answer.Answer.{Answer}
 use Rattle.dill_calls.specs.declared.call.Call.{Call}
 use Rattle.dill_calls.specs.declared.call.Call.TheVariants as calls
 use Rattle.dill_calls.specs.Program.{Program, IsLawful}
 use Rattle.dill_scope.specs.Scopes as scopes
 use Rattle.dill_scope.specs.Scopes.{Scopes, is_bundle, is_inside}
-use Rattle.dill_base.specs.Maps.{if_some, first_some, change}
+use Rattle.dill_base.specs.Maps.{if_some}
 use Rattle.dill_rules.specs.declared.coroutine.Coroutine.{Coroutine}
 use Rattle.dill_rules.specs.declared.coroutine.Mode.{Mode}
 use Rattle.dill_rules.specs.declared.coroutine.Mode.TheVariants as modes
@@ -19,12 +18,12 @@ use Rattle.dill_rules.specs.Answers.{answer_of}
 use Rattle.dill_rules.specs.Entering.{late_answer}
 use Rattle.dill_rules.specs.Expiring.{due_of, expire_one}
 use Rattle.dill_rules.specs.Giving.{give}
-use Rattle.dill_rules.specs.Settling.{answer_due, settle, IsSettled}
+use Rattle.dill_rules.specs.Settling.{settle, IsSettled}
 use Rattle.dill_rules.specs.Taking.{is_cancelled}
 use Rattle.laws_queue.specs.Kept.{Kept, queued, root_closed}
-use Rattle.laws_sound.specs.Plain.{MakesLinkless, may_wait}
+use Rattle.laws_sound.specs.Linkless.{MakesLinkless, may_wait}
 use Rattle.laws_queue.specs.Stands.{StandsFor}
-use Rattle.laws_sound.proofs.Turns.{closed_plain}
+use Rattle.laws_sound.proofs.Turns.{closed_linkless}
 use Rattle.laws_sound.specs.Laws.{is_closing, is_timed}
 use Rattle.laws_debt.specs.Closing.{IsStable}
 use Rattle.laws_debt.specs.Says.{IsLowering}
@@ -38,7 +37,7 @@ use Rattle.laws_debt.proofs.Flagging.{all_picked}
 use Rattle.laws_debt.proofs.Holding.{tracks_close}
 use Rattle.laws_debt.proofs.Keeping.{nobody_calm, AnyBundle, good_stable, root_flags, settles}
 use Rattle.laws_queue.proofs.Lining.{lined_pending}
-use Rattle.laws_debt.proofs.Lists.{all_found, all_to, found_passes, number_of}
+use Rattle.laws_debt.proofs.Lists.{all_to}
 use Rattle.laws_debt.proofs.Moving.{unfresh_all as all_unfresh_of, begun_settles, flag_was, flags_dropped, settle_scopes}
 use Rattle.laws_debt.proofs.Settling.{AllSit, call_pends, pending_runs, expire_leads, change_calls}
 use Rattle.laws_debt.proofs.Unmet.{cancels_some, unanswered}
@@ -52,7 +51,7 @@ use Rattle.laws_sound.proofs.Stepping.{order_root_closed}
 abbrev pub none_gone : ℕ → Bool
 none_gone n = false
 
-module _ {V : Type 0} (p : Program V) (law : IsLawful p) (plainly : MakesLinkless p) where
+module _ {V : Type 0} (p : Program V) (law : IsLawful p) (unlinked : MakesLinkless p) where
   abbrev HadBefore : List ℕ → Coroutine V → Type 0
   HadBefore ready c = is_answered c.mode ≡ true → (false ≡ false) × (list_any (λ m. m == c.number) ready ≡ true)
 
@@ -88,13 +87,13 @@ module _ {V : Type 0} (p : Program V) (law : IsLawful p) (plainly : MakesLinkles
 
   -- ---- a settling
 
-  pub settle_steps : (k : Kept V) (s : State V) → (stable : IsStable p k) → StandsFor k s → HasStamps s → ((b : ℕ) → is_closing s.world.scopes b ≡ true → LowersInside s b) → Stepped p law plainly k s (settle k.world) none_gone s.answers
+  pub settle_steps : (k : Kept V) (s : State V) → (stable : IsStable p k) → StandsFor k s → HasStamps s → ((b : ℕ) → is_closing s.world.scopes b ≡ true → LowersInside s b) → Stepped p law unlinked k s (settle k.world) none_gone s.answers
   settle_steps k s stable stands stamps lowers =
       let w = k.world in
       let good = good_stable p k stable in
       record {
         holds = settle_shut (StampOk w.scopes s.closings) w.last_bundle (lasts_of k s stable stands stamps) w (start_holds k s stable stands stamps);
-        falls = λ b c. settle_falls p law plainly w w b stable.order.order.fits.forest.forest (is_early s b) (less_early p law plainly s b none_gone) (tree_self p law plainly k b stable c) (here_lowers k s b stands lowers c) (omega arith);
+        falls = λ b c. settle_falls p law unlinked w w b stable.order.order.fits.forest.forest (is_early s b) (less_early p law unlinked s b none_gone) (tree_self p law unlinked k b stable c) (here_lowers k s b stands lowers c) (omega arith);
         begun = λ b c d.
             let flags = settle_scopes (λ t. AllByRecursion (OldFlag w.scopes) t.bundles) (λ t name h. flags_dropped w.scopes t name h) (λ t who h. h) p w good.sits good.numbered (old_flags w.scopes stable.order.order.fits.forest) in
             unlike (is_closing w.scopes b) c (flag_was w.scopes (settle w).scopes b flags d);
@@ -108,9 +107,9 @@ module _ {V : Type 0} (p : Program V) (law : IsLawful p) (plainly : MakesLinkles
   shut_tree : (k : Kept V) (b : ℕ) → (stable : IsStable p k) → is_closing k.world.scopes b ≡ true → InTree p k.world.scopes b stable.order.order.fits.forest.forest (root_closed k.world)
   shut_tree k b stable c =
       let w = k.world in
-      let self = tree_self p law plainly k b stable c in
+      let self = tree_self p law unlinked k b stable c in
       record {
-        plain = closed_plain w stable.plain;
+        linkless = closed_linkless w stable.linkless;
         order = order_root_closed w stable.order;
         sits = self.sits;
         holds = record {
@@ -121,7 +120,7 @@ module _ {V : Type 0} (p : Program V) (law : IsLawful p) (plainly : MakesLinkles
         tracks = tracks_close w.scopes b w.scopes 0 self.tracks;
       }
 
-  pub shut_steps : (k : Kept V) (s : State V) → (stable : IsStable p k) → StandsFor k s → HasStamps s → ((b : ℕ) → is_closing s.world.scopes b ≡ true → LowersInside s b) → Stepped p law plainly k s (settle (root_closed k.world)) none_gone s.answers
+  pub shut_steps : (k : Kept V) (s : State V) → (stable : IsStable p k) → StandsFor k s → HasStamps s → ((b : ℕ) → is_closing s.world.scopes b ≡ true → LowersInside s b) → Stepped p law unlinked k s (settle (root_closed k.world)) none_gone s.answers
   shut_steps k s stable stands stamps lowers =
       let w = k.world in
       let r = root_closed w in
@@ -136,8 +135,8 @@ module _ {V : Type 0} (p : Program V) (law : IsLawful p) (plainly : MakesLinkles
       let any : AllHold AnyBundle 0 r = record { given = omega arith; bundles = all_to (StampOk w.scopes s.closings) AnyBundle r.scopes.bundles (λ x f. tt) closed.bundles; flags = closed.flags } in
       record {
         holds = settle_shut (StampOk w.scopes s.closings) w.last_bundle lasts r closed;
-        falls = λ b c. settle_falls p law plainly w r b stable.order.order.fits.forest.forest (is_early s b) (less_early p law plainly s b none_gone) (shut_tree k b stable c) (here_lowers k s b stands lowers c) (omega arith);
-        begun = λ b c d. begun_settles p r b (closed_plain w stable.plain) (order_root_closed w stable.order) good.sits any (all_unfresh_of w.coroutines stable.rest) d;
+        falls = λ b c. settle_falls p law unlinked w r b stable.order.order.fits.forest.forest (is_early s b) (less_early p law unlinked s b none_gone) (shut_tree k b stable c) (here_lowers k s b stands lowers c) (omega arith);
+        begun = λ b c d. begun_settles p r b (closed_linkless w stable.linkless) (order_root_closed w stable.order) good.sits any (all_unfresh_of w.coroutines stable.rest) d;
         answered = had_before k (settle r) stable (settles p r good.sits good.numbered);
         left = λ n g. refl;
         lost = λ n g. cc;
@@ -212,7 +211,7 @@ module _ {V : Type 0} (p : Program V) (law : IsLawful p) (plainly : MakesLinkles
       let it : false ≡ true = sym (ap (λ (o : Option ℕ). is_some o) none) ∙ some in
       cc
 
-  pub expire_steps : (k : Kept V) (s : State V) (x : ℕ) → (stable : IsStable p k) → StandsFor k s → HasStamps s → ((b : ℕ) → is_closing s.world.scopes b ≡ true → LowersInside s b) → Hushed k.world → is_timed k.world x ≡ true → Stepped p law plainly k s (expire_one k.world x) none_gone s.answers
+  pub expire_steps : (k : Kept V) (s : State V) (x : ℕ) → (stable : IsStable p k) → StandsFor k s → HasStamps s → ((b : ℕ) → is_closing s.world.scopes b ≡ true → LowersInside s b) → Hushed k.world → is_timed k.world x ≡ true → Stepped p law unlinked k s (expire_one k.world x) none_gone s.answers
   expire_steps k s x stable stands stamps lowers hushed timed =
       let w = k.world in
       let good = good_stable p k stable in
@@ -222,8 +221,8 @@ module _ {V : Type 0} (p : Program V) (law : IsLawful p) (plainly : MakesLinkles
         holds = expire_one_shut (StampOk w.scopes s.closings) w.last_bundle (lasts_of k s stable stands stamps) w x (start_holds k s stable stands stamps);
         falls = λ b c.
             let tree = is_inside w.scopes b in
-            let less = less_early p law plainly s b none_gone in
-            let leads = expire_leads p tree w x good.sits (λ call e t. absurd (untimed k x call hushed timed e (tree_off p w.scopes b stable.order.order.fits.forest.forest w x (call_pends p w x call e).one (tree_self p law plainly k b stable c) (call_pends p w x call e).found t))) in
+            let less = less_early p law unlinked s b none_gone in
+            let leads = expire_leads p tree w x good.sits (λ call e t. absurd (untimed k x call hushed timed e (tree_off p w.scopes b stable.order.order.fits.forest.forest w x (call_pends p w x call e).one (tree_self p law unlinked k b stable c) (call_pends p w x call e).found t))) in
             record {
               places = λ n there. ap (λ (t : Scopes). is_inside t b n) leaves.scopes_same;
               lowers = lowers_tree p tree less w.coroutines v.coroutines w.last_coroutine v.last_coroutine leads (here_lowers k s b stands lowers c);

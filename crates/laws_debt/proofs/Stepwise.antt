@@ -13,7 +13,7 @@ use Rattle.dill_rules.specs.declared.coroutine.Mode.TheVariants as modes
 use Rattle.dill_rules.specs.Debts.{is_early, debt}
 use Rattle.dill_rules.specs.State.{State, Stamp, is_stamp_of, stamp_of, stamped, lined_mode, lined, fresh, line_up}
 use Rattle.dill_rules.specs.World.{World, is_coroutine, is_ending, is_answered}
-use Rattle.laws_sound.specs.Plain.{MakesLinkless}
+use Rattle.laws_sound.specs.Linkless.{MakesLinkless}
 use Rattle.laws_queue.specs.Kept.{Kept, queued}
 use Rattle.laws_queue.specs.Lending.{wordless}
 use Rattle.laws_queue.specs.Stands.{StandsFor}
@@ -149,7 +149,7 @@ module _ {V : Type 0} (p : Program V) where
       ∙ total_filter (share_by p (is_early s b)) (λ c. is_inside s.world.scopes b c.number) s.world.coroutines
       ∙ ap (λ (u : World V). weigh (share_in p (is_inside u.scopes b) (is_early s b)) u.coroutines) (sym e)
 
-module _ {V : Type 0} (p : Program V) (law : IsLawful p) (plainly : MakesLinkless p) where
+module _ {V : Type 0} (p : Program V) (law : IsLawful p) (unlinked : MakesLinkless p) where
   -- who was early and isn't gone
   abbrev pub less_early : State V → ℕ → (ℕ → Bool) → ℕ → Bool
   less_early s b gone n = if gone n then false else is_early s b n
@@ -157,7 +157,7 @@ module _ {V : Type 0} (p : Program V) (law : IsLawful p) (plainly : MakesLinkles
   -- a step from a world to another, in which some answers were taken
   pub record Stepped (k : Kept V) (s : State V) (v : World V) (gone : ℕ → Bool) (answers : List Stamp) : Type 0 where
     pub holds : AllHold (StampOk k.world.scopes s.closings) k.world.last_bundle v
-    pub falls : (b : ℕ) → is_closing k.world.scopes b ≡ true → Falls p law plainly k.world b (is_early s b) (less_early s b gone) v
+    pub falls : (b : ℕ) → is_closing k.world.scopes b ≡ true → Falls p law unlinked k.world b (is_early s b) (less_early s b gone) v
     pub begun : (b : ℕ) → is_closing k.world.scopes b ≡ false → is_closing v.scopes b ≡ true → AllByRecursion (λ c. is_inside v.scopes b c.number ≡ true → LowersFresh c.mode) v.coroutines
     pub answered : AllByRecursion (λ c. is_answered c.mode ≡ true → (gone c.number ≡ false) × (list_any (λ m. m == c.number) k.ready ≡ true)) v.coroutines
     pub left : (n : ℕ) → gone n ≡ false → find (is_stamp_of n) answers ≡ find (is_stamp_of n) s.answers

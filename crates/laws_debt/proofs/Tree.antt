@@ -34,10 +34,10 @@ use Rattle.dill_rules.specs.Owning.{entry_of, drop, release, free_bundle, is_dea
 use Rattle.dill_rules.specs.Taking.{bundle_of, is_cancelled}
 use Rattle.dill_rules.specs.Settling.{can_finish, end, highest_first, is_owned_by, free_all, release_all, finish, answer_due, give_first, settle_one, settle_within, settle}
 use Rattle.dill_rules.specs.Turning.{is_build, is_entry, may_lack_build, resume, answer_given, move_of, make_move, lack_move, go_on}
-use Rattle.laws_sound.specs.Plain.{MovesLinkless, may_wait, IsPlain}
+use Rattle.laws_sound.specs.Linkless.{MovesLinkless, may_wait, IsLinkless}
 use Rattle.laws_queue.specs.Well.{Numbered, bit, occurs}
 use Rattle.laws_sound.proofs.Lists.{all_found}
-use Rattle.laws_sound.proofs.Steps.{settle_one_plain}
+use Rattle.laws_sound.proofs.Steps.{settle_one_linkless}
 use Rattle.laws_sound.specs.Laws.{is_closing}
 use Rattle.laws_sound.specs.Order.{is_there, is_held, has_bundle, IsInOrder}
 use Rattle.laws_sound.specs.Orderly.{IsOrderly}
@@ -48,7 +48,7 @@ use Rattle.laws_sound.proofs.Owners.{owned_no_root}
 use Rattle.laws_sound.proofs.Sound.{owner_is, inside_cancelled}
 use Rattle.laws_debt.specs.Flags.{IsFlagged, HasFlags}
 use Rattle.laws_debt.proofs.Ending.{IsShutAs, shut_lasts}
-use Rattle.laws_sound.proofs.Turns.{entered_plain}
+use Rattle.laws_sound.proofs.Turns.{entered_linkless}
 use Rattle.laws_debt.proofs.Flagging.{closed_names}
 use Rattle.laws_debt.proofs.Holding.{Facts, tracks_drop, tracks_ended, enter_tracks, end_tracks}
 use Rattle.laws_debt.proofs.Lists as lists
@@ -149,12 +149,12 @@ module _ {V : Type 0} (p : Program V) where
   facts_resumed w who view b f = record { off = f.off; owned = f.owned; each = f.each; dead = f.dead; known = f.known; new_bundle = f.new_bundle; new_home = f.new_home }
 
   from_move : (lack : Option LackPlace) (w : World V) (who : ℕ) (b : ℕ) (short : V) (next : V × Move) → Facts w b → Tracks w.scopes b w.scopes → MovesLinkless next → Tracks w.scopes b (if is_build lack && may_lack_build next.1 then lack_move (resume w who short) who next.1 else make_move p (is_entry lack) (resume w who next.0) who next.0 next.1).scopes
-  from_move lack w who b short (new, Calls call) f h plain = at (is_build lack && build_takes_memory (word_of call))
+  from_move lack w who b short (new, Calls call) f h linkless = at (is_build lack && build_takes_memory (word_of call))
     where
       at : (c : Bool) → Tracks w.scopes b (if c then reply (resume w who short) who (word_of call) (Fault (lack_fault (resume w who short) who (word_of call))) else make_move p (is_entry lack) (resume w who new) who new (Calls call)).scopes
       at true = h
-      at false = enter_tracks p (resume w who new) b (facts_resumed w who new b f) (is_entry lack) who new (entered w.moment call) (entered_plain w.moment call plain) h
-  from_move lack w who b short (new, Ends outcome) f h plain = at (is_build lack)
+      at false = enter_tracks p (resume w who new) b (facts_resumed w who new b f) (is_entry lack) who new (entered w.moment call) (entered_linkless w.moment call linkless) h
+  from_move lack w who b short (new, Ends outcome) f h linkless = at (is_build lack)
     where
       over : Tracks w.scopes b (end (resume w who new) who outcome).scopes
       over = end_tracks p (resume w who new) b (facts_resumed w who new b f) who outcome h
@@ -164,7 +164,7 @@ module _ {V : Type 0} (p : Program V) where
       at false = over
 
   pub go_on_tracks : (lack : Option LackPlace) (w : World V) (who : ℕ) (view : V) (b : ℕ) → Facts w b → Tracks w.scopes b w.scopes → MovesLinkless (move_of p w who view) → Tracks w.scopes b (go_on p lack w who view).scopes
-  go_on_tracks lack w who view b f h plain = from_move lack w who b (p.short view (answer_given w who).1) (move_of p w who view) f h plain
+  go_on_tracks lack w who view b f h linkless = from_move lack w who b (p.short view (answer_given w who).1) (move_of p w who view) f h linkless
 
 -- ---- settling
 
@@ -253,7 +253,7 @@ module _ {V : Type 0} (p : Program V) (s : Scopes) (b : ℕ) (forest : IsForest 
   in_tree n = is_inside s b n
 
   pub record InTree (w : World V) : Type 0 where
-    pub plain : IsPlain w
+    pub linkless : IsLinkless w
     pub order : IsOrderly w
     pub sits : AllSit p w.coroutines
     pub holds : AllHold (IsShutAs b) b w
@@ -276,7 +276,7 @@ module _ {V : Type 0} (p : Program V) (s : Scopes) (b : ℕ) (forest : IsForest 
 
   tree_settles : (w : World V) → InTree w → InTree (settle_one w)
   tree_settles w i = record {
-    plain = settle_one_plain w i.plain;
+    linkless = settle_one_linkless w i.linkless;
     order = (settle_one_good w i.order).good;
     sits = leads_sits p in_tree w (settle_one w) (one_leads w i) i.sits;
     holds = settle_one_shut (IsShutAs b) b (shut_lasts b) w i.holds;

@@ -18,11 +18,11 @@ use Rattle.dill_rules.specs.Taking.{is_cancelled}
 use Rattle.dill_rules.specs.Entering.{entered, lack_fault}
 use Rattle.dill_rules.specs.Settling.{end}
 use Rattle.dill_rules.specs.Turning.{given_of, is_build, is_entry, as_running, may_lack_build, resume, answer_given, make_move, lack_move, go_on}
-use Rattle.laws_sound.specs.Plain.{MovesLinkless, MakesLinkless}
+use Rattle.laws_sound.specs.Linkless.{MovesLinkless, MakesLinkless}
 use Rattle.laws_queue.specs.Well.{Numbered}
 use Rattle.laws_queue.proofs.Crew.{close_all_crew}
-use Rattle.laws_sound.proofs.Turns.{entered_plain}
-use Rattle.laws_debt.proofs.Entering.{plain_waits, word_entered, entered_passes, lack_lowers}
+use Rattle.laws_sound.proofs.Turns.{entered_linkless}
+use Rattle.laws_debt.proofs.Entering.{linkless_waits, word_entered, entered_passes, lack_lowers}
 use Rattle.laws_debt.proofs.Evolving.{Evolves, turns}
 use Rattle.laws_debt.proofs.Settling.{Sits, AllSit, call_pends, pending_runs, change_calls}
 use Rattle.laws_debt.proofs.Lists.{all_change, found_passes, number_of, some_same, above_other}
@@ -66,7 +66,7 @@ module _ {V : Type 0} (p : Program V) (law : IsLawful p) (calm : ℕ → Bool) w
   runs_resumed w who view word c e s = record { one = as_running view c; found = resumed w who view c e; going = refl; number = found_number who w.coroutines c e; said = s }
 
   from_move : (lack : Option LackPlace) (w : World V) (who : ℕ) (c : Coroutine V) (answer : Answer) (next : V × Move) → MayGo w who c → Moves p c.body answer next → MovesLinkless next → Went w who c answer (if is_build lack && may_lack_build next.1 then lack_move (resume w who (p.short c.body answer)) who next.1 else make_move p (is_entry lack) (resume w who next.0) who next.0 next.1)
-  from_move lack w who c answer (new, Calls call) g m plain = at (is_build lack && build_takes_memory (word_of call))
+  from_move lack w who c answer (new, Calls call) g m linkless = at (is_build lack && build_takes_memory (word_of call))
     where
       enters : Enters p law calm (resume w who new) who new (entered w.moment call)
       enters = record {
@@ -76,7 +76,7 @@ module _ {V : Type 0} (p : Program V) (law : IsLawful p) (calm : ℕ → Bool) w
         passes = entered_passes w.moment call m.0;
         cancelled = g.cancelled;
         born = g.born;
-        waits = plain_waits (entered w.moment call) (entered_plain w.moment call plain);
+        waits = linkless_waits (entered w.moment call) (entered_linkless w.moment call linkless);
         others = λ other its e. let here = resume w who new in (pending_runs p here other its (sits_resumed p w who new c g.found g.sits) (call_pends p here other its e)).0;
         met = λ other its answer e. g.met other its answer (change_calls other who (λ d. new) modes.Running its w.coroutines refl e);
       }
@@ -88,7 +88,7 @@ module _ {V : Type 0} (p : Program V) (law : IsLawful p) (calm : ℕ → Bool) w
       at false =
           called (word_of call) new m.1
           (enter_leads p law calm (is_entry lack) (resume w who new) who new (entered w.moment call) enters)
-  from_move lack w who c answer (new, Ends outcome) g m plain = at (is_build lack)
+  from_move lack w who c answer (new, Ends outcome) g m linkless = at (is_build lack)
     where
       over : Went w who c answer (end (resume w who new) who outcome)
       over =
@@ -100,9 +100,9 @@ module _ {V : Type 0} (p : Program V) (law : IsLawful p) (calm : ℕ → Bool) w
       at false = over
 
   pub go_on_went : (lack : Option LackPlace) (w : World V) (who : ℕ) (c : Coroutine V) → MakesLinkless p → 1 ≤ p.left c.body → MayGo w who c → Went w who c (answer_given w who).1 (go_on p lack w who c.body)
-  go_on_went lack w who c plainly some g =
+  go_on_went lack w who c unlinked some g =
       let answer = (answer_given w who).1 in
-      from_move lack w who c answer (p.next c.body answer) g (law.moves c.body answer g.real some) (plainly c.body answer g.real some)
+      from_move lack w who c answer (p.next c.body answer) g (law.moves c.body answer g.real some) (unlinked c.body answer g.real some)
 
   -- however it went on, the coroutines changed as told from its view on
   pub went_leads : (w : World V) (who : ℕ) (c : Coroutine V) (answer : Answer) (v : World V) → coroutine_of w who ≡ Some c → Went w who c answer v → (view : V) × Leads p calm (resume w who view) v

@@ -1,5 +1,5 @@
 -- Once nothing is due, who is pending and cancelled is answered by nobody whom it could meet: its answer would be due, or it lowers whatever it is.
-use Rattle.std.proofs.Common.{◌≡◌, ◌∙◌, ◌==◌, ◌⊎◌, inl, inr, ℕ, List, [], ◌∷◌, Bool, true, false, Option, Some, None, if◌then◌else◌, refl, sym, ap, subst}
+use Rattle.std.proofs.Common.{◌≡◌, ◌∙◌, inl, inr, ℕ, List, [], ◌∷◌, Bool, true, false, Option, Some, None, if◌then◌else◌, refl, sym, ap, subst}
 use Rattle.std.specs.List.{AllByRecursion}
 use Rattle.std.specs.Option.{option_or}
 use Rattle.dill_base.specs.Maps.{if_some, first_some}
@@ -13,7 +13,7 @@ use Rattle.dill_rules.specs.Answers.{answer_of}
 use Rattle.dill_rules.specs.Settling.{answer_due, IsSettled}
 use Rattle.dill_rules.specs.Taking.{is_cancelled}
 use Rattle.dill_rules.specs.World.{World, is_coroutine, coroutine_of, call_of, pending_call}
-use Rattle.laws_sound.specs.Plain.{may_wait}
+use Rattle.laws_sound.specs.Linkless.{may_wait}
 use Rattle.laws_debt.proofs.Lists.{all_found, found_passes, number_of}
 use Rattle.laws_debt.proofs.Settling.{AllSit, PendsIn, call_pends, pending_runs}
 

@@ -19,9 +19,9 @@ use Rattle.dill_rules.specs.Taking.{is_cancelled}
 use Rattle.dill_rules.specs.Refusals.{refuse}
 use Rattle.dill_rules.specs.Effects.{bear}
 use Rattle.dill_rules.specs.Entering.{perform, keep_for, is_too_late, late_answer, meet_deadline, done, enter}
-use Rattle.laws_sound.specs.Plain.{may_wait}
+use Rattle.laws_sound.specs.Linkless.{may_wait}
 use Rattle.laws_queue.proofs.Crew.{SameCrew}
-use Rattle.laws_queue.proofs.Acting.{Gives, Acts, idles, answered, waits, waits_bare, meets, bore, may_pend, may_meet, perform_acts}
+use Rattle.laws_queue.proofs.Acting.{Gives, Acts, idles, answered, waits, waits_bare, meets, bore, may_pend, perform_acts}
 use Rattle.laws_queue.proofs.Stepping.{bearing}
 use Rattle.laws_debt.proofs.Entering.{refusal_lowers, unrefused_lowers, starts_nobody, bare_waits, word_bare}
 use Rattle.laws_debt.proofs.Evolving.{Evolves, stays, turns, begins, goes_on, newborn}

@@ -5,7 +5,7 @@ use Rattle.dill_calls.specs.Program.{Program}
 use Rattle.laws_queue.specs.Kept.{Kept}
 use Rattle.laws_queue.specs.Well.{IsWell}
 use Rattle.laws_sound.specs.Laws.{is_closing, IsAtRest}
-use Rattle.laws_sound.specs.Plain.{IsPlain}
+use Rattle.laws_sound.specs.Linkless.{IsLinkless}
 use Rattle.laws_sound.specs.Orderly.{IsOrderly}
 use Rattle.laws_debt.specs.Flags.{HasFlags}
 use Rattle.laws_debt.specs.Owed.{is_early}
@@ -14,7 +14,7 @@ use Rattle.laws_debt.specs.Says.{AllSay, AllLower}
 -- Well and in order, and no links are there. What each waits for or has the answer of is its program's last call, nobody is running, and each closing is noted.
 pub record IsStable {V : Type 0} (p : Program V) (k : Kept V) : Type 0 where
   pub well : IsWell p k
-  pub plain : IsPlain k.world
+  pub linkless : IsLinkless k.world
   pub order : IsOrderly k.world
   pub says : AllSay p k.world.coroutines
   pub rest : IsAtRest k.world

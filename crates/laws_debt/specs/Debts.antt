@@ -9,7 +9,7 @@ use Rattle.dill_base.specs.Maps.{if_some}
 use Rattle.dill_rules.specs.Debts.{debt}
 use Rattle.dill_rules.specs.Seen.{lend}
 use Rattle.dill_rules.specs.State.{State, opening_state, next_turn, turned, expired, shut, woke}
-use Rattle.laws_sound.specs.Plain.{MakesLinkless}
+use Rattle.laws_sound.specs.Linkless.{MakesLinkless}
 use Rattle.laws_queue.specs.Kept.{Kept, kept_shut}
 use Rattle.laws_queue.specs.Stands.{StandsFor}
 use Rattle.laws_queue.specs.Well.{bit}
@@ -47,7 +47,7 @@ module _ {V : Type 0} where
   turns_inside p s b [] = 0
   turns_inside p s b (x ∷ xs) = if is_closing s.world.scopes b then bit (is_turn_inside s b x) + turns_inside p (step p s x) b xs else 0
 
-  -- so it is of programs that make plain calls
+  -- so it is of programs that make no call of a link
   pub record DebtFalls (p : Program V) : Type 0 where
     pub opening : (view : V) (random : Stream) → Begins p view → IsSteady p (opening_state view random)
     -- other random numbers change nothing of it

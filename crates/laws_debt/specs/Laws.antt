@@ -5,13 +5,13 @@ use Rattle.dill_calls.specs.Program.{Program, IsLawful, Begins}
 use Rattle.dill_kernel.specs.declared.ready.Ready.{Ready}
 use Rattle.dill_rules.specs.Settling.{settle}
 use Rattle.dill_rules.specs.World.{begin}
-use Rattle.laws_sound.specs.Plain.{MakesLinkless}
+use Rattle.laws_sound.specs.Linkless.{MakesLinkless}
 use Rattle.laws_queue.specs.Kept.{Kept, has_answer, opening_kept, queued, kept_turn, kept_expire_next, kept_expired, kept_shut, kept_woke}
 use Rattle.laws_sound.specs.Laws.{is_timed}
 use Rattle.laws_debt.specs.Owed.{owed}
 use Rattle.laws_debt.specs.Closing.{IsStable, IsClosing}
 
--- so it is of programs that make plain calls
+-- so it is of programs that make no call of a link
 pub record KeepsStable {V : Type 0} (p : Program V) : Type 0 where
   pub opening : (view : V) → Begins p view → IsStable p (opening_kept view)
   pub turned : (k : Kept V) (lack : Option LackPlace) → IsStable p k → IsStable p (kept_turn p lack k)

@@ -3,7 +3,7 @@ ghost use Rattle.laws_debt.specs.Laws.{KeepsStable, EndsClosing};
 
 use dill_plain::PlainBody;
 
-/// Each step of programs that make plain calls keeps what holds between steps: all is well and in order, each waits for
+/// Each step of programs that make no call of a link keeps what holds between steps: all is well and in order, each waits for
 /// the call that its program made last, or has its answer, and nobody is running.
 pub fn steps_keep_stable<B: PlainBody>()
     ensures { KeepsStable B.means }

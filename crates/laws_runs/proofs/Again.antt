@@ -23,9 +23,9 @@ use Rattle.dill_rules.specs.Settling.{answer_due, finish, give_first, settle, se
 use Rattle.dill_rules.specs.Giving.{give}
 use Rattle.dill_rules.specs.State.{lined, lined_mode, is_fresh, fresh}
 use Rattle.laws_queue.specs.Kept.{Kept, queued, kept_shut}
-use Rattle.laws_sound.specs.Plain.{IsPlain, may_wait, waits_plainly}
+use Rattle.laws_sound.specs.Linkless.{IsLinkless, may_wait, waits_linkless}
 use Rattle.laws_sound.proofs.Meeting.{choice_same}
-use Rattle.laws_sound.proofs.Steps.{pass_plain}
+use Rattle.laws_sound.proofs.Steps.{pass_linkless}
 use Rattle.laws_sound.specs.Laws.{is_closing, is_resting, IsAtRest}
 use Rattle.laws_debt.specs.Closing.{IsClosing}
 
@@ -71,17 +71,17 @@ module _ {V : Type 0} where
   due_begun w n None e = refl
   due_begun w n (Some call) e = ap (λ r. if_some r None (λ a. Some (n, call, a))) (answer_begun w n call e)
 
-  first_begun : (w : World V) (cs : List (Coroutine V)) → list_all waits_plainly cs ≡ true → first_some (answer_due (begin w)) cs ≡ first_some (answer_due w) cs
+  first_begun : (w : World V) (cs : List (Coroutine V)) → list_all waits_linkless cs ≡ true → first_some (answer_due (begin w)) cs ≡ first_some (answer_due w) cs
   first_begun w [] e = refl
   first_begun w (c ∷ cs) e =
-      let h = and_parts (waits_plainly c) (list_all waits_plainly cs) e in
+      let h = and_parts (waits_linkless c) (list_all waits_linkless cs) e in
       ap (λ o. option_or o (first_some (answer_due (begin w)) cs)) (due_begun w c.number (pending_call c.mode) h.0) ∙ ap (λ o. option_or (answer_due w c) o) (first_begun w cs h.1)
 
-  begun_settled : (w : World V) → IsPlain w → IsSettled w → IsSettled (begin w)
-  begun_settled w plain settled = record { endings = settled.endings; answers = first_begun w w.coroutines plain.calls ∙ settled.answers }
+  begun_settled : (w : World V) → IsLinkless w → IsSettled w → IsSettled (begin w)
+  begun_settled w linkless settled = record { endings = settled.endings; answers = first_begun w w.coroutines linkless.calls ∙ settled.answers }
 
-  begun_plain : (w : World V) → IsPlain w → IsPlain (begin w)
-  begun_plain w plain = record { links = plain.links; place = plain.place; wrote = plain.wrote; things = plain.things; calls = plain.calls }
+  begun_linkless : (w : World V) → IsLinkless w → IsLinkless (begin w)
+  begun_linkless w linkless = record { links = linkless.links; place = linkless.place; wrote = linkless.wrote; things = linkless.things; calls = linkless.calls }
 
   -- where nothing is due nothing settles
   one_same : (w : World V) → IsSettled w → settle_one w ≡ w
@@ -91,17 +91,17 @@ module _ {V : Type 0} where
   within_same zero w e = refl
   within_same (suc k) w e = ap (settle_within k) e ∙ within_same k w e
 
-  settle_same : (w : World V) → IsPlain w → IsSettled w → settle w ≡ w
-  settle_same w plain settled =
+  settle_same : (w : World V) → IsLinkless w → IsSettled w → settle w ≡ w
+  settle_same w linkless settled =
       let within = within_same (length w.coroutines) w (one_same w settled) in
-      pass_plain (settle_within (length w.coroutines) w) (subst IsPlain (sym within) plain) ∙ within
+      pass_linkless (settle_within (length w.coroutines) w) (subst IsLinkless (sym within) linkless) ∙ within
 
   -- the world before it settles
-  again_world : (w : World V) → IsPlain w → is_closing w.scopes 0 ≡ true → record (from_start (begin w)) { scopes = scopes.close w.scopes 0 } ≡ begin w
-  again_world w plain closing =
+  again_world : (w : World V) → IsLinkless w → is_closing w.scopes 0 ≡ true → record (from_start (begin w)) { scopes = scopes.close w.scopes 0 } ≡ begin w
+  again_world w linkless closing =
       ap (λ xs. record (from_start (begin w)) { scopes = record w.scopes { bundles = xs } }) (closes_same 0 w.scopes.bundles closing)
-      ∙ ap (λ x. record (begin w) { place = x; wrote = [] }) (sym plain.place)
-      ∙ ap (λ x. record (begin w) { wrote = x }) (sym plain.wrote)
+      ∙ ap (λ x. record (begin w) { place = x; wrote = [] }) (sym linkless.place)
+      ∙ ap (λ x. record (begin w) { wrote = x }) (sym linkless.wrote)
 
   lined_same : (cs : List (Coroutine V)) → list_all (λ c. is_resting c.mode) cs ≡ true → map lined cs ≡ cs
   lined_same [] e = refl
@@ -129,7 +129,7 @@ module _ {V : Type 0} where
     pub again_same : (k : Kept V) → IsClosing p k → kept_shut k ≡ record (noted k) { early = length k.ready }
     again_same k closing =
         let w = k.world in
-        let plain = closing.stable.plain in
-        ap (λ v. queued (settle v) k.ready (length k.ready)) (again_world w plain closing.closing)
-        ∙ ap (λ v. queued v k.ready (length k.ready)) (settle_same (begin w) (begun_plain w plain) (begun_settled w plain closing.settled))
+        let linkless = closing.stable.linkless in
+        ap (λ v. queued (settle v) k.ready (length k.ready)) (again_world w linkless closing.closing)
+        ∙ ap (λ v. queued v k.ready (length k.ready)) (settle_same (begin w) (begun_linkless w linkless) (begun_settled w linkless closing.settled))
         ∙ queued_same (begin w) k.ready (length k.ready) closing.stable.rest

@@ -5,7 +5,7 @@ use Rattle.dill_rules.specs.Debts.{debt}
 use Rattle.dill_rules.specs.State.{State, opening_state}
 use Rattle.dill_drive.specs.ByRules.{machine_of}
 use Rattle.dill_drive.specs.Play.{Playing, opening, play}
-use Rattle.laws_sound.specs.PlainLaws.{FollowsPlainly}
+use Rattle.laws_sound.specs.LinklessLaws.{FollowsLinkless}
 use Rattle.laws_queue.specs.Kept.{kept_shut}
 use Rattle.laws_debt.specs.Debts.{DebtFalls}
 use Rattle.laws_debt.specs.Laws.{EndsClosing}
@@ -17,7 +17,7 @@ use Rattle.laws_runs.proofs.Ending.{stopped_runs_end}
 use Rattle.laws_runs.proofs.Playing.{closing_is_bounded}
 use Rattle.laws_runs.proofs.Steadying.{runs_are_steady}
 
-module _ {V : Type 0} (p : Program V) (follows : FollowsPlainly p) (debts : DebtFalls p) (ends : EndsClosing p) where
+module _ {V : Type 0} (p : Program V) (follows : FollowsLinkless p) (debts : DebtFalls p) (ends : EndsClosing p) where
   ends_well : (traced : Bool) (most : ℕ) (begun : Playing (State V)) (steps : ℕ) → IsSteady p (play (machine_of p) traced most steps begun).config.state → StopsAt p traced most begun steps → EndsWell p traced most (stepped p traced most begun steps)
   ends_well traced most begun steps steady at =
       let s = (play (machine_of p) traced most steps begun).config.state in

@@ -12,7 +12,7 @@ use Rattle.dill_drive.specs.ByRules.{machine_of}
 use Rattle.dill_drive.specs.Machine.{Machine}
 use Rattle.dill_drive.specs.Play.{IsOver, Playing, advance, advance_at, asks_try, halt_within, lack_of, play, writes}
 use Rattle.dill_drive.specs.Story.{Place, Closing, Last, Closes, Writing, Over, Config, after_last, after_test, at, final, is_empty, is_sink, is_well, notes_of, one_last, summary_of}
-use Rattle.laws_sound.specs.PlainLaws.{FollowsPlainly}
+use Rattle.laws_sound.specs.LinklessLaws.{FollowsLinkless}
 use Rattle.laws_queue.specs.Kept.{Kept, kept_shut}
 use Rattle.laws_queue.specs.Stands.{StandsFor}
 use Rattle.laws_debt.specs.Closing.{IsStable}
@@ -44,7 +44,7 @@ less_owed p most s h = let few = h.few in record { kept = h.kept; stands = h.sta
 none_owed : {V : Type 0} (p : Program V) (s : State V) → Holds p 0 s 1 → ⊥
 none_owed p s h = let few = h.few in omega (arith, few)
 
-module _ {V : Type 0} (p : Program V) (follows : FollowsPlainly p) (laws : EndsClosing p) (traced : Bool) (most : ℕ) where
+module _ {V : Type 0} (p : Program V) (follows : FollowsLinkless p) (laws : EndsClosing p) (traced : Bool) (most : ℕ) where
   abbrev m : Machine (State V)
   m = machine_of p
 
@@ -126,11 +126,11 @@ module _ {V : Type 0} (p : Program V) (follows : FollowsPlainly p) (laws : EndsC
   stop_ends k s c n stands stable stop l = at_place stop.place
     where
       owes : Owes p (owed p (kept_shut k)) c.state
-      owes = record { kept = kept_shut k; stands = subst (StandsFor (kept_shut k)) (sym stop.state) (follows.shut k s stable.plain stands); closing = laws.shut k stable; few = omega arith }
+      owes = record { kept = kept_shut k; stands = subst (StandsFor (kept_shut k)) (sym stop.state) (follows.shut k s stable.linkless stands); closing = laws.shut k stable; few = omega arith }
 
       at_place : (c.place ≡ Closing) ⊎ (c.place ≡ Writing Closing) → EndsIn p n c
       at_place (inl is) = closes (owed p (kept_shut k)) is owes (omega (arith, l))
       at_place (inr is) = starts (owed p (kept_shut k)) is owes l
 
-pub stopped_runs_end : {V : Type 0} (p : Program V) → FollowsPlainly p → EndsClosing p → StoppedRunsEnd p
+pub stopped_runs_end : {V : Type 0} (p : Program V) → FollowsLinkless p → EndsClosing p → StoppedRunsEnd p
 stopped_runs_end p follows laws k s traced most run stands stable stop n l = play_ends p follows laws traced most n run (stop_ends p follows laws traced most k s run.config n stands stable stop l)

@@ -28,8 +28,8 @@ use Rattle.dill_rules.specs.declared.coroutine.Coroutine.{Coroutine}
 use Rattle.dill_rules.specs.World.{World, begin, call_of, coroutine_of}
 use Rattle.dill_drive.specs.ByRules.{machine_of}
 use Rattle.dill_drive.specs.Play.{opening, play}
-use Rattle.laws_sound.specs.Plain.{MakesLinkless}
-use Rattle.laws_sound.specs.PlainLaws.{FollowsPlainly}
+use Rattle.laws_sound.specs.Linkless.{MakesLinkless}
+use Rattle.laws_sound.specs.LinklessLaws.{FollowsLinkless}
 use Rattle.laws_queue.specs.Kept.{Kept, kept_expire_next, kept_expired, kept_late, kept_shut, kept_turn, kept_woke, turn_first, root_closed}
 use Rattle.laws_queue.specs.Laws.{KeepsWell}
 use Rattle.laws_queue.specs.Lending.{wordless}
@@ -141,7 +141,7 @@ pub record IsSteadyMarked {V : Type 0} (tie : Closing) (p : Program V) (s : Stat
   pub steady : IsSteady p s
   pub marked : Marked tie s.world
 
-module _ {V : Type 0} (tie : Closing) (p : Program V) (law : IsLawful p) (plainly : MakesLinkless p) (keeps : KeepsWell p) (ordered : KeepsOrder p) (stays : KeepsStable p) (follows : FollowsPlainly p) (debts : DebtFalls p) where
+module _ {V : Type 0} (tie : Closing) (p : Program V) (law : IsLawful p) (unlinked : MakesLinkless p) (keeps : KeepsWell p) (ordered : KeepsOrder p) (stays : KeepsStable p) (follows : FollowsLinkless p) (debts : DebtFalls p) where
   -- what a core keeps of it is stable and marked
   kept_marked : (s : State V) (h : IsSteadyMarked tie p s) → Marked tie h.steady.even.kept.world
   kept_marked s h = to_kept tie h.steady.even.kept s h.steady.even.stands h.marked
@@ -151,18 +151,18 @@ module _ {V : Type 0} (tie : Closing) (p : Program V) (law : IsLawful p) (plainl
       let even = h.steady.even in
       record {
         steady = debts.steady (lend s random) (Turn lack) (debts.lent s random h.steady);
-        marked = to_state tie (kept_turn p lack even.kept) (turn_seen p s lack random).0 (follows.turned even.kept s lack random even.stable.well even.stable.plain even.stands) (turned_marked tie p even.kept lack (kept_marked s h));
+        marked = to_state tie (kept_turn p lack even.kept) (turn_seen p s lack random).0 (follows.turned even.kept s lack random even.stable.well even.stable.linkless even.stands) (turned_marked tie p even.kept lack (kept_marked s h));
       }
 
   after_expiry : (s : State V) → IsSteadyMarked tie p s → IsSteadyMarked tie p (expired s)
   after_expiry s h =
       let even = h.steady.even in
-      record { steady = debts.steady s Expire h.steady; marked = to_state tie (kept_expired even.kept) (expired s) (follows.expired even.kept s even.stable.plain even.stands) (expired_marked tie even.kept (kept_marked s h)) }
+      record { steady = debts.steady s Expire h.steady; marked = to_state tie (kept_expired even.kept) (expired s) (follows.expired even.kept s even.stable.linkless even.stands) (expired_marked tie even.kept (kept_marked s h)) }
 
   after_shut : (s : State V) → IsSteadyMarked tie p s → IsSteadyMarked tie p (shut s)
   after_shut s h =
       let even = h.steady.even in
-      record { steady = debts.steady s Shut h.steady; marked = to_state tie (kept_shut even.kept) (shut s) (follows.shut even.kept s even.stable.plain even.stands) (settle_marked tie (root_closed even.kept.world) (root_marked tie even.kept.world (kept_marked s h))) }
+      record { steady = debts.steady s Shut h.steady; marked = to_state tie (kept_shut even.kept) (shut s) (follows.shut even.kept s even.stable.linkless even.stands) (settle_marked tie (root_closed even.kept.world) (root_marked tie even.kept.world (kept_marked s h))) }
 
   after_wake : (s : State V) (told : ℕ) (ready : List Ready) → IsSteadyMarked tie p s → IsSteadyMarked tie p (woke s told ready)
   after_wake s told ready h =
@@ -178,7 +178,7 @@ module _ {V : Type 0} (tie : Closing) (p : Program V) (law : IsLawful p) (plainl
   marked_lasts : Lasts (machine_of p) (IsSteadyMarked tie p)
   marked_lasts = record {
     woke = after_wake;
-    none = λ s h. follows.next_try h.steady.even.kept s h.steady.even.stable.plain h.steady.even.stands;
+    none = λ s h. follows.next_try h.steady.even.kept s h.steady.even.stable.linkless h.steady.even.stands;
     expire = after_expiry;
     turn = after_turn;
     shut = after_shut;
@@ -273,7 +273,7 @@ module _ {V : Type 0} (w : World V) (order : IsInOrder w) (number name : ℕ) wh
         given = below number w.handles.last (bit_true (nat_le number w.handles.last) (omega (arith, used, noted)));
       }
 
-module _ {V : Type 0} (p : Program V) (law : IsLawful p) (plainly : MakesLinkless p) (keeps : KeepsWell p) (ordered : KeepsOrder p) (stays : KeepsStable p) (follows : FollowsPlainly p) (debts : DebtFalls p) where
+module _ {V : Type 0} (p : Program V) (law : IsLawful p) (unlinked : MakesLinkless p) (keeps : KeepsWell p) (ordered : KeepsOrder p) (stays : KeepsStable p) (follows : FollowsLinkless p) (debts : DebtFalls p) where
   module _ (who number name : ℕ) where
     abbrev tie : Closing
     tie = record { bundle = name; number = number }
@@ -283,11 +283,11 @@ module _ {V : Type 0} (p : Program V) (law : IsLawful p) (plainly : MakesLinkles
     tied_closing s h e =
         let c = (waiting_is_for_somebody p s h.steady).closing who number (pends_in s.world who number e) in
         let same = dead_tied s.world number c.name name h.marked.tied c.dead in
-        subst (λ n. is_closing s.world.scopes n ≡ true) same (marked_closing tie p law plainly keeps ordered stays follows debts s h number c.name c.dead)
+        subst (λ n. is_closing s.world.scopes n ≡ true) same (marked_closing tie p law unlinked keeps ordered stays follows debts s h number c.name c.dead)
 
     waits_within : (xs : List Step) (s : State V) → IsSteadyMarked tie p s → turns_waited p s who number name xs ≤ debt p s name
     waits_within [] s h = omega arith
-    waits_within (x ∷ xs) s h = at (waits_in_close s.world who number) refl (waits_within xs (step p s x) (marked_step tie p law plainly keeps ordered stays follows debts s x h))
+    waits_within (x ∷ xs) s h = at (waits_in_close s.world who number) refl (waits_within xs (step p s x) (marked_step tie p law unlinked keeps ordered stays follows debts s x h))
       where
         at : (b : Bool) → waits_in_close s.world who number ≡ b → turns_waited p (step p s x) who number name xs ≤ debt p (step p s x) name → (if b then bit (is_turn_inside s name x) + turns_waited p (step p s x) who number name xs else 0) ≤ debt p s name
         at false e rest = omega arith
@@ -298,7 +298,7 @@ module _ {V : Type 0} (p : Program V) (law : IsLawful p) (plainly : MakesLinkles
   closes_well : (tie : Closing) (s : State V) → IsSteadyMarked tie p s → ClosesWell p s
   closes_well tie s h =
       let order : IsInOrder (wordless s.world) = subst IsInOrder h.steady.even.stands.world h.steady.even.stable.order.order in
-      let closing = marked_closing tie p law plainly keeps ordered stays follows debts s h in
+      let closing = marked_closing tie p law unlinked keeps ordered stays follows debts s h in
       record {
         closing = closing;
         waits = λ who number e.
@@ -316,12 +316,12 @@ module _ {V : Type 0} (p : Program V) (law : IsLawful p) (plainly : MakesLinkles
 abbrev no_tie : Closing
 no_tie = record { bundle = 0; number = 0 }
 
-module _ {V : Type 0} (p : Program V) (law : IsLawful p) (plainly : MakesLinkless p) (keeps : KeepsWell p) (ordered : KeepsOrder p) (stays : KeepsStable p) (follows : FollowsPlainly p) (debts : DebtFalls p) where
+module _ {V : Type 0} (p : Program V) (law : IsLawful p) (unlinked : MakesLinkless p) (keeps : KeepsWell p) (ordered : KeepsOrder p) (stays : KeepsStable p) (follows : FollowsLinkless p) (debts : DebtFalls p) where
   opening_marked : (view : V) (random : Stream) → Marked no_tie (opening_state view random).world
   opening_marked view random = record { ranked = (omega arith, omega arith); marked = ((λ e. refl), tt); noted = tt; things = tt; tied = tt; others = tt; given = omega arith }
 
   pub runs_close_well : RunsCloseWell p
   runs_close_well view random keys traced most replies lacks halt n begins =
       let begun = opening (machine_of p) traced most (opening_state view random) keys replies lacks halt in
-      closes_well p law plainly keeps ordered stays follows debts no_tie (play (machine_of p) traced most n begun).config.state
-      (lasts_over (machine_of p) (IsSteadyMarked no_tie p) (marked_lasts no_tie p law plainly keeps ordered stays follows debts) traced most n begun (record { steady = debts.opening view random begins; marked = opening_marked view random }))
+      closes_well p law unlinked keeps ordered stays follows debts no_tie (play (machine_of p) traced most n begun).config.state
+      (lasts_over (machine_of p) (IsSteadyMarked no_tie p) (marked_lasts no_tie p law unlinked keeps ordered stays follows debts) traced most n begun (record { steady = debts.opening view random begins; marked = opening_marked view random }))

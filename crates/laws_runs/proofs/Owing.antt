@@ -17,7 +17,7 @@ use Rattle.dill_rules.specs.Debts as debts
 use Rattle.dill_rules.specs.Settling.{settle}
 use Rattle.dill_rules.specs.State.{State, Stamp, fresh, is_stamp_of, shut, stamp_of, stamped}
 use Rattle.dill_rules.specs.World.{World, begin, from_start, is_ending}
-use Rattle.laws_sound.specs.PlainLaws.{FollowsPlainly}
+use Rattle.laws_sound.specs.LinklessLaws.{FollowsLinkless}
 use Rattle.laws_queue.specs.Kept.{Kept, kept_shut}
 use Rattle.laws_queue.specs.Stands.{Rise, StandsFor}
 use Rattle.laws_sound.specs.Order.{FitsTogether}
@@ -115,7 +115,7 @@ root_stamped next known (x ∷ xs) none e = at (x.name == 0) refl e (root_stampe
 
 -- ---- what is owed
 
-module _ {V : Type 0} (p : Program V) (follows : FollowsPlainly p) (ends : EndsClosing p) where
+module _ {V : Type 0} (p : Program V) (follows : FollowsLinkless p) (ends : EndsClosing p) where
   abbrev debt_by : (ℕ → Bool) → World V → ℕ
   debt_by early w = owed_by p early (filter (λ c. is_inside w.scopes 0 c.number) w.coroutines)
 
@@ -133,7 +133,7 @@ module _ {V : Type 0} (p : Program V) (follows : FollowsPlainly p) (ends : EndsC
   root_stamp k s stable stands h =
       let w = closed_world s in
       let new = new_stamps s.next (filter (λ x. x.closing && not (list_any (is_stamp_of x.name) s.closings)) w.scopes.bundles) in
-      let closing = subst (λ (v : World V). if_some (find (is_bundle 0) v.scopes.bundles) false (λ x. x.closing) ≡ true) (follows.shut k s stable.plain stands).world (ends.shut k stable).closing in
+      let closing = subst (λ (v : World V). if_some (find (is_bundle 0) v.scopes.bundles) false (λ x. x.closing) ≡ true) (follows.shut k s stable.linkless stands).world (ends.shut k stable).closing in
       ap (option_map (λ (x : Stamp). x.at)) (find-append (is_stamp_of 0) s.closings new ∙ ap (λ o. option_or o (find (is_stamp_of 0) new)) h.none)
       ∙ root_stamped s.next s.closings w.scopes.bundles h.none closing
 
@@ -154,5 +154,5 @@ module _ {V : Type 0} (p : Program V) (follows : FollowsPlainly p) (ends : EndsC
       let order = (ends.shut k stable).stable.order.order in
       let same : debt_by (is_early now) (shut s).world ≡ debts.debt p (shut s) 0 = sym (shares_same (debts.is_early (shut s) 0) (is_early now) (early_same k s stable stands h) (filter (λ c. is_inside (shut s).world.scopes 0 c.number) (shut s).world.coroutines)) in
       ap (owed_by p (is_early now)) (sym (everybody now.world order.fits))
-      ∙ ap (debt_by (is_early now)) (follows.shut k s stable.plain stands).world
+      ∙ ap (debt_by (is_early now)) (follows.shut k s stable.linkless stands).world
       ∙ same

@@ -13,7 +13,7 @@ use Rattle.dill_drive.specs.ByRules.{machine_of}
 use Rattle.dill_drive.specs.Machine.{Machine}
 use Rattle.dill_drive.specs.Play.{Playing, advance, advance_at, asks_try, halt_within, lack_of, play, writes}
 use Rattle.dill_drive.specs.Story.{Place, Closing, Last, Closes, Writing, Over, Config, after_last, after_test, at, final, is_empty, is_sink, is_well, notes_of, one_last, showing, summary_of}
-use Rattle.laws_sound.specs.PlainLaws.{FollowsPlainly}
+use Rattle.laws_sound.specs.LinklessLaws.{FollowsLinkless}
 use Rattle.laws_queue.specs.Kept.{Kept, kept_shut, kept_turn}
 use Rattle.laws_queue.specs.Stands.{StandsFor}
 use Rattle.laws_debt.specs.Closing.{IsStable, IsClosing}
@@ -45,7 +45,7 @@ record IsWithin {V : Type 0} (p : Program V) (total : ℕ) (c : Config (State V)
   pub place : is_behind c.place ≡ true
   pub going : c.place ≡ Last → c.state.world.ended ≡ None
 
-module _ {V : Type 0} (p : Program V) (follows : FollowsPlainly p) (ends : EndsClosing p) (total : ℕ) where
+module _ {V : Type 0} (p : Program V) (follows : FollowsLinkless p) (ends : EndsClosing p) (total : ℕ) where
   -- a turn is counted, and lowers what is owed
   pub turn_holds : (s : State V) (count : ℕ) (lack : Option LackPlace) (random : Stream) → Holds p total s count → s.world.ended ≡ None → Holds p total (turn_seen p s lack random).0 (count + 1)
   turn_holds s count lack random h going =
@@ -54,7 +54,7 @@ module _ {V : Type 0} (p : Program V) (follows : FollowsPlainly p) (ends : EndsC
       let fewer = ends.fewer h.kept lack h.closing more in
       record {
         kept = kept_turn p lack h.kept;
-        stands = follows.turned h.kept s lack random well h.closing.stable.plain h.stands;
+        stands = follows.turned h.kept s lack random well h.closing.stable.linkless h.stands;
         closing = ends.turned h.kept lack h.closing;
         few = omega (arith, fewer, h.few);
       }
@@ -66,7 +66,7 @@ module _ {V : Type 0} (p : Program V) (follows : FollowsPlainly p) (ends : EndsC
   noted_stable : (k : Kept V) → IsStable p (record (noted k) { early = length k.ready }) → IsStable p (noted k)
   noted_stable k h = record {
     well = record { lives = h.well.lives; numbered = h.well.numbered; queue = h.well.queue };
-    plain = h.plain;
+    linkless = h.linkless;
     order = h.order;
     says = h.says;
     rest = h.rest;
@@ -83,7 +83,7 @@ module _ {V : Type 0} (p : Program V) (follows : FollowsPlainly p) (ends : EndsC
       let same = again_same p k h.closing in
       record {
         kept = noted k;
-        stands = noted_stands k (shut s) (subst (λ x. StandsFor x (shut s)) same (follows.shut k s h.closing.stable.plain h.stands));
+        stands = noted_stands k (shut s) (subst (λ x. StandsFor x (shut s)) same (follows.shut k s h.closing.stable.linkless h.stands));
         closing = noted_closing k h.closing (subst (IsClosing p) same (ends.shut k h.closing.stable));
         few = h.few;
       }
@@ -141,7 +141,7 @@ module _ {V : Type 0} (p : Program V) (follows : FollowsPlainly p) (ends : EndsC
     over_written run (Some count) h = record { holds = h; place = refl; going = λ e. cc }
 
     pub next_none : (s : State V) (count : ℕ) → Holds p total s count → m.next_try s ≡ None
-    next_none s count h = follows.next_try h.kept s h.closing.stable.plain h.stands
+    next_none s count h = follows.next_try h.kept s h.closing.stable.linkless h.stands
 
     step_at : (run : Playing (State V)) (place : Place) → run.config.place ≡ place → IsWithin p total run.config → IsWithin p total (advance_at m traced most run place).config
     step_at run Closing is within = test_within run.config within.holds
@@ -171,7 +171,7 @@ module _ {V : Type 0} (p : Program V) (follows : FollowsPlainly p) (ends : EndsC
         record {
           holds = record {
             kept = kept_shut k;
-            stands = subst (λ x. StandsFor (kept_shut k) x) (sym stop.state) (follows.shut k s stable.plain stands);
+            stands = subst (λ x. StandsFor (kept_shut k) x) (sym stop.state) (follows.shut k s stable.linkless stands);
             closing = ends.shut k stable;
             few = omega (arith, stop.none, few);
           };
@@ -179,7 +179,7 @@ module _ {V : Type 0} (p : Program V) (follows : FollowsPlainly p) (ends : EndsC
           going = λ e. absurd (place.1 e);
         }
 
-module _ {V : Type 0} (p : Program V) (follows : FollowsPlainly p) (ends : EndsClosing p) where
+module _ {V : Type 0} (p : Program V) (follows : FollowsLinkless p) (ends : EndsClosing p) where
   pub closing_is_bounded : ClosingIsBounded p
   closing_is_bounded k s traced most run stands stable stop n =
       let total = owed p (kept_shut k) in

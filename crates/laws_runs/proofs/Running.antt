@@ -4,7 +4,7 @@ use Rattle.std.specs.List.{AllByRecursion}
 use Rattle.dill_scope.specs.declared.forest.Bundle.{Bundle}
 use Rattle.dill_scope.specs.Scopes.{is_bundle}
 use Rattle.dill_base.specs.Maps.{if_some}
-use Rattle.laws_sound.specs.Plain.{MakesLinkless}
+use Rattle.laws_sound.specs.Linkless.{MakesLinkless}
 use Rattle.laws_debt.proofs.Lists.{number_of}
 use Rattle.dill_base.specs.declared.status.Status.{Status}
 use Rattle.dill_base.specs.declared.status.Status.TheVariants as status
@@ -26,7 +26,7 @@ use Rattle.dill_drive.specs.ByRules.{machine_of}
 use Rattle.dill_drive.specs.Machine.{Machine}
 use Rattle.dill_drive.specs.Play.{Playing, advance, advance_at, asks_try, halt_within, lack_of, opening, play, writes}
 use Rattle.dill_drive.specs.Story.{Place, Round, Asking, Trying, Turns, Due, Stopping, Closing, Last, Closes, Writing, Over, Config, after_test, after_turn, after_wait, at, final, halted, has_ended, is_empty, is_sink, is_spent, is_well, notes_of, one_round, one_turn, showing, stopped, summary_of, waiting_lines}
-use Rattle.laws_sound.specs.PlainLaws.{FollowsPlainly}
+use Rattle.laws_sound.specs.LinklessLaws.{FollowsLinkless}
 use Rattle.laws_debt.specs.Owed.{owed}
 use Rattle.laws_queue.specs.Kept.{Kept, kept_expired, kept_shut, kept_turn, kept_woke, opening_kept}
 use Rattle.laws_queue.specs.Stands.{StandsFor}
@@ -67,7 +67,7 @@ record IsEarly {V : Type 0} (p : Program V) (c : Config (State V)) : Type 0 wher
   pub none : c.tally.closing ≡ 0
   pub place : is_early c.place ≡ true
 
-module _ {V : Type 0} (p : Program V) (law : IsLawful p) (plainly : MakesLinkless p) (well : KeepsWell p) (keeps : KeepsStable p) (follows : FollowsPlainly p) (traced : Bool) (most : ℕ) where
+module _ {V : Type 0} (p : Program V) (law : IsLawful p) (unlinked : MakesLinkless p) (well : KeepsWell p) (keeps : KeepsStable p) (follows : FollowsLinkless p) (traced : Bool) (most : ℕ) where
   abbrev m : Machine (State V)
   m = machine_of p
 
@@ -114,7 +114,7 @@ module _ {V : Type 0} (p : Program V) (law : IsLawful p) (plainly : MakesLinkles
   expires c h none =
       let late = m.expire c.state in
       shows c.state (record c { state = late }) (Turns 64) (notes_of m traced most late)
-      (record { kept = kept_expired h.kept; stands = follows.expired h.kept c.state h.stable.plain h.stands; stable = keeps.expired h.kept h.stable; unshut = expired_unshut p law plainly well keeps follows h.kept c.state h.stable h.stands h.unshut }) none refl refl
+      (record { kept = kept_expired h.kept; stands = follows.expired h.kept c.state h.stable.linkless h.stands; stable = keeps.expired h.kept h.stable; unshut = expired_unshut p law unlinked well keeps follows h.kept c.state h.stable h.stands h.unshut }) none refl refl
 
   finishes : (c : Config (State V)) → Stable p c.state → c.tally.closing ≡ 0 → Leads c.state (after_test m traced most c Closes)
   finishes c h none =
@@ -127,7 +127,7 @@ module _ {V : Type 0} (p : Program V) (law : IsLawful p) (plainly : MakesLinkles
   tries run place (Some ask) is none h = cc
 
   next_none : (s : State V) → Stable p s → m.next_try s ≡ None
-  next_none s h = follows.next_try h.kept s h.stable.plain h.stands
+  next_none s h = follows.next_try h.kept s h.stable.linkless h.stands
 
   -- a wait
   wakes : (c : Config (State V)) (said : KernelReply) → Stable p c.state → c.tally.closing ≡ 0 → Leads c.state (after_wait m traced most c said)
@@ -148,7 +148,7 @@ module _ {V : Type 0} (p : Program V) (law : IsLawful p) (plainly : MakesLinkles
   turns c left lack h none =
       let after = turn_seen p c.state lack c.keys in
       shows c.state (record c { state = after.0; tally = one_turn c.tally lack; keys = after.1 }) (Turns (left - 1)) (ran_bytes traced (m.ran c.state lack) ++ notes_of m traced most after.0)
-      (record { kept = kept_turn p lack h.kept; stands = follows.turned h.kept c.state lack c.keys h.stable.well h.stable.plain h.stands; stable = keeps.turned h.kept lack h.stable; unshut = turned_unshut p law plainly well keeps follows h.kept c.state lack c.keys h.stable h.stands h.unshut }) none refl refl
+      (record { kept = kept_turn p lack h.kept; stands = follows.turned h.kept c.state lack c.keys h.stable.well h.stable.linkless h.stands; stable = keeps.turned h.kept lack h.stable; unshut = turned_unshut p law unlinked well keeps follows h.kept c.state lack c.keys h.stable h.stands h.unshut }) none refl refl
 
   -- lines go out, or their write fails
   on_early : (next : Place) → goes_on next ≡ true → is_early next ≡ true
@@ -231,10 +231,10 @@ module _ {V : Type 0} (p : Program V) (law : IsLawful p) (plainly : MakesLinkles
       at (inl early) rest = later run (play m traced most n (advance m traced most run)).config.tally.closing (rest early)
       at (inr stop) rest = inr (stops_within ends n run h.state stop)
 
-pub runs_are_bounded : {V : Type 0} (p : Program V) → IsLawful p → MakesLinkless p → KeepsWell p → KeepsStable p → FollowsPlainly p → EndsClosing p → RunsAreBounded p
-runs_are_bounded p law plainly well keeps follows ends view random keys traced most replies lacks halt n begins =
+pub runs_are_bounded : {V : Type 0} (p : Program V) → IsLawful p → MakesLinkless p → KeepsWell p → KeepsStable p → FollowsLinkless p → EndsClosing p → RunsAreBounded p
+runs_are_bounded p law unlinked well keeps follows ends view random keys traced most replies lacks halt n begins =
     let begun = opening (machine_of p) traced most (opening_state view random) keys replies lacks halt in
-    plays p law plainly well keeps follows traced most ends n begun (record {
+    plays p law unlinked well keeps follows traced most ends n begun (record {
       state = record { kept = opening_kept view; stands = follows.opening view random; stable = keeps.opening view begins; unshut = opening_unshut view random };
       none = refl;
       place = refl;

@@ -27,16 +27,16 @@ use Rattle.dill_rules.specs.Seen.{lend, turn_seen}
 use Rattle.dill_rules.specs.State.{State, Stamp, is_stamp_of, closed_now, expire_next, expired, line_up, lined, next_turn, opening_state, turn_of, woke}
 use Rattle.dill_rules.specs.Turning.{go_on, turn}
 use Rattle.dill_rules.specs.World.{World, begin, call_of, coroutine_of}
-use Rattle.laws_sound.specs.PlainLaws.{FollowsPlainly}
+use Rattle.laws_sound.specs.LinklessLaws.{FollowsLinkless}
 use Rattle.laws_queue.specs.Kept.{Kept, kept_expire_next, kept_expired, kept_late, kept_turn, turn_first}
 use Rattle.laws_queue.specs.Laws.{KeepsWell}
 use Rattle.laws_queue.specs.Lending.{wordless}
-use Rattle.laws_sound.specs.Plain.{MakesLinkless, IsPlain, may_wait, waits_plainly}
+use Rattle.laws_sound.specs.Linkless.{MakesLinkless, IsLinkless, may_wait, waits_linkless}
 use Rattle.laws_sound.proofs.Lists.{all_map}
 use Rattle.laws_queue.specs.Stands.{StandsFor}
-use Rattle.laws_sound.proofs.Plainly.{plain_with}
+use Rattle.laws_sound.proofs.Linkless.{linkless_with}
 use Rattle.laws_sound.proofs.Steps.{call_waits}
-use Rattle.laws_sound.proofs.Turns.{expire_one_plain}
+use Rattle.laws_sound.proofs.Turns.{expire_one_linkless}
 use Rattle.laws_debt.specs.Closing.{IsStable}
 use Rattle.laws_debt.specs.Laws.{KeepsStable}
 use Rattle.laws_debt.proofs.Lists.{all_without, equal_number, number_of}
@@ -134,30 +134,30 @@ module _ {V : Type 0} where
   give_open w who (calls.Hclose number) answer e a = freed_open w (find (is_dead_as number) w.closings) a
   give_open w who _ answer e a = cc
 
-  expire_open : (w : World V) (who : ℕ) → IsPlain w → RootIsOpen w.scopes → RootIsOpen (expire_one w who).scopes
-  expire_open w who plain a = at (call_of w who) refl
+  expire_open : (w : World V) (who : ℕ) → IsLinkless w → RootIsOpen w.scopes → RootIsOpen (expire_one w who).scopes
+  expire_open w who linkless a = at (call_of w who) refl
     where
       at : (o : Option Call) → call_of w who ≡ o → RootIsOpen (if_some o w (λ call. give w who call (late_answer call))).scopes
       at None e = a
-      at (Some call) e = give_open w who call (late_answer call) (call_waits w who call plain e) a
+      at (Some call) e = give_open w who call (late_answer call) (call_waits w who call linkless e) a
 
   -- between two steps of a state: the root is open, and has no stamp
   pub record IsUnshut (s : State V) : Type 0 where
     pub root : RootIsOpen s.world.scopes
     pub none : IsUnstamped s.closings
 
-  lined_waits : (cs : List (Coroutine V)) → list_all waits_plainly cs ≡ true → list_all waits_plainly (map lined cs) ≡ true
-  lined_waits cs e = all_map waits_plainly lined cs (λ c f. ap (λ o. if_some o true may_wait) (lined_pending c.mode) ∙ f) e
+  lined_waits : (cs : List (Coroutine V)) → list_all waits_linkless cs ≡ true → list_all waits_linkless (map lined cs) ≡ true
+  lined_waits cs e = all_map waits_linkless lined cs (λ c f. ap (λ o. if_some o true may_wait) (lined_pending c.mode) ∙ f) e
 
-  lined_plain : (w : World V) (answers closings : List Stamp) (next : ℕ) → IsPlain w → IsPlain (line_up w answers closings next).world
-  lined_plain w answers closings next plain = plain_with w (line_up w answers closings next).world refl refl refl (λ h. h) (λ h. lined_waits w.coroutines h) plain
+  lined_linkless : (w : World V) (answers closings : List Stamp) (next : ℕ) → IsLinkless w → IsLinkless (line_up w answers closings next).world
+  lined_linkless w answers closings next linkless = linkless_with w (line_up w answers closings next).world refl refl refl (λ h. h) (λ h. lined_waits w.coroutines h) linkless
 
-  late_unshut : (xs : List ℕ) (s : State V) → IsPlain s.world → IsUnshut s → IsUnshut (fold expire_next s xs)
-  late_unshut [] s plain h = h
-  late_unshut (x ∷ xs) s plain h =
+  late_unshut : (xs : List ℕ) (s : State V) → IsLinkless s.world → IsUnshut s → IsUnshut (fold expire_next s xs)
+  late_unshut [] s linkless h = h
+  late_unshut (x ∷ xs) s linkless h =
       let w = expire_one s.world x in
-      let a = expire_open s.world x plain h.root in
-      late_unshut xs (expire_next s x) (lined_plain w s.answers s.closings s.next (expire_one_plain s.world x plain)) (record { root = a; none = none_lined w s.answers s.closings s.next a h.none })
+      let a = expire_open s.world x linkless h.root in
+      late_unshut xs (expire_next s x) (lined_linkless w s.answers s.closings s.next (expire_one_linkless s.world x linkless)) (record { root = a; none = none_lined w s.answers s.closings s.next a h.none })
 
   -- ---- the other steps
 
@@ -177,7 +177,7 @@ module _ {V : Type 0} where
   to_kept : (k : Kept V) (s : State V) → StandsFor k s → RootIsOpen s.world.scopes → RootIsOpen k.world.scopes
   to_kept k s stands a = subst (λ (w : World V). RootIsOpen w.scopes) (sym stands.world) a
 
-module _ {V : Type 0} (p : Program V) (law : IsLawful p) (plainly : MakesLinkless p) (keeps : KeepsWell p) (stays : KeepsStable p) (follows : FollowsPlainly p) where
+module _ {V : Type 0} (p : Program V) (law : IsLawful p) (unlinked : MakesLinkless p) (keeps : KeepsWell p) (stays : KeepsStable p) (follows : FollowsLinkless p) where
   abbrev Holds : World V → Type 0
   Holds w = AllHold IsOpenUnowned 0 w
 
@@ -211,7 +211,7 @@ module _ {V : Type 0} (p : Program V) (law : IsLawful p) (plainly : MakesLinkles
   turned_unshut k s lack random stable stands h =
       let now = stays.turned k lack stable in
       let held = root_open (kept_turn p lack k).world.scopes now.order.order.fits.forest (turned_holds k lack (holds_of k stable (to_kept k s stands h.root))).bundles in
-      let root = to_state (kept_turn p lack k) (turn_seen p s lack random).0 (follows.turned k s lack random stable.well stable.plain stands) held in
+      let root = to_state (kept_turn p lack k) (turn_seen p s lack random).0 (follows.turned k s lack random stable.well stable.linkless stands) held in
       record { root = root; none = turned_stamps lack (lend s random) (next_turn (lend s random)) root h.none }
 
   -- deadlines
@@ -219,9 +219,9 @@ module _ {V : Type 0} (p : Program V) (law : IsLawful p) (plainly : MakesLinkles
   expired_unshut k s stable stands h =
       let now = stays.expired k stable in
       let held = root_open (kept_expired k).world.scopes now.order.order.fits.forest (expired_holds k (holds_of k stable (to_kept k s stands h.root))).bundles in
-      let root = to_state (kept_expired k) (expired s) (follows.expired k s stable.plain stands) held in
+      let root = to_state (kept_expired k) (expired s) (follows.expired k s stable.linkless stands) held in
       let began : State V = record s { world = begin s.world } in
-      let plain : IsPlain (wordless s.world) = subst IsPlain stands.world stable.plain in
-      let late = late_unshut (passed s.world) began (record { links = plain.links; place = plain.place; wrote = plain.wrote; things = plain.things; calls = plain.calls }) (record { root = h.root; none = h.none }) in
+      let linkless : IsLinkless (wordless s.world) = subst IsLinkless stands.world stable.linkless in
+      let late = late_unshut (passed s.world) began (record { links = linkless.links; place = linkless.place; wrote = linkless.wrote; things = linkless.things; calls = linkless.calls }) (record { root = h.root; none = h.none }) in
       let last = fold expire_next began (passed s.world) in
       record { root = root; none = none_lined (settle last.world) last.answers last.closings last.next root late.none }

@@ -8,14 +8,14 @@ ghost use Rattle.laws_runs.specs.Waits.{WaitingIsForSomebody};
 use dill_plain::PlainBody;
 use laws_debt::{debts_fall, root_debt_falls, steps_keep_stable};
 use laws_queue::steps_keep_well;
-use laws_sound::{follows_plainly, steps_keep_order};
+use laws_sound::{follows_linkless, steps_keep_order};
 
 /// Once a run has stopped no more turns are made than are owed: a summary's `closing` is at most what is owed of what a
 /// core keeps once the root is closed, whatever comes from outside.
 pub fn closing_is_bounded<B: PlainBody>()
     ensures { ClosingIsBounded B.means }
 {
-    follows_plainly::<B>();
+    follows_linkless::<B>();
     root_debt_falls::<B>();
 }
 
@@ -23,7 +23,7 @@ pub fn closing_is_bounded<B: PlainBody>()
 pub fn stopped_runs_end<B: PlainBody>()
     ensures { StoppedRunsEnd B.means }
 {
-    follows_plainly::<B>();
+    follows_linkless::<B>();
     root_debt_falls::<B>();
 }
 
@@ -34,7 +34,7 @@ pub fn runs_are_bounded<B: PlainBody>()
 {
     steps_keep_well::<B>();
     steps_keep_stable::<B>();
-    follows_plainly::<B>();
+    follows_linkless::<B>();
     root_debt_falls::<B>();
 }
 
@@ -43,7 +43,7 @@ pub fn runs_are_bounded<B: PlainBody>()
 pub fn runs_are_steady<B: PlainBody>()
     ensures { RunsAreSteady B.means }
 {
-    follows_plainly::<B>();
+    follows_linkless::<B>();
     debts_fall::<B>();
 }
 
@@ -52,7 +52,7 @@ pub fn runs_are_steady<B: PlainBody>()
 pub fn runs_end<B: PlainBody>()
     ensures { RunsEnd B.means }
 {
-    follows_plainly::<B>();
+    follows_linkless::<B>();
     debts_fall::<B>();
     root_debt_falls::<B>();
 }
@@ -80,6 +80,6 @@ pub fn runs_close_well<B: PlainBody>()
     steps_keep_well::<B>();
     steps_keep_order::<B>();
     steps_keep_stable::<B>();
-    follows_plainly::<B>();
+    follows_linkless::<B>();
     debts_fall::<B>();
 }

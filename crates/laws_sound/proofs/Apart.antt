@@ -19,7 +19,7 @@ use Rattle.laws_queue.proofs.Acting.{give_gives}
 use Rattle.laws_queue.proofs.Crew.{bare_crew}
 use Rattle.laws_queue.proofs.Settling.{settles_all}
 use Rattle.laws_sound.specs.Laws.{is_apart, IsApart, SettlesApart}
-use Rattle.laws_sound.specs.Plain.{may_wait, waits_plainly, IsPlain}
+use Rattle.laws_sound.specs.Linkless.{may_wait, waits_linkless, IsLinkless}
 use Rattle.laws_sound.proofs.Lists.{all_change, all_follow, all_without}
 
 pub waits_apart : (mode : Mode) → if_some (pending_call mode) true may_wait ≡ true → is_apart mode ≡ true
@@ -74,9 +74,9 @@ module _ {V : Type 0} where
   apart_within zero w e = e
   apart_within (suc n) w e = apart_within n (settle_one w) (apart_one w e)
 
-  -- without channels and links nobody does
-  pub plain_apart : (w : World V) → IsPlain w → IsApart w
-  plain_apart w plain = all_follow waits_plainly (λ c. is_apart c.mode) w.coroutines (λ c e. waits_apart c.mode e) plain.calls
+  -- without links nobody does
+  pub linkless_apart : (w : World V) → IsLinkless w → IsApart w
+  linkless_apart w linkless = all_follow waits_linkless (λ c. is_apart c.mode) w.coroutines (λ c e. waits_apart c.mode e) linkless.calls
 
 pub settles_apart : (V : Type 0) → SettlesApart V
 settles_apart V w e n =

@@ -1,4 +1,4 @@
--- What plain calls do without looking at random numbers.
+-- What calls of no link do without looking at random numbers.
 use Rattle.std.proofs.Common.{◌≡◌, ◌∙◌, ◌+◌, ℕ, List, [], ◌∷◌, fold, Bool, true, false, Option, Some, None, if◌then◌else◌, refl, ap}
 use Rattle.dill_calls.specs.declared.lists.Arg.{Arg}
 use Rattle.dill_calls.specs.declared.ran.Note.TheVariants.{Moved, Freed}

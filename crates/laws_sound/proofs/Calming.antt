@@ -28,14 +28,14 @@ use Rattle.dill_rules.specs.Turning.{go_on, move_of, answer_given}
 use Rattle.dill_rules.specs.World.{World, Place, at_start, begin, pending_call}
 use Rattle.laws_queue.specs.Kept.{Kept, queued, turn_first, kept_turn, kept_expire_next, kept_late, kept_expired, kept_shut, kept_woke, root_closed}
 use Rattle.laws_queue.specs.Laws.{KeepsWell}
-use Rattle.laws_sound.specs.Plain.{MovesLinkless, MakesLinkless, may_wait, waits_plainly, IsPlain}
+use Rattle.laws_sound.specs.Linkless.{MovesLinkless, MakesLinkless, may_wait, waits_linkless, IsLinkless}
 use Rattle.laws_queue.specs.Well.{Numbered, IsWell}
 use Rattle.laws_queue.proofs.Keeping.{steps_keep_well}
-use Rattle.laws_sound.proofs.Plainly.{begin_plain}
-use Rattle.laws_sound.proofs.Apart.{plain_apart, settles_apart}
-use Rattle.laws_sound.proofs.PlainLaws.{steps_keep_plain}
-use Rattle.laws_sound.proofs.Steps.{settle_plain}
-use Rattle.laws_sound.proofs.Turns.{closed_plain, go_on_plain}
+use Rattle.laws_sound.proofs.Linkless.{begin_linkless}
+use Rattle.laws_sound.proofs.Apart.{linkless_apart, settles_apart}
+use Rattle.laws_sound.proofs.LinklessLaws.{steps_keep_linkless}
+use Rattle.laws_sound.proofs.Steps.{settle_linkless}
+use Rattle.laws_sound.proofs.Turns.{closed_linkless, go_on_linkless}
 use Rattle.laws_sound.specs.Laws.{StepsKeepSettled}
 use Rattle.laws_sound.specs.Orderly.{IsOrderly}
 use Rattle.laws_sound.proofs.Going.{or_none}
@@ -44,7 +44,7 @@ use Rattle.laws_sound.proofs.Leaving.{lined_ends}
 use Rattle.laws_queue.proofs.Lining.{lined_pending}
 
 module _ {V : Type 0} where
-  -- other parts of a world, and other modes, that plain answers don't look at
+  -- other parts of a world, and other modes, that answers of no link don't look at
   abbrev changed : World V → List (Coroutine V) → Links → Place → List ℕ → Stream → ℕ → List Note → World V
   changed w ds l place wrote random moment notes = record w { coroutines = ds; links = l; place = place; wrote = wrote; random = random; moment = moment; notes = notes }
 
@@ -70,28 +70,28 @@ module _ {V : Type 0} where
       at true g h rest = cc
       at false g h rest = let t : can_finish v (f c) ≡ false = same c ∙ g in ap (λ b. cond b (Some (f c)) (find (can_finish v) (map f cs))) t ∙ rest h
 
-  none_due : (w v : World V) (f : Coroutine V → Coroutine V) → ((c : Coroutine V) → waits_plainly c ≡ true → answer_due v (f c) ≡ answer_due w c) → (cs : List (Coroutine V)) → list_all waits_plainly cs ≡ true → first_some (answer_due w) cs ≡ None → first_some (answer_due v) (map f cs) ≡ None
+  none_due : (w v : World V) (f : Coroutine V → Coroutine V) → ((c : Coroutine V) → waits_linkless c ≡ true → answer_due v (f c) ≡ answer_due w c) → (cs : List (Coroutine V)) → list_all waits_linkless cs ≡ true → first_some (answer_due w) cs ≡ None → first_some (answer_due v) (map f cs) ≡ None
   none_due w v f same [] p e = refl
   none_due w v f same (c ∷ cs) p e =
-      let b = and_parts (waits_plainly c) (list_all waits_plainly cs) p in
+      let b = and_parts (waits_linkless c) (list_all waits_linkless cs) p in
       let o = or_none (answer_due w c) (first_some (answer_due w) cs) e in
       ap (λ r. option_or r (first_some (answer_due v) (map f cs))) (same c b.0 ∙ o.0) ∙ none_due w v f same cs b.1 o.1
 
-  settled_lined : (w : World V) → IsPlain w → IsSettled w → IsSettled (record w { coroutines = map lined w.coroutines })
-  settled_lined w plain s =
+  settled_lined : (w : World V) → IsLinkless w → IsSettled w → IsSettled (record w { coroutines = map lined w.coroutines })
+  settled_lined w linkless s =
       let v = record w { coroutines = map lined w.coroutines } in
       record {
         endings = none_finish w v lined (λ c. ap (λ b. b && is_clear w c.number) (lined_ends c.mode)) w.coroutines s.endings;
         answers = none_due w v lined
             (λ c e. ap (λ o. if_some o None (λ call. if_some (answer_of v c.number call) None (λ a. Some (c.number, call, a)))) (lined_pending c.mode)
-            ∙ due_same w v c.number (pending_call c.mode) (answer_same w (map lined w.coroutines) w.links w.place w.wrote w.random w.moment w.notes c.number) e) w.coroutines plain.calls s.answers;
+            ∙ due_same w v c.number (pending_call c.mode) (answer_same w (map lined w.coroutines) w.links w.place w.wrote w.random w.moment w.notes c.number) e) w.coroutines linkless.calls s.answers;
       }
 
   map_itself : (cs : List (Coroutine V)) → map (λ c. c) cs ≡ cs
   map_itself [] = refl
   map_itself (c ∷ cs) = ap (λ ds. c ∷ ds) (map_itself cs)
 
-  settled_anyway : (w : World V) (l : Links) (place : Place) (wrote : List ℕ) (random : Stream) (moment : ℕ) (notes : List Note) → list_all waits_plainly w.coroutines ≡ true → IsSettled w → IsSettled (changed w w.coroutines l place wrote random moment notes)
+  settled_anyway : (w : World V) (l : Links) (place : Place) (wrote : List ℕ) (random : Stream) (moment : ℕ) (notes : List Note) → list_all waits_linkless w.coroutines ≡ true → IsSettled w → IsSettled (changed w w.coroutines l place wrote random moment notes)
   settled_anyway w l place wrote random moment notes calls s =
       let v = changed w w.coroutines l place wrote random moment notes in
       record {
@@ -100,59 +100,59 @@ module _ {V : Type 0} where
       }
 
   -- what settles
-  queued_settled : (w : World V) (ready : List ℕ) (early : ℕ) → IsPlain w → Numbered 0 w.coroutines w.last_coroutine → IsSettled (queued (settle w) ready early).world
-  queued_settled w ready early plain n = settled_lined (settle w) (settle_plain w plain) (settles_apart V w (plain_apart w plain) n)
+  queued_settled : (w : World V) (ready : List ℕ) (early : ℕ) → IsLinkless w → Numbered 0 w.coroutines w.last_coroutine → IsSettled (queued (settle w) ready early).world
+  queued_settled w ready early linkless n = settled_lined (settle w) (settle_linkless w linkless) (settles_apart V w (linkless_apart w linkless) n)
 
-  begin_settled : (w : World V) → list_all waits_plainly w.coroutines ≡ true → IsSettled w → IsSettled (begin w)
+  begin_settled : (w : World V) → list_all waits_linkless w.coroutines ≡ true → IsSettled w → IsSettled (begin w)
   begin_settled w calls s = settled_anyway w w.links w.place w.wrote w.random w.moment [] calls s
 
-  heated_settled : (ready : List Ready) (w : World V) → list_all waits_plainly w.coroutines ≡ true → IsSettled w → (list_all waits_plainly (fold heat_ready w ready).coroutines ≡ true) × IsSettled (fold heat_ready w ready)
+  heated_settled : (ready : List Ready) (w : World V) → list_all waits_linkless w.coroutines ≡ true → IsSettled w → (list_all waits_linkless (fold heat_ready w ready).coroutines ≡ true) × IsSettled (fold heat_ready w ready)
   heated_settled [] w calls s = (calls, s)
   heated_settled (x ∷ xs) w calls s = heated_settled xs (heat_ready w x) calls (settled_anyway w (heat_ready w x).links w.place w.wrote w.random w.moment w.notes calls s)
 
-  woke_settled : (k : Kept V) (told : ℕ) (ready : List Ready) → list_all waits_plainly k.world.coroutines ≡ true → IsSettled k.world → IsSettled (kept_woke k told ready).world
+  woke_settled : (k : Kept V) (told : ℕ) (ready : List Ready) → list_all waits_linkless k.world.coroutines ≡ true → IsSettled k.world → IsSettled (kept_woke k told ready).world
   woke_settled k told ready calls s =
       let heated = fold heat_ready (begin k.world) ready in
       let h = heated_settled ready (begin k.world) calls (begin_settled k.world calls s) in
       settled_anyway heated heated.links at_start [] heated.random (max k.world.moment told) heated.notes h.0 h.1
 
-module _ {V : Type 0} (p : Program V) (law : IsLawful p) (plainly : MakesLinkless p) where
+module _ {V : Type 0} (p : Program V) (law : IsLawful p) (unlinked : MakesLinkless p) where
   well : KeepsWell p
   well = steps_keep_well p law
 
-  turned : (k : Kept V) (lack : Option LackPlace) → IsWell p k → IsPlain k.world → IsOrderly k.world → IsSettled k.world → IsSettled (kept_turn p lack k).world
-  turned k lack w plain o s = at k.ready refl
+  turned : (k : Kept V) (lack : Option LackPlace) → IsWell p k → IsLinkless k.world → IsOrderly k.world → IsSettled k.world → IsSettled (kept_turn p lack k).world
+  turned k lack w linkless o s = at k.ready refl
     where
       at : (ready : List ℕ) → k.ready ≡ ready → IsSettled (turn_first p lack k ready).world
       at [] e = s
       at (who ∷ rest) e =
           let m = well.first k who rest w e in
           let c = m.one in
-          let moves : MovesLinkless (move_of p k.world who c.body) = plainly c.body (answer_given k.world who).1 m.real m.some in
+          let moves : MovesLinkless (move_of p k.world who c.body) = unlinked c.body (answer_given k.world who).1 m.real m.some in
           let order = (go_on_goes p lack k.world who c o m.found m.answered).good.order in
           subst (λ v. IsSettled (queued v rest (k.early - 1)).world) (turn_is p lack k.world who c m.found)
-          (queued_settled (go_on p lack (begin k.world) who c.body) rest (k.early - 1) (go_on_plain p lack (begin k.world) who c.body moves (begin_plain k.world plain)) order.fits.numbered)
+          (queued_settled (go_on p lack (begin k.world) who c.body) rest (k.early - 1) (go_on_linkless p lack (begin k.world) who c.body moves (begin_linkless k.world linkless)) order.fits.numbered)
 
-  settled : (k : Kept V) → IsWell p k → IsPlain k.world → IsSettled (queued (settle k.world) k.ready k.early).world
-  settled k w plain = queued_settled k.world k.ready k.early plain w.numbered
+  settled : (k : Kept V) → IsWell p k → IsLinkless k.world → IsSettled (queued (settle k.world) k.ready k.early).world
+  settled k w linkless = queued_settled k.world k.ready k.early linkless w.numbered
 
-  expire_all : (xs : List ℕ) (k : Kept V) → IsWell p k → IsPlain k.world → IsWell p (fold kept_expire_next k xs) × IsPlain (fold kept_expire_next k xs).world
-  expire_all [] k w plain = (w, plain)
-  expire_all (x ∷ xs) k w plain = expire_all xs (kept_expire_next k x) (well.expires k x w) ((steps_keep_plain p law plainly).expires k x plain)
+  expire_all : (xs : List ℕ) (k : Kept V) → IsWell p k → IsLinkless k.world → IsWell p (fold kept_expire_next k xs) × IsLinkless (fold kept_expire_next k xs).world
+  expire_all [] k w linkless = (w, linkless)
+  expire_all (x ∷ xs) k w linkless = expire_all xs (kept_expire_next k x) (well.expires k x w) ((steps_keep_linkless p law unlinked).expires k x linkless)
 
-  expired : (k : Kept V) → IsWell p k → IsPlain k.world → IsSettled (kept_expired k).world
-  expired k w plain = let late = expire_all (passed k.world) (record k { world = begin k.world }) (well.started k w) (begin_plain k.world plain) in settled (kept_late k) late.0 late.1
+  expired : (k : Kept V) → IsWell p k → IsLinkless k.world → IsSettled (kept_expired k).world
+  expired k w linkless = let late = expire_all (passed k.world) (record k { world = begin k.world }) (well.started k w) (begin_linkless k.world linkless) in settled (kept_late k) late.0 late.1
 
-  shut : (k : Kept V) → IsWell p k → IsPlain k.world → IsSettled (kept_shut k).world
-  shut k w plain = queued_settled (root_closed k.world) k.ready (length k.ready) (closed_plain k.world plain) w.numbered
+  shut : (k : Kept V) → IsWell p k → IsLinkless k.world → IsSettled (kept_shut k).world
+  shut k w linkless = queued_settled (root_closed k.world) k.ready (length k.ready) (closed_linkless k.world linkless) w.numbered
 
 pub steps_keep_settled : {V : Type 0} (p : Program V) → StepsKeepSettled p
-steps_keep_settled p law plainly = record {
+steps_keep_settled p law unlinked = record {
   opening = λ view. record { endings = refl; answers = refl };
-  turned = turned p law plainly;
-  started = λ k plain s. begin_settled k.world plain.calls s;
-  settled = settled p law plainly;
-  expired = expired p law plainly;
-  shut = shut p law plainly;
-  woke = λ k told ready plain s. woke_settled k told ready plain.calls s;
+  turned = turned p law unlinked;
+  started = λ k linkless s. begin_settled k.world linkless.calls s;
+  settled = settled p law unlinked;
+  expired = expired p law unlinked;
+  shut = shut p law unlinked;
+  woke = λ k told ready linkless s. woke_settled k told ready linkless.calls s;
 }

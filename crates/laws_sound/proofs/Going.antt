@@ -29,7 +29,7 @@ use Rattle.dill_rules.specs.Owning.{is_dead_as}
 use Rattle.dill_rules.specs.Settling.{can_finish, is_clear, answer_due, IsSettled}
 use Rattle.dill_rules.specs.Taking.{is_cancelled}
 use Rattle.dill_rules.specs.World.{World, is_coroutine, coroutine_of, pending_call, is_answered, is_ending}
-use Rattle.laws_sound.specs.Plain.{may_wait, waits_plainly, IsPlain}
+use Rattle.laws_sound.specs.Linkless.{may_wait, waits_linkless, IsLinkless}
 use Rattle.laws_queue.specs.Kept.{has_answer}
 use Rattle.laws_queue.specs.Well.{Numbered, bit, occurs}
 use Rattle.laws_sound.proofs.Lists.{all_found, all_follow}
@@ -272,9 +272,9 @@ module _ {V : Type 0} where
           let other : low.name ≡ 0 → ⊥ = λ z. let o : owner_of w.scopes 0 ≡ Some who = subst (λ n. owner_of w.scopes n ≡ Some who) z low.owned in let n = h.order.fits.forest.forest.root in cc in
           next r.who (omega (arith, l)) (climb w.scopes 0 r.who low.name who d r.home other low.owned ∙ f) (under who (parent_is w.scopes r.who low.name who r.home low.owned) i) r.there
 
--- without channels and links it is so
-pub plain_long : {V : Type 0} (w : World V) → IsPlain w → WaitsLong w
-plain_long w plain = all_follow waits_plainly (λ c. waits_long c.mode) w.coroutines (λ c e. by_mode c.mode e) plain.calls
+-- without links it is so
+pub linkless_long : {V : Type 0} (w : World V) → IsLinkless w → WaitsLong w
+linkless_long w linkless = all_follow waits_linkless (λ c. waits_long c.mode) w.coroutines (λ c e. by_mode c.mode e) linkless.calls
   where
     by_mode : (mode : Mode) → if_some (pending_call mode) true may_wait ≡ true → waits_long mode ≡ true
     by_mode (modes.Pending (calls.Msleep deadline)) e = refl

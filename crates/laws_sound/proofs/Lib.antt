@@ -1,6 +1,6 @@
 pub mod Lists
-pub mod Plainly
 pub mod Linkless
+pub mod Built
 pub mod Meeting
 pub mod Blind
 pub mod Settles
@@ -8,7 +8,7 @@ pub mod Apart
 pub mod Steps
 pub mod Turns
 pub mod Untried
-pub mod PlainLaws
+pub mod LinklessLaws
 pub mod Sound
 pub mod Going
 pub mod Counting

@@ -1,38 +1,129 @@
--- A program whose calls are all built makes no call of a link.
-use Rattle.std.proofs.Common.{◌≡◌, true, false, refl}
-use Rattle.dill_calls.specs.CallTable.{word_of, is_built}
-use Rattle.dill_calls.specs.Program.{Program, Move, Calls, Ends}
+-- What keeps a world without links.
+use Rattle.std.proofs.Common.{◌≡◌, ◌∙◌, ◌+◌, ℕ, List, [], ◌∷◌, fold, true, Option, Some, None, refl}
+use Rattle.std.proofs.lemmas.Bool.{and_from}
+use Rattle.std.specs.List.{list_all}
+use Rattle.dill_calls.specs.declared.answer.Answer.{Answer}
+use Rattle.dill_calls.specs.declared.answer.Answer.TheVariants.{Number}
+use Rattle.dill_calls.specs.declared.call.Call.{Call}
+use Rattle.dill_calls.specs.declared.ran.Note.{Note}
+use Rattle.dill_calls.specs.declared.ran.Note.TheVariants.{Moved, Freed}
 use Rattle.dill_calls.specs.declared.word.Word.{Word}
 use Rattle.dill_calls.specs.declared.word.Word.TheVariants as words
-use Rattle.dill_plain.specs.Plain.{MovesPlain, MakesPlain}
-use Rattle.laws_sound.specs.Plain.{is_of_link, MovesLinkless, MakesLinkless}
+use Rattle.dill_handles.specs.Handles as handles
+use Rattle.dill_handles.specs.declared.entry.Entry.{Entry}
+use Rattle.dill_base.specs.Maps.{if_some, change, without}
+use Rattle.dill_rules.specs.declared.coroutine.Closing.{Closing}
+use Rattle.dill_rules.specs.declared.coroutine.Coroutine.{Coroutine}
+use Rattle.dill_rules.specs.declared.coroutine.Mode.{Mode}
+use Rattle.dill_rules.specs.declared.coroutine.Mode.TheVariants as modes
+use Rattle.dill_rules.specs.declared.thing.Thing.{Thing}
+use Rattle.dill_rules.specs.declared.thing.Thing.TheVariants as things
+use Rattle.dill_rules.specs.World.{World, is_coroutine, set_mode, with_mode, reply, pend, note, begin, pending_call}
+use Rattle.dill_rules.specs.Owning.{entry_of, take_thing, move, drop, release, close_bundle, free_bundle}
+use Rattle.dill_rules.specs.Effects.{make, add_bundle, bear, give_all}
+use Rattle.laws_sound.specs.Linkless.{may_wait, waits_linkless, is_linkless_thing, is_linkless_entry, IsLinkless}
+use Rattle.laws_sound.proofs.Lists.{all_append, all_without, all_change, all_found}
 
-built_linkless : (word : Word) → is_built word ≡ true → is_of_link word ≡ false
-built_linkless words.Start e = refl
-built_linkless words.Set e = refl
-built_linkless words.Join e = refl
-built_linkless words.Print e = refl
-built_linkless words.Now e = refl
-built_linkless words.Yield e = refl
-built_linkless words.Msleep e = refl
-built_linkless words.Hmake e = refl
-built_linkless words.Hquery e = refl
-built_linkless words.Hown e = refl
-built_linkless words.Hclose e = refl
-built_linkless words.Bundle e = refl
-built_linkless words.Go e = refl
-built_linkless words.BundleGo e = refl
-built_linkless words.BundleWait e = refl
-built_linkless words.Chmake e = refl
-built_linkless words.Chsend e = refl
-built_linkless words.Chrecv e = refl
-built_linkless words.Chdone e = refl
-built_linkless words.Choose e = refl
-built_linkless _ e = cc
+module _ {V : Type 0} where
+  -- a step that touches no links
+  pub linkless_with : (w v : World V) → v.links ≡ w.links → v.place ≡ w.place → v.wrote ≡ w.wrote → (list_all is_linkless_entry w.handles.entries ≡ true → list_all is_linkless_entry v.handles.entries ≡ true) → (list_all waits_linkless w.coroutines ≡ true → list_all waits_linkless v.coroutines ≡ true) → IsLinkless w → IsLinkless v
+  linkless_with w v l p o t m linkless = record {
+    links = l ∙ linkless.links;
+    place = p ∙ linkless.place;
+    wrote = o ∙ linkless.wrote;
+    things = t linkless.things;
+    calls = m linkless.calls;
+  }
 
-pub moves_linkless : {V : Type 0} (next : V × Move) → MovesPlain next → MovesLinkless next
-moves_linkless (new, Calls call) e = built_linkless (word_of call) e
-moves_linkless (new, Ends outcome) e = tt
+  modes_linkless : (who : ℕ) (mode : Mode) (cs : List (Coroutine V)) → if_some (pending_call mode) true may_wait ≡ true → list_all waits_linkless cs ≡ true → list_all waits_linkless (change (is_coroutine who) (with_mode mode) cs) ≡ true
+  modes_linkless who mode cs e h = all_change waits_linkless (is_coroutine who) (with_mode mode) cs (λ c d. e) h
 
-pub makes_linkless : {V : Type 0} (p : Program V) → MakesPlain p → MakesLinkless p
-makes_linkless p plainly view answer real some = moves_linkless (p.next view answer) (plainly view answer real some)
+  pub set_mode_linkless : (w : World V) (who : ℕ) (mode : Mode) → if_some (pending_call mode) true may_wait ≡ true → IsLinkless w → IsLinkless (set_mode w who mode)
+  set_mode_linkless w who mode e linkless = linkless_with w (set_mode w who mode) refl refl refl (λ h. h) (modes_linkless who mode w.coroutines e) linkless
+
+  pub reply_linkless : (w : World V) (who : ℕ) (word : Word) (answer : Answer) → IsLinkless w → IsLinkless (reply w who word answer)
+  reply_linkless w who word answer linkless = record {
+    links = linkless.links;
+    place = linkless.place;
+    wrote = linkless.wrote;
+    things = linkless.things;
+    calls = modes_linkless who (modes.Fresh word answer) w.coroutines refl linkless.calls;
+  }
+
+  pub pend_linkless : (w : World V) (who : ℕ) (call : Call) → may_wait call ≡ true → IsLinkless w → IsLinkless (pend w who call)
+  pend_linkless w who call e linkless = set_mode_linkless w who (modes.Pending call) e linkless
+
+  pub note_linkless : (w : World V) (one : Note) → IsLinkless w → IsLinkless (note w one)
+  note_linkless w one linkless = linkless_with w (note w one) refl refl refl (λ h. h) (λ h. h) linkless
+
+  pub begin_linkless : (w : World V) → IsLinkless w → IsLinkless (begin w)
+  begin_linkless w linkless = linkless_with w (begin w) refl refl refl (λ h. h) (λ h. h) linkless
+
+  pub make_linkless : (w : World V) (thing : Thing) (owner : ℕ) → is_linkless_thing thing ≡ true → IsLinkless w → IsLinkless (make w thing owner)
+  make_linkless w thing owner e linkless =
+      linkless_with w (make w thing owner) refl refl refl (λ h. all_append is_linkless_entry w.handles.entries (record { number = handles.next_number w.handles; thing = thing; owner = owner } ∷ []) h (and_from (is_linkless_thing thing) true e refl)) (λ h. h) linkless
+
+  pub add_bundle_linkless : (w : World V) (who : ℕ) → IsLinkless w → IsLinkless (add_bundle w who)
+  add_bundle_linkless w who linkless =
+      let made = make_linkless w (things.Bundle (w.last_bundle + 1)) who refl linkless in
+      linkless_with (make w (things.Bundle (w.last_bundle + 1)) who) (add_bundle w who) refl refl refl (λ h. h) (λ h. h) made
+
+  take_thing_linkless : (w : World V) (thing : Thing) (owner : ℕ) → IsLinkless w → IsLinkless (take_thing w thing owner)
+  take_thing_linkless w (things.Bundle name) owner linkless = linkless_with w (take_thing w (things.Bundle name) owner) refl refl refl (λ h. h) (λ h. h) linkless
+  take_thing_linkless w (things.End end) owner linkless = linkless
+  take_thing_linkless w (things.Listener link) owner linkless = linkless
+  take_thing_linkless w (things.Socket link) owner linkless = linkless
+  take_thing_linkless w (things.Value kind value) owner linkless = linkless
+
+  some_linkless : {A : Type 0} (o : Option A) (w : World V) (f : A → World V) → IsLinkless w → ((a : A) → o ≡ Some a → IsLinkless (f a)) → IsLinkless (if_some o w f)
+  some_linkless None w f e h = e
+  some_linkless (Some a) w f e h = h a refl
+
+  pub fold_linkless : {A : Type 0} (f : World V → A → World V) (xs : List A) (w : World V) → ((v : World V) (a : A) → IsLinkless v → IsLinkless (f v a)) → IsLinkless w → IsLinkless (fold f w xs)
+  fold_linkless f [] w h e = e
+  fold_linkless f (x ∷ xs) w h e = fold_linkless f xs (f w x) h (h w x e)
+
+  thing_linkless : (w : World V) (number : ℕ) (x : Entry Thing) → IsLinkless w → entry_of w number ≡ Some x → is_linkless_thing x.thing ≡ true
+  thing_linkless w number x linkless e = all_found is_linkless_entry (handles.is_entry number) w.handles.entries x linkless.things e
+
+  pub move_linkless : (w : World V) (number owner : ℕ) → IsLinkless w → IsLinkless (move w number owner)
+  move_linkless w number owner linkless =
+      some_linkless (entry_of w number) w (λ x. note (take_thing (record w { handles = handles.renumber w.handles number x.thing owner }) x.thing owner) (Moved number (handles.next_number w.handles))) linkless
+      (λ x e.
+      let it = thing_linkless w number x linkless e in
+      let less : World V = record w { handles = handles.renumber w.handles number x.thing owner } in
+      let moved : IsLinkless less = linkless_with w less refl refl refl
+      (λ h. all_append is_linkless_entry (without (handles.is_entry number) w.handles.entries) (record { number = handles.next_number w.handles; thing = x.thing; owner = owner } ∷ []) (all_without is_linkless_entry (handles.is_entry number) w.handles.entries h) (and_from (is_linkless_thing x.thing) true it refl))
+      (λ h. h) linkless in
+      note_linkless (take_thing less x.thing owner) (Moved number (handles.next_number w.handles)) (take_thing_linkless less x.thing owner moved))
+
+  drop_linkless : (w : World V) (thing : Thing) → is_linkless_thing thing ≡ true → IsLinkless w → IsLinkless (drop w thing)
+  drop_linkless w (things.Bundle name) e linkless = linkless
+  drop_linkless w (things.Value kind value) e linkless = linkless
+  drop_linkless w (things.End end) e linkless = linkless_with w (drop w (things.End end)) refl refl refl (λ h. h) (λ h. h) linkless
+  drop_linkless w (things.Listener link) e linkless = cc
+  drop_linkless w (things.Socket link) e linkless = cc
+
+  pub retire_linkless : (w : World V) (number : ℕ) → IsLinkless w → IsLinkless (record w { handles = handles.retire w.handles number })
+  retire_linkless w number linkless = linkless_with w (record w { handles = handles.retire w.handles number }) refl refl refl (all_without is_linkless_entry (handles.is_entry number) w.handles.entries) (λ h. h) linkless
+
+  pub release_linkless : (w : World V) (number : ℕ) → IsLinkless w → IsLinkless (release w number)
+  release_linkless w number linkless =
+      some_linkless (entry_of w number) w (λ x. note (drop (record w { handles = handles.retire w.handles number }) x.thing) (Freed number)) linkless
+      (λ x e. note_linkless (drop (record w { handles = handles.retire w.handles number }) x.thing) (Freed number)
+      (drop_linkless (record w { handles = handles.retire w.handles number }) x.thing (thing_linkless w number x linkless e) (retire_linkless w number linkless)))
+
+  pub close_bundle_linkless : (w : World V) (owner name number : ℕ) → IsLinkless w → IsLinkless (close_bundle w owner name number)
+  close_bundle_linkless w owner name number linkless =
+      let less : World V = record w { handles = handles.retire w.handles number } in
+      linkless_with less (close_bundle w owner name number) refl refl refl (λ h. h) (λ h. h) (retire_linkless w number linkless)
+
+  pub free_bundle_linkless : (w : World V) (x : Closing) → IsLinkless w → IsLinkless (free_bundle w x)
+  free_bundle_linkless w x linkless = linkless_with w (free_bundle w x) refl refl refl (λ h. h) (λ h. h) linkless
+
+  pub give_all_linkless : (w : World V) (numbers : List ℕ) (owner : ℕ) → IsLinkless w → IsLinkless (give_all w numbers owner)
+  give_all_linkless w numbers owner linkless = fold_linkless (λ now number. move now number owner) numbers w (λ v a e. move_linkless v a owner e) linkless
+
+  pub bear_linkless : (w : World V) (view : V) (home : ℕ) → IsLinkless w → IsLinkless (bear w view home)
+  bear_linkless w view home linkless =
+      linkless_with w (bear w view home) refl refl refl (λ h. h) (λ h. all_append waits_linkless w.coroutines (record { number = w.last_coroutine + 1; body = view; mode = modes.Fresh words.Start (Number 0) } ∷ []) h refl) linkless

@@ -1,7 +1,6 @@
 -- What calls of channels do leaves a world without links so, and looks at no random number.
 use Rattle.std.proofs.Common.{◌≡◌, ◌∙◌, ◌+◌, ℕ, List, [], ◌∷◌, Bool, true, false, Option, Some, None, if◌then◌else◌, refl, ap}
 use Rattle.rand_core.specs.Stream.{Stream}
-use Rattle.dill_base.specs.declared.errno.Errno.{Errno}
 use Rattle.dill_base.specs.declared.errno.Errno.TheVariants.{Epipe}
 use Rattle.dill_base.specs.Maps.{if_some}
 use Rattle.dill_calls.specs.declared.answer.Answer.{Answer}
@@ -23,9 +22,9 @@ use Rattle.dill_rules.specs.Effects.{make, next_number}
 use Rattle.dill_rules.specs.Naming.{end_of_clause}
 use Rattle.dill_rules.specs.World.{World, call_of, reply, pend}
 use Rattle.laws_queue.specs.Lending.{lent}
-use Rattle.laws_sound.specs.Plain.{may_wait, IsPlain}
+use Rattle.laws_sound.specs.Linkless.{may_wait, IsLinkless}
 use Rattle.laws_sound.proofs.Blind.{some_blind, if_blind}
-use Rattle.laws_sound.proofs.Plainly.{plain_with, reply_plain, pend_plain, make_plain}
+use Rattle.laws_sound.proofs.Linkless.{linkless_with, reply_linkless, pend_linkless, make_linkless}
 
 module _ {V : Type 0} where
   -- the least fault of a choice is the same in worlds where each clause has the same one
@@ -35,53 +34,53 @@ module _ {V : Type 0} where
       ap (λ o. if_some o (choice_fault v (index + 1) xs) (λ e. Some (answers.Chosen index (Some e) None))) (h (end_of_clause x) (want_of x))
       ∙ ap (λ r. if_some (clause_fault w (end_of_clause x) (want_of x)) r (λ e. Some (answers.Chosen index (Some e) None))) (choice_same v w h (index + 1) xs)
 
-  -- ---- plain
+  -- ---- no links
 
-  some_stays : {A : Type 0} (o : Option A) (w : World V) (f : A → World V) → IsPlain w → ((a : A) → IsPlain (f a)) → IsPlain (if_some o w f)
+  some_stays : {A : Type 0} (o : Option A) (w : World V) (f : A → World V) → IsLinkless w → ((a : A) → IsLinkless (f a)) → IsLinkless (if_some o w f)
   some_stays None w f e h = e
   some_stays (Some a) w f e h = h a
 
-  if_stays : (b : Bool) (v w : World V) → IsPlain v → IsPlain w → IsPlain (if b then v else w)
+  if_stays : (b : Bool) (v w : World V) → IsLinkless v → IsLinkless w → IsLinkless (if b then v else w)
   if_stays true v w e f = e
   if_stays false v w e f = f
 
-  pub make_channel_plain : (w : World V) (who : ℕ) → IsPlain w → IsPlain (make_channel w who)
-  make_channel_plain w who plain =
+  pub make_channel_linkless : (w : World V) (who : ℕ) → IsLinkless w → IsLinkless (make_channel w who)
+  make_channel_linkless w who linkless =
       let ends = channels.next_ends w.channels in
       let more : World V = record w { channels = channels.make w.channels } in
-      let first = make_plain more (things.End ends.0) who refl (plain_with w more refl refl refl (λ h. h) (λ h. h) plain) in
-      reply_plain (make (make more (things.End ends.0) who) (things.End ends.1) who) who words.Chmake (answers.Pair (next_number w) (next_number w + 1)) (make_plain (make more (things.End ends.0) who) (things.End ends.1) who refl first)
+      let first = make_linkless more (things.End ends.0) who refl (linkless_with w more refl refl refl (λ h. h) (λ h. h) linkless) in
+      reply_linkless (make (make more (things.End ends.0) who) (things.End ends.1) who) who words.Chmake (answers.Pair (next_number w) (next_number w + 1)) (make_linkless (make more (things.End ends.0) who) (things.End ends.1) who refl first)
 
-  pub channel_done_plain : (w : World V) (who number : ℕ) → IsPlain w → IsPlain (channel_done w who number)
-  channel_done_plain w who number plain = some_stays (end_named w number) w (done_at w who) plain done
+  pub channel_done_linkless : (w : World V) (who number : ℕ) → IsLinkless w → IsLinkless (channel_done w who number)
+  channel_done_linkless w who number linkless = some_stays (end_named w number) w (done_at w who) linkless done
     where
-      done : (end : ℕ) → IsPlain (done_at w who end)
+      done : (end : ℕ) → IsLinkless (done_at w who end)
       done end =
           let ended : World V = record w { channels = channels.done w.channels end } in
           if_stays (has_ended w.channels end (Send [])) (reply w who words.Chdone (answers.Fault Epipe)) (reply ended who words.Chdone (answers.Number 0))
-          (reply_plain w who words.Chdone (answers.Fault Epipe) plain)
-          (reply_plain ended who words.Chdone (answers.Number 0) (plain_with w ended refl refl refl (λ h. h) (λ h. h) plain))
+          (reply_linkless w who words.Chdone (answers.Fault Epipe) linkless)
+          (reply_linkless ended who words.Chdone (answers.Number 0) (linkless_with w ended refl refl refl (λ h. h) (λ h. h) linkless))
 
-  answered_plain : (w : World V) (who index : ℕ) (answer : Answer) → IsPlain w → IsPlain (answer_clause w who index answer)
-  answered_plain w who index answer plain =
-      some_stays (call_of w who) w (λ call. reply w who (word_of call) (clause_answer call index answer)) plain (λ call. reply_plain w who (word_of call) (clause_answer call index answer) plain)
+  answered_linkless : (w : World V) (who index : ℕ) (answer : Answer) → IsLinkless w → IsLinkless (answer_clause w who index answer)
+  answered_linkless w who index answer linkless =
+      some_stays (call_of w who) w (λ call. reply w who (word_of call) (clause_answer call index answer)) linkless (λ call. reply_linkless w who (word_of call) (clause_answer call index answer) linkless)
 
-  met_plain : (w : World V) (who : ℕ) (call : Call) (index : ℕ) (m : Meeting) → IsPlain w → IsPlain (meet w who call index m)
-  met_plain w who call index (meetings.Met x) plain =
-      reply_plain (answer_clause w x.other x.clause x.others) who (word_of call) (clause_answer call index x.answer) (answered_plain w x.other x.clause x.others plain)
-  met_plain w who call index meetings.Ended plain = reply_plain w who (word_of call) (clause_answer call index (answers.Fault Epipe)) plain
-  met_plain w who call index meetings.Waits plain = plain
+  met_linkless : (w : World V) (who : ℕ) (call : Call) (index : ℕ) (m : Meeting) → IsLinkless w → IsLinkless (meet w who call index m)
+  met_linkless w who call index (meetings.Met x) linkless =
+      reply_linkless (answer_clause w x.other x.clause x.others) who (word_of call) (clause_answer call index x.answer) (answered_linkless w x.other x.clause x.others linkless)
+  met_linkless w who call index meetings.Ended linkless = reply_linkless w who (word_of call) (clause_answer call index (answers.Fault Epipe)) linkless
+  met_linkless w who call index meetings.Waits linkless = linkless
 
-  waits_plain : (w : World V) (who index : ℕ) (xs : List Clause) → IsPlain w → IsPlain (wait_all w who index xs)
-  waits_plain w who index [] plain = plain
-  waits_plain w who index (x ∷ xs) plain =
-      waits_plain (wait_at w who index x) who (index + 1) xs
-      (some_stays (end_named w (end_of_clause x)) w (λ end. record w { channels = channels.wait w.channels (record { who = who; clause = index; end = end; want = want_of x }) }) plain (λ end. plain_with w _ refl refl refl (λ h. h) (λ h. h) plain))
+  waits_linkless : (w : World V) (who index : ℕ) (xs : List Clause) → IsLinkless w → IsLinkless (wait_all w who index xs)
+  waits_linkless w who index [] linkless = linkless
+  waits_linkless w who index (x ∷ xs) linkless =
+      waits_linkless (wait_at w who index x) who (index + 1) xs
+      (some_stays (end_named w (end_of_clause x)) w (λ end. record w { channels = channels.wait w.channels (record { who = who; clause = index; end = end; want = want_of x }) }) linkless (λ end. linkless_with w _ refl refl refl (λ h. h) (λ h. h) linkless))
 
-  pub enter_channel_plain : (w : World V) (who : ℕ) (call : Call) → may_wait (without_bytes call) ≡ true → IsPlain w → IsPlain (enter_channel w who call)
-  enter_channel_plain w who call e plain =
+  pub enter_channel_linkless : (w : World V) (who : ℕ) (call : Call) → may_wait (without_bytes call) ≡ true → IsLinkless w → IsLinkless (enter_channel w who call)
+  enter_channel_linkless w who call e linkless =
       some_stays (first_done w who 0 (clauses_of call)) (wait_all (pend w who (without_bytes call)) who 0 (clauses_of call)) (λ x. meet w who call x.0 x.1)
-      (waits_plain (pend w who (without_bytes call)) who 0 (clauses_of call) (pend_plain w who (without_bytes call) e plain)) (λ x. met_plain w who call x.0 x.1 plain)
+      (waits_linkless (pend w who (without_bytes call)) who 0 (clauses_of call) (pend_linkless w who (without_bytes call) e linkless)) (λ x. met_linkless w who call x.0 x.1 linkless)
 
   -- ---- no random number is looked at
 

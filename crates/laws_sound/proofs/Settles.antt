@@ -1,4 +1,4 @@
--- What settling and expiring do without looking at random numbers, in a plain world.
+-- What settling and expiring do without looking at random numbers, in a world without links.
 use Rattle.std.proofs.Common.{◌≡◌, ◌∙◌, ◌==◌, ℕ, List, [], ◌∷◌, filter, reverse, find, true, Option, Some, None, refl, ap}
 use Rattle.std.proofs.lemmas.Bool.{and_parts}
 use Rattle.std.specs.List.{list_all}
@@ -23,7 +23,7 @@ use Rattle.dill_calls.specs.declared.answer.Answer.TheVariants.{Fault}
 use Rattle.dill_rules.specs.Giving.{give}
 use Rattle.dill_rules.specs.Settling.{close_owned, close_all, highest_first, is_owned_by, free_all, release_all, outcome_of, leave, finish, answer_due}
 use Rattle.laws_queue.specs.Lending.{lent}
-use Rattle.laws_sound.specs.Plain.{may_wait, waits_plainly}
+use Rattle.laws_sound.specs.Linkless.{may_wait, waits_linkless}
 use Rattle.laws_sound.proofs.Blind.{some_blind, if_blind, fold_blind, release_blind}
 use Rattle.laws_sound.proofs.Meeting.{choice_same}
 
@@ -41,10 +41,10 @@ module _ {V : Type 0} where
   due_blind u w n None e = refl
   due_blind u w n (Some call) e = ap (λ r. if_some r None (λ a. Some (n, call, a))) ((answer_blind u) w n call e)
 
-  pub first_blind : (u : Stream) (w : World V) (cs : List (Coroutine V)) → list_all waits_plainly cs ≡ true → first_some (answer_due ((lent u) w)) cs ≡ first_some (answer_due w) cs
+  pub first_blind : (u : Stream) (w : World V) (cs : List (Coroutine V)) → list_all waits_linkless cs ≡ true → first_some (answer_due ((lent u) w)) cs ≡ first_some (answer_due w) cs
   first_blind u w [] e = refl
   first_blind u w (c ∷ cs) e =
-      let h = and_parts (waits_plainly c) (list_all waits_plainly cs) e in
+      let h = and_parts (waits_linkless c) (list_all waits_linkless cs) e in
       ap (λ o. option_or o (first_some (answer_due ((lent u) w)) cs)) ((due_blind u) w c.number (pending_call c.mode) h.0) ∙ ap (λ o. option_or (answer_due w c) o) ((first_blind u) w cs h.1)
 
   pub give_blind : (u : Stream) (w : World V) (who : ℕ) (call : Call) (answer : Answer) → may_wait call ≡ true → give ((lent u) w) who call answer ≡ (lent u) (give w who call answer)

@@ -1,4 +1,4 @@
--- In a world without channels and links nothing is tried, and nothing is asked of the kernel.
+-- In a world without links nothing is tried, and nothing is asked of the kernel.
 use Rattle.std.proofs.Common.{◌≡◌, ◌∙◌, ℕ, List, [], ◌∷◌, ◌++◌, filter_map, find, Bool, true, false, Option, Some, None, if◌then◌else◌, refl, ap, is_some}
 use Rattle.std.proofs.lemmas.Bool.{and_parts}
 use Rattle.std.specs.Option.{option_map}
@@ -10,7 +10,7 @@ use Rattle.dill_rules.specs.declared.coroutine.Coroutine.{Coroutine}
 use Rattle.dill_rules.specs.Links.{Links}
 use Rattle.dill_rules.specs.Trying.{Try, closes, listen_of, listens, connect_of, connects, finishes, accepts, writes, shuts, reads, tries, is_stopped, is_next, next_try}
 use Rattle.dill_rules.specs.World.{World, pending_call}
-use Rattle.laws_sound.specs.Plain.{may_wait, waits_plainly, IsPlain}
+use Rattle.laws_sound.specs.Linkless.{may_wait, waits_linkless, IsLinkless}
 
 nothing_at : (f : Call → Option Try) (o : Option Call) → ((call : Call) → may_wait call ≡ true → f call ≡ None) → if_some o true may_wait ≡ true → if_some o None f ≡ None
 nothing_at f None h e = refl
@@ -40,27 +40,27 @@ module _ {V : Type 0} where
   connect_none w n (calls.Choose deadline all) e = refl
   connect_none w n _ e = cc
 
-  nothing_in : (f : ℕ → Call → Option Try) (cs : List (Coroutine V)) → ((n : ℕ) (call : Call) → may_wait call ≡ true → f n call ≡ None) → list_all waits_plainly cs ≡ true → filter_map (λ (c : Coroutine V). if_some (pending_call c.mode) None (f c.number)) cs ≡ []
+  nothing_in : (f : ℕ → Call → Option Try) (cs : List (Coroutine V)) → ((n : ℕ) (call : Call) → may_wait call ≡ true → f n call ≡ None) → list_all waits_linkless cs ≡ true → filter_map (λ (c : Coroutine V). if_some (pending_call c.mode) None (f c.number)) cs ≡ []
   nothing_in f [] h e = refl
   nothing_in f (c ∷ cs) h e =
-      let b = and_parts (waits_plainly c) (list_all waits_plainly cs) e in
+      let b = and_parts (waits_linkless c) (list_all waits_linkless cs) e in
       let none = nothing_at (f c.number) (pending_call c.mode) (h c.number) b.0 in
       rw none (nothing_in f cs h b.1)
 
-  -- in a plain world nothing is tried
-  pub tries_none : (w : World V) → IsPlain w → tries w ≡ []
-  tries_none w plain =
-      let l : listens w ≡ [] = nothing_in (listen_of w) w.coroutines (listen_none w) plain.calls in
-      let c : connects w ≡ [] = nothing_in (connect_of w) w.coroutines (connect_none w) plain.calls in
+  -- in a world without links nothing is tried
+  pub tries_none : (w : World V) → IsLinkless w → tries w ≡ []
+  tries_none w linkless =
+      let l : listens w ≡ [] = nothing_in (listen_of w) w.coroutines (listen_none w) linkless.calls in
+      let c : connects w ≡ [] = nothing_in (connect_of w) w.coroutines (connect_none w) linkless.calls in
       let v : Links → World V = λ m. record w { links = m } in
       ap (λ xs. closes w ++ xs ++ connects w ++ finishes w ++ accepts w ++ writes w ++ shuts w ++ reads w) l
       ∙ ap (λ xs. closes w ++ [] ++ xs ++ finishes w ++ accepts w ++ writes w ++ shuts w ++ reads w) c
-      ∙ ap (λ m. closes (v m) ++ [] ++ [] ++ finishes (v m) ++ accepts (v m) ++ writes (v m) ++ shuts (v m) ++ reads (v m)) plain.links
+      ∙ ap (λ m. closes (v m) ++ [] ++ [] ++ finishes (v m) ++ accepts (v m) ++ writes (v m) ++ shuts (v m) ++ reads (v m)) linkless.links
 
   -- and no close is due
-  pub closes_none : (w : World V) → IsPlain w → closes w ≡ []
-  closes_none w plain = ap (λ m. closes (record w { links = m })) plain.links
+  pub closes_none : (w : World V) → IsLinkless w → closes w ≡ []
+  closes_none w linkless = ap (λ m. closes (record w { links = m })) linkless.links
 
   -- so nothing is asked
-  pub ask_none : (w : World V) → IsPlain w → option_map (λ (x : Try). x.ask) (next_try w) ≡ None
-  ask_none w plain = ap (λ ts. option_map (λ (x : Try). x.ask) (find (is_next w) ts)) (now_none (is_some w.ended) (is_stopped w) (closes w) (tries w) (closes_none w plain) (tries_none w plain))
+  pub ask_none : (w : World V) → IsLinkless w → option_map (λ (x : Try). x.ask) (next_try w) ≡ None
+  ask_none w linkless = ap (λ ts. option_map (λ (x : Try). x.ask) (find (is_next w) ts)) (now_none (is_some w.ended) (is_stopped w) (closes w) (tries w) (closes_none w linkless) (tries_none w linkless))

@@ -21,7 +21,7 @@ use Rattle.dill_rules.specs.Trying.{Try}
 use Rattle.dill_rules.specs.Turning.{turn}
 use Rattle.dill_rules.specs.World.{World, begin, call_of, coroutine_of, is_answered, pending_call}
 use Rattle.laws_queue.specs.Kept.{Kept, has_answer, opening_kept, queued, kept_turn, kept_hear, kept_expire_next, kept_expired, root_closed, kept_shut, kept_woke}
-use Rattle.laws_sound.specs.Plain.{MakesLinkless, IsPlain}
+use Rattle.laws_sound.specs.Linkless.{MakesLinkless, IsLinkless}
 use Rattle.dill_rules.specs.LinkAnswers.{is_on_stack}
 use Rattle.laws_queue.specs.Well.{occurs, is_at, Numbered, IsWell}
 use Rattle.laws_sound.specs.Order.{closes, is_there, IsInOrder}
@@ -100,15 +100,15 @@ pub record KeepsRest {V : Type 0} (p : Program V) : Type 0 where
 abbrev pub StepsKeepRest : {V : Type 0} → Program V → Type 0
 StepsKeepRest p = IsLawful p → KeepsRest p
 
--- without channels and links nothing is due behind each step; after an expiry something may be due until the world settles
+-- without links nothing is due behind each step; after an expiry something may be due until the world settles
 pub record KeepsSettled {V : Type 0} (p : Program V) : Type 0 where
   pub opening : (view : V) → IsSettled (opening_kept view).world
-  pub turned : (k : Kept V) (lack : Option LackPlace) → IsWell p k → IsPlain k.world → IsOrderly k.world → IsSettled k.world → IsSettled (kept_turn p lack k).world
-  pub started : (k : Kept V) → IsPlain k.world → IsSettled k.world → IsSettled (begin k.world)
-  pub settled : (k : Kept V) → IsWell p k → IsPlain k.world → IsSettled (queued (settle k.world) k.ready k.early).world
-  pub expired : (k : Kept V) → IsWell p k → IsPlain k.world → IsSettled (kept_expired k).world
-  pub shut : (k : Kept V) → IsWell p k → IsPlain k.world → IsSettled (kept_shut k).world
-  pub woke : (k : Kept V) (told : ℕ) (ready : List Ready) → IsPlain k.world → IsSettled k.world → IsSettled (kept_woke k told ready).world
+  pub turned : (k : Kept V) (lack : Option LackPlace) → IsWell p k → IsLinkless k.world → IsOrderly k.world → IsSettled k.world → IsSettled (kept_turn p lack k).world
+  pub started : (k : Kept V) → IsLinkless k.world → IsSettled k.world → IsSettled (begin k.world)
+  pub settled : (k : Kept V) → IsWell p k → IsLinkless k.world → IsSettled (queued (settle k.world) k.ready k.early).world
+  pub expired : (k : Kept V) → IsWell p k → IsLinkless k.world → IsSettled (kept_expired k).world
+  pub shut : (k : Kept V) → IsWell p k → IsLinkless k.world → IsSettled (kept_shut k).world
+  pub woke : (k : Kept V) (told : ℕ) (ready : List Ready) → IsLinkless k.world → IsSettled k.world → IsSettled (kept_woke k told ready).world
 
 abbrev pub StepsKeepSettled : {V : Type 0} → Program V → Type 0
 StepsKeepSettled p = IsLawful p → MakesLinkless p → KeepsSettled p

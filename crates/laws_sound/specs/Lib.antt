@@ -1,5 +1,5 @@
-pub mod Plain
-pub mod PlainLaws
+pub mod Linkless
+pub mod LinklessLaws
 pub mod Order
 pub mod Orderly
 pub mod Laws

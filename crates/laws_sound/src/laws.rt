@@ -1,19 +1,19 @@
-ghost use Rattle.laws_sound.specs.PlainLaws.{KeepsPlain, FollowsPlainly};
+ghost use Rattle.laws_sound.specs.LinklessLaws.{KeepsLinkless, FollowsLinkless};
 ghost use Rattle.laws_sound.specs.Numbers.{NumbersOnce};
 ghost use Rattle.laws_sound.specs.Laws.{KeepsOrder, NotesNumbers, KeepsRest, KeepsSettled, OrderIsSound, CancelsAll, GoesOn, RootGoesOn, BundleGoesOn, SettlesApart};
 
 use dill_calls::Body;
 use dill_plain::PlainBody;
 
-/// Each step of programs that make plain calls leaves a world without channels and links so.
-pub fn steps_keep_plain<B: PlainBody>()
-    ensures { KeepsPlain B.means }
+/// Each step of programs that make no call of a link leaves a world without links so.
+pub fn steps_keep_linkless<B: PlainBody>()
+    ensures { KeepsLinkless B.means }
 {}
 
-/// Without channels and links the steps of what a core keeps draw no random number, so none has to be lent for them, and
+/// Without links the steps of what a core keeps draw no random number, so none has to be lent for them, and
 /// nothing is asked of the kernel.
-pub fn follows_plainly<B: PlainBody>()
-    ensures { FollowsPlainly B.means }
+pub fn follows_linkless<B: PlainBody>()
+    ensures { FollowsLinkless B.means }
 {}
 
 /// Where nobody waits for a stack nothing is due behind a whole settling, with the looks behind it.
@@ -68,7 +68,7 @@ pub fn steps_keep_rest<B: Body>()
     ensures { KeepsRest B.means }
 {}
 
-/// Without channels and links nothing is due behind each step. After an expiry something may be due until the world settles.
+/// Without links nothing is due behind each step. After an expiry something may be due until the world settles.
 pub fn steps_keep_settled<B: PlainBody>()
     ensures { KeepsSettled B.means }
 {}

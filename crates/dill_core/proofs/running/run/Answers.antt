@@ -10,8 +10,8 @@ returns-in-Ok-clause-runs g c = λ begun.
     let p = g.B.Body.means in
     let keys = g.R.Rng.stream c.args.keys.now in
     let keeps = c.steps_keep_well.ensures in
-    let stays = c.steps_keep_plain.ensures in
-    let follows = c.follows_plainly.ensures in
+    let stays = c.steps_keep_linkless.ensures in
+    let follows = c.follows_linkless.ensures in
     let core = c.in-Ok.core in
     let stands = stands_first p keeps stays follows core c.args.first keys c.requires.begins c.in-Ok.ensures in
     concludes_alike (core_machine p) (machine_of p) g.K.Kernel.step c.args.traced c.args.turns (Stands p) (alike p keeps stays follows) _ _ core (opening_state c.args.first keys) keys _ _ _ c.drive.result stands c.drive.ensures.runs

@@ -1,5 +1,5 @@
 use Rattle.laws_debt.proofs.Debting.{debts_fall}
-use Rattle.laws_sound.proofs.Linkless.{makes_linkless}
+use Rattle.laws_sound.proofs.Built.{makes_linkless}
 use Rattle.laws_debt.proofs.laws.debts_fall.Goals as goal
 
 pub returns : goal.returns

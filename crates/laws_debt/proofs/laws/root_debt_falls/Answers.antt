@@ -1,5 +1,5 @@
 use Rattle.laws_debt.proofs.Rooting.{root_debt_falls}
-use Rattle.laws_sound.proofs.Linkless.{makes_linkless}
+use Rattle.laws_sound.proofs.Built.{makes_linkless}
 use Rattle.laws_debt.proofs.laws.root_debt_falls.Goals as goal
 
 pub returns : goal.returns

@@ -1,5 +1,5 @@
 use Rattle.laws_debt.proofs.Rooting.{steps_keep_stable}
-use Rattle.laws_sound.proofs.Linkless.{makes_linkless}
+use Rattle.laws_sound.proofs.Built.{makes_linkless}
 use Rattle.laws_debt.proofs.laws.steps_keep_stable.Goals as goal
 
 pub returns : goal.returns

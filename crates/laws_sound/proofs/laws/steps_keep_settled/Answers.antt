@@ -1,5 +1,5 @@
 use Rattle.laws_sound.proofs.Calming.{steps_keep_settled}
-use Rattle.laws_sound.proofs.Linkless.{makes_linkless}
+use Rattle.laws_sound.proofs.Built.{makes_linkless}
 use Rattle.laws_sound.proofs.laws.steps_keep_settled.Goals as goal
 
 pub returns : goal.returns

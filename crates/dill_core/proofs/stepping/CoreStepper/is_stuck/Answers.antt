@@ -9,4 +9,4 @@ returns g c =
     let s = c.self.inside in
     let h : Holding g.row.B.Denot = record { world = s.world; ready = s.ready.items; early = s.early } in
     let none : has_answer h.ready ≡ false = ap (λ (x : Holding g.row.B.Denot). has_answer x.ready) c.self.view_is ∙ sym c.is_answered.ensures ∙ c.if-is_answered.false in
-    none_is c.least_due.result c.is_none.result c.is_none.ensures ∙ ap is_none c.least_due.ensures ∙ sym (stuck_is (kept_of h) c.self.invariant.stable.plain none) ∙ ap (λ (x : Holding g.row.B.Denot). kept_stuck (kept_of x)) c.self.view_is
+    none_is c.least_due.result c.is_none.result c.is_none.ensures ∙ ap is_none c.least_due.ensures ∙ sym (stuck_is (kept_of h) c.self.invariant.stable.linkless none) ∙ ap (λ (x : Holding g.row.B.Denot). kept_stuck (kept_of x)) c.self.view_is

@@ -19,14 +19,14 @@ use Rattle.dill_rules.specs.Naming.{uses_link}
 use Rattle.dill_rules.specs.World.{World, at_start, pending_call}
 
 -- a bundle, an end of a channel, or an application's value
-abbrev pub is_plain_thing : Thing → Bool
-is_plain_thing (things.Bundle name) = true
-is_plain_thing (things.End end) = true
-is_plain_thing (things.Value kind value) = true
-is_plain_thing _ = false
+abbrev pub is_linkless_thing : Thing → Bool
+is_linkless_thing (things.Bundle name) = true
+is_linkless_thing (things.End end) = true
+is_linkless_thing (things.Value kind value) = true
+is_linkless_thing _ = false
 
-abbrev pub is_plain_entry : Entry Thing → Bool
-is_plain_entry x = is_plain_thing x.thing
+abbrev pub is_linkless_entry : Entry Thing → Bool
+is_linkless_entry x = is_linkless_thing x.thing
 
 -- the calls that may stay pending and wait for no link
 abbrev pub may_wait : Call → Bool
@@ -39,16 +39,16 @@ may_wait (calls.Choose deadline all) = true
 may_wait _ = false
 
 -- what it is pending in, if it is, is such a call
-abbrev pub waits_plainly : {V : Type 0} → Coroutine V → Bool
-waits_plainly c = if_some (pending_call c.mode) true may_wait
+abbrev pub waits_linkless : {V : Type 0} → Coroutine V → Bool
+waits_linkless c = if_some (pending_call c.mode) true may_wait
 
 -- no links are there, and nobody waits for one
-pub record IsPlain {V : Type 0} (w : World V) : Type 0 where
+pub record IsLinkless {V : Type 0} (w : World V) : Type 0 where
   pub links : w.links ≡ no_links
   pub place : w.place ≡ at_start
   pub wrote : w.wrote ≡ []
-  pub things : list_all is_plain_entry w.handles.entries ≡ true
-  pub calls : list_all waits_plainly w.coroutines ≡ true
+  pub things : list_all is_linkless_entry w.handles.entries ≡ true
+  pub calls : list_all waits_linkless w.coroutines ≡ true
 
 -- the call attaches a layer at its entry
 abbrev pub attaches : Word → Bool
