@@ -1,4 +1,4 @@
--- Once nothing is due, who is pending and cancelled is answered by nobody whom it could meet: its answer would be due, or it lowers whatever it is.
+-- Once nothing is due, nobody who is cancelled is pending in a call that blocks. So whoever is met is not cancelled, or its call is an `hclose`, of which each answer lowers.
 use Rattle.std.proofs.Common.{◌≡◌, ◌∙◌, inl, inr, ℕ, List, [], ◌∷◌, Bool, true, false, Option, Some, None, if◌then◌else◌, refl, sym, ap, subst}
 use Rattle.std.specs.List.{AllByRecursion}
 use Rattle.std.specs.Option.{option_or}
