@@ -15,7 +15,7 @@ fn fronts(alloc: Global, kind: Kind, bytes: &[u8], limit: usize) -> Result<Vec<u
 }
 
 #[test]
-fn each_front_of_a_framing_is_judged_at_its_last_byte(rt: HostRuntime) -> Result<(), Fail> {
+fn each_front_is_judged_at_its_last_byte(rt: HostRuntime) -> Result<(), Fail> {
     let alloc = rt.alloc();
     let table = [
         (
@@ -44,35 +44,37 @@ fn each_front_of_a_framing_is_judged_at_its_last_byte(rt: HostRuntime) -> Result
             b"need;need;need;need;need;EMSGSIZE;ECONNRESET;",
         ),
         (Kind::Suffix, b"ab\r\r\n", 64, b"need;need;need;need;ab\r;"),
-    ];
-    for (kind, bytes, limit, want) in table {
-        let told = fronts(alloc, kind, bytes, limit)?;
-        assert_eq!(rt; told.as_slice(), want);
-    }
-    Ok(())
-}
-
-#[test]
-fn each_front_of_a_frame_is_judged_at_its_last_byte(rt: HostRuntime) -> Result<(), Fail> {
-    let alloc = rt.alloc();
-    let table = [
         (
-            b"\x82\xfe\x00\x7e" as &[u8],
-            b"need;need;need;EMSGSIZE;ECONNRESET;" as &[u8],
+            Kind::Server,
+            b"\x82\xfe\x00\x7e",
+            100,
+            b"need;need;need;EMSGSIZE;ECONNRESET;",
         ),
-        (b"\x82\xfe\x00\x7d", b"need;need;need;EPROTO;ECONNRESET;"),
-        (b"\x81\xfe\x00\x05", b"need;need;need;EPROTO;ECONNRESET;"),
-        (b"\xc1\x80", b"need;EPROTO;ECONNRESET;"),
-        (b"\x89\xfe", b"need;EPROTO;ECONNRESET;"),
-        (b"\x80\x80", b"need;EPROTO;ECONNRESET;"),
-        (b"\x81\x05", b"need;EPROTO;ECONNRESET;"),
         (
+            Kind::Server,
+            b"\x82\xfe\x00\x7d",
+            100,
+            b"need;need;need;EPROTO;ECONNRESET;",
+        ),
+        (
+            Kind::Server,
+            b"\x81\xfe\x00\x05",
+            100,
+            b"need;need;need;EPROTO;ECONNRESET;",
+        ),
+        (Kind::Server, b"\xc1\x80", 100, b"need;EPROTO;ECONNRESET;"),
+        (Kind::Server, b"\x89\xfe", 100, b"need;EPROTO;ECONNRESET;"),
+        (Kind::Server, b"\x80\x80", 100, b"need;EPROTO;ECONNRESET;"),
+        (Kind::Server, b"\x81\x05", 100, b"need;EPROTO;ECONNRESET;"),
+        (
+            Kind::Server,
             b"\x82\xff\x80\0\0\0\0\0\0\0",
+            100,
             b"need;need;need;need;need;need;need;need;need;EPROTO;ECONNRESET;",
         ),
     ];
-    for (bytes, want) in table {
-        let told = fronts(alloc, Kind::Server, bytes, 100)?;
+    for (kind, bytes, limit, want) in table {
+        let told = fronts(alloc, kind, bytes, limit)?;
         assert_eq!(rt; told.as_slice(), want);
     }
     Ok(())

@@ -72,7 +72,9 @@ fn answered(alloc: Global, kind: Kind, bytes: &[u8], limit: usize) -> Result<Str
 }
 
 #[test]
-fn a_message_is_given_through_its_framing(rt: HostRuntime) -> Result<(), Fail> {
+fn a_message_is_given_through_its_layer_and_the_last_ping_is_answered(
+    rt: HostRuntime,
+) -> Result<(), Fail> {
     let alloc = rt.alloc();
     let table = [
         (
@@ -93,68 +95,53 @@ fn a_message_is_given_through_its_framing(rt: HostRuntime) -> Result<(), Fail> {
             8,
             "Given(Bytes(Octets { bytes: [104, 105] })) Given(Bytes(Octets { bytes: [] })) []",
         ),
-    ];
-    for (kind, bytes, limit, told) in table {
-        let said = answered(alloc, kind, bytes, limit)?;
-        assert_eq!(rt; said.as_str(), told);
-    }
-    Ok(())
-}
-
-#[test]
-fn a_websocket_layer_joins_fragments_and_judges_frames(rt: HostRuntime) -> Result<(), Fail> {
-    let alloc = rt.alloc();
-    let table = [
         (
-            b"\x81\x85\x37\xfa\x21\x3d\x7f\x9f\x4d\x51\x58" as &[u8],
+            Kind::Server,
+            b"\x81\x85\x37\xfa\x21\x3d\x7f\x9f\x4d\x51\x58",
             64,
             "Given(Bytes(Octets { bytes: [72, 101, 108, 108, 111] })) Need []",
         ),
         (
+            Kind::Server,
             b"\x01\x83\0\0\0\0Hel\x89\x80\0\0\0\0\x80\x82\0\0\0\0lo",
             64,
             "Given(Bytes(Octets { bytes: [72, 101, 108, 108, 111] })) Need [138, 0]",
         ),
-        (b"\x81\xfe\x00\x05", 64, "Fault(Eproto) Fault(Eproto) []"),
-        (b"\x81\x05", 64, "Fault(Eproto) Fault(Eproto) []"),
         (
+            Kind::Server,
             b"\x81\x85\0\0\0\0Hello",
             4,
             "Fault(Emsgsize) Fault(Emsgsize) []",
         ),
         (
+            Kind::Server,
             b"\x81\x81\0\0\0\0\xff",
             64,
             "Fault(Eproto) Fault(Eproto) []",
         ),
-        (b"\x88\x80\0\0\0\0", 64, "Fault(Epipe) Fault(Epipe) []"),
-        (b"\x01\x81\0\0\0\0a", 64, "Need Need []"),
-    ];
-    for (bytes, limit, told) in table {
-        let said = answered(alloc, Kind::Server, bytes, limit)?;
-        assert_eq!(rt; said.as_str(), told);
-    }
-    Ok(())
-}
-
-#[test]
-fn the_last_ping_is_answered_and_a_client_masks_its_pong(rt: HostRuntime) -> Result<(), Fail> {
-    let alloc = rt.alloc();
-    let table = [
+        (
+            Kind::Server,
+            b"\x88\x80\0\0\0\0",
+            64,
+            "Fault(Epipe) Fault(Epipe) []",
+        ),
+        (Kind::Server, b"\x01\x81\0\0\0\0a", 64, "Need Need []"),
         (
             Kind::Client,
-            b"\x89\x02hi" as &[u8],
+            b"\x89\x02hi",
+            8,
             "Need Need [138, 130, 0, 0, 0, 1, 104, 105]",
         ),
         (
             Kind::Server,
             b"\x89\x81\0\0\0\0a\x89\x81\0\0\0\0b",
+            8,
             "Need Need [138, 1, 98]",
         ),
-        (Kind::Server, b"\x8a\x80\0\0\0\0", "Need Need []"),
+        (Kind::Server, b"\x8a\x80\0\0\0\0", 8, "Need Need []"),
     ];
-    for (kind, bytes, told) in table {
-        let said = answered(alloc, kind, bytes, 8)?;
+    for (kind, bytes, limit, told) in table {
+        let said = answered(alloc, kind, bytes, limit)?;
         assert_eq!(rt; said.as_str(), told);
     }
     Ok(())
