@@ -164,7 +164,7 @@ module _ {V : Type 0} (p : Program V) (law : IsLawful p) (unlinked : MakesLinkle
       let good = good_stable p k stable in
       let d = call_pends p w n call e in
       let r = pending_runs p w n call good.sits d in
-      hushes w n call r.1 c (unanswered p w n call settled d)
+      hushes w n call r.1 c (unanswered w n call settled d)
 
   -- what is given up at its deadline leaves the bundles, and the calls of others
   pub record Leaves (w v : World V) : Type 0 where

@@ -38,8 +38,8 @@ module _ {V : Type 0} where
       at (Some a) i g = cc
 
   -- nothing is due of who is pending
-  pub unanswered : (p : Program V) (w : World V) (n : ℕ) (call : Call) → IsSettled w → PendsIn w n call → answer_of w n call ≡ None
-  unanswered p w n call settled d =
+  pub unanswered : (w : World V) (n : ℕ) (call : Call) → IsSettled w → PendsIn w n call → answer_of w n call ≡ None
+  unanswered w n call settled d =
       let none = all_found (λ x. answer_due w x ≡ None) (is_coroutine n) d.one w.coroutines d.found (first_none w w.coroutines settled.answers) in
       let number : d.one.number ≡ n = number_of d.one.number n (found_passes (is_coroutine n) w.coroutines d.one d.found) in
       subst (λ m. answer_of w m call ≡ None) number (due_none w d.one call d.pends none)
@@ -56,4 +56,4 @@ module _ {V : Type 0} where
   pub unmet : (p : Program V) (w : World V) → AllSit p w.coroutines → IsSettled w → (n : ℕ) (call : Call) (answer : Answer) → call_of w n ≡ Some call → ((c : Coroutine V) → coroutine_of w n ≡ Some c → is_cancelled w n ≡ true) → Lowers (word_of call) answer
   unmet p w sits settled n call answer e cancelled =
       let d = call_pends p w n call e in
-      lowers_unmet w n call answer (pending_runs p w n call sits d).1 (cancelled d.one d.found) (unanswered p w n call settled d)
+      lowers_unmet w n call answer (pending_runs p w n call sits d).1 (cancelled d.one d.found) (unanswered w n call settled d)
