@@ -44,16 +44,27 @@ pub fn heard(log: &mut Vec<u8>, stack: &mut Stack) -> Result<(), Fail> {
     note(log, &stack.greeted())
 }
 
+/// A server's handshake, whose bytes come in one piece.
+fn greeted(alloc: Global, log: &mut Vec<u8>, bytes: &[u8]) -> Result<Stack, Fail> {
+    let mut stack = expecting(alloc, bytes)?;
+    heard(log, &mut stack)?;
+    gone(log, &mut stack)?;
+    heard(log, &mut stack)?;
+    Ok(stack)
+}
+
+/// Two messages, and what is sent behind them.
+fn two_messages(log: &mut Vec<u8>, stack: &mut Stack) -> Result<(), Fail> {
+    message(log, stack, 64)?;
+    message(log, stack, 64)?;
+    gone(log, stack)
+}
+
 /// A server's session whose bytes come in one piece: its handshake, and three receives with what they send.
 fn served(alloc: Global, bytes: &[u8]) -> Result<Vec<u8>, Fail> {
     let mut log = Vec::new(alloc);
-    let mut stack = expecting(alloc, bytes)?;
-    heard(&mut log, &mut stack)?;
-    gone(&mut log, &mut stack)?;
-    heard(&mut log, &mut stack)?;
-    message(&mut log, &mut stack, 64)?;
-    message(&mut log, &mut stack, 64)?;
-    gone(&mut log, &mut stack)?;
+    let mut stack = greeted(alloc, &mut log, bytes)?;
+    two_messages(&mut log, &mut stack)?;
     message(&mut log, &mut stack, 64)?;
     refused(&mut log, &stack, 64)?;
     Ok(log)

@@ -96,8 +96,8 @@ fn a_request_is_answered_and_its_body_stays_unread(rt: HostRuntime) -> Result<()
     Ok(())
 }
 
-/// What a receive finds in a request line of so many bytes without its CRLF, and in these bytes behind it.
-fn long_line(alloc: Global, count: u32, rest: &[u8]) -> Result<String, Fail> {
+/// A request line of so many bytes without its CRLF, and these bytes behind it.
+fn line_of(alloc: Global, count: u32, rest: &[u8]) -> Result<Vec<u8>, Fail> {
     let mut bytes = Vec::new(alloc);
     bytes.extend_from_slice(b"GET /")?;
     for _at in 14..count {
@@ -105,11 +105,22 @@ fn long_line(alloc: Global, count: u32, rest: &[u8]) -> Result<String, Fail> {
     }
     bytes.extend_from_slice(b" HTTP/1.1")?;
     bytes.extend_from_slice(rest)?;
-    let mut stack = stood(alloc, bytes.as_slice(), Kind::Http)?;
-    match request(&mut stack)? {
+    Ok(bytes)
+}
+
+/// What a receive finds in it.
+fn found(alloc: Global, said: ReadOut) -> Result<String, Fail> {
+    match said {
         ReadOut::Given(_) => Ok(format!(in alloc; "given")?),
         other => Ok(format!(in alloc; "{other:?}")?),
     }
+}
+
+fn long_line(alloc: Global, count: u32, rest: &[u8]) -> Result<String, Fail> {
+    let bytes = line_of(alloc, count, rest)?;
+    let mut stack = stood(alloc, bytes.as_slice(), Kind::Http)?;
+    let said = request(&mut stack)?;
+    found(alloc, said)
 }
 
 #[test]
