@@ -9,8 +9,8 @@ use dill_calls::{Note, Ran, Word};
 use dill_drive::Stepper;
 use dill_kernel::{Limit, ReadyList};
 use dill_plain::PlainBody;
-use dill_rules::Coroutine;
 use dill_steps::{least_due, waiting_from};
+use dill_world::Row;
 use laws_debt::root_debt_falls;
 use rand_core::Rng;
 
@@ -25,12 +25,12 @@ fn until(due: Option<u64>) -> Limit
 }
 
 /// How many coroutines of a list by rising number have this number or a lower one.
-fn place_behind<B>(coroutines: &[Coroutine<B>], number: u64) -> usize
+fn place_behind<B>(coroutines: &[Row<B>], number: u64) -> usize
     requires { IsNonDecreasingBy (λ c. c.number) coroutines.now }
     ensures within { result ≤ length coroutines.now }
     ensures low { AreUpTo number coroutines.now result }
 {
-    coroutines.partition_point(|c| c.number <= number)
+    coroutines.partition_point(|c| c.number() <= number)
 }
 
 impl<B: PlainBody> Stepper for Core<B> {

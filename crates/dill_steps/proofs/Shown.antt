@@ -1,19 +1,23 @@
 -- What a turn leads to and shows, from what the code does of it.
-use Rattle.std.proofs.Common.{◌≡◌, ◌∙◌, ℕ, Bool, true, false, ◌&&◌, Option, Some, None, if◌then◌else◌, MatchOption, refl, sym, ap, subst}
+use Rattle.std.proofs.Common.{◌≡◌, ◌∙◌, ℕ, ◌==◌, List, [], ◌∷◌, find, cond, Bool, true, false, ◌&&◌, Option, Some, None, if◌then◌else◌, MatchOption, refl, sym, ap, subst}
 use Rattle.dill_calls.specs.declared.answer.Answer.{Answer}
+use Rattle.dill_calls.specs.declared.answer.Answer.TheVariants.{Number}
+use Rattle.dill_calls.specs.declared.word.Word.{Word}
+use Rattle.dill_calls.specs.declared.word.Word.TheVariants.{Start}
 use Rattle.dill_calls.specs.declared.body.Next.{Next}
 use Rattle.dill_calls.specs.declared.body.Next.TheVariants as nexts
 use Rattle.dill_calls.specs.declared.ran.LackPlace.{LackPlace}
 use Rattle.dill_calls.specs.declared.ran.LackPlace.TheVariants.{Build, Entry}
 use Rattle.dill_calls.specs.declared.ran.Ran.{Ran}
 use Rattle.dill_calls.specs.Program.{Program, Move, Calls, Ends, Turns}
-use Rattle.dill_base.specs.Maps.{if_some}
+use Rattle.dill_base.specs.Maps.{if_some, change}
 use Rattle.dill_plain.specs.Plain.{MovesPlain}
 use Rattle.dill_rules.specs.declared.coroutine.Coroutine.{Coroutine}
-use Rattle.dill_rules.specs.World.{World, coroutine_of, begin}
+use Rattle.dill_rules.specs.declared.coroutine.Mode.TheVariants as modes
+use Rattle.dill_rules.specs.World.{World, is_coroutine, coroutine_of, with_mode, set_mode, begin}
 use Rattle.dill_rules.specs.Entering.{entered, may_lack_entry}
 use Rattle.dill_rules.specs.Settling.{settle}
-use Rattle.dill_rules.specs.Turning.{is_build, is_entry, resume, may_lack_build, may_lack_move, make_move, lack_move, answer_given, go_on, turn, lack_met, shown}
+use Rattle.dill_rules.specs.Turning.{is_build, is_entry, resume, may_lack_build, may_lack_move, make_move, lack_move, as_running, given_of, answer_given, go_on, turn, lack_met, shown}
 use Rattle.dill_steps.specs.declared.turning.Went.{Went}
 use Rattle.dill_steps.specs.Needs.{HasView}
 use Rattle.dill_world.specs.Steps.{Resumed, WentOn}
@@ -111,3 +115,52 @@ module _ {V : Type 0} where
   shows p w mid who went g view has =
       let it : g.one ≡ has.one = same_one (coroutine_of w who) (coroutine_of w who) g.one has.one refl g.found has.found in
       shown_at p w mid who went g ∙ ap (λ v. shown p went.lack w who v) (ap (λ c. c.body) it ∙ has.same)
+
+  found_running : (b : Bool) (who : ℕ) (c : Coroutine V) (cs : List (Coroutine V)) (one : Coroutine V) → (c.number == who) ≡ b → cond b (Some c) (find (is_coroutine who) cs) ≡ Some one → (find (is_coroutine who) cs ≡ Some one → find (is_coroutine who) (change (is_coroutine who) (with_mode modes.Running) cs) ≡ Some (with_mode modes.Running one)) → find (is_coroutine who) (cond b (with_mode modes.Running c ∷ cs) (c ∷ change (is_coroutine who) (with_mode modes.Running) cs)) ≡ Some (with_mode modes.Running one)
+  found_running true who c cs one e f h = let it : c ≡ one = cc in rw e (ap (λ d. Some (with_mode modes.Running d)) it)
+  found_running false who c cs one e f h = rw e (h f)
+
+  pub runs_still : (who : ℕ) (cs : List (Coroutine V)) (one : Coroutine V) → find (is_coroutine who) cs ≡ Some one → find (is_coroutine who) (change (is_coroutine who) (with_mode modes.Running) cs) ≡ Some (with_mode modes.Running one)
+  runs_still who [] one e = cc
+  runs_still who (c ∷ cs) one e = found_running (c.number == who) who c cs one refl e (runs_still who cs one)
+
+  twice_at : (b : Bool) (who : ℕ) (view : V) (c : Coroutine V) (cs : List (Coroutine V)) → (c.number == who) ≡ b → change (is_coroutine who) (as_running view) (change (is_coroutine who) (with_mode modes.Running) cs) ≡ change (is_coroutine who) (as_running view) cs → change (is_coroutine who) (as_running view) (cond b (with_mode modes.Running c ∷ cs) (c ∷ change (is_coroutine who) (with_mode modes.Running) cs)) ≡ cond b (as_running view c ∷ cs) (c ∷ change (is_coroutine who) (as_running view) cs)
+  twice_at true who view c cs e h = rw e refl
+  twice_at false who view c cs e h = rw e (ap (λ ds. c ∷ ds) h)
+
+  twice : (who : ℕ) (view : V) (cs : List (Coroutine V)) → change (is_coroutine who) (as_running view) (change (is_coroutine who) (with_mode modes.Running) cs) ≡ change (is_coroutine who) (as_running view) cs
+  twice who view [] = refl
+  twice who view (c ∷ cs) = twice_at (c.number == who) who view c cs refl (twice who view cs)
+
+  -- who makes its call may go on
+  pub may_still : (p : Program V) (w : World V) (who : ℕ) → MayGoOn p w who → MayGoOn p (set_mode w who modes.Running) who
+  may_still p w who may = record { one = with_mode modes.Running may.one; found = runs_still who w.coroutines may.one may.found; real = may.real; some = may.some }
+
+  -- .. and has gone on as from its answer
+  pub gone_before : (p : Program V) (w mid : World V) (who : ℕ) (given : Answer) (went : Went) → MayGoOn p w who → Gone p (set_mode w who modes.Running) mid who given went → Gone p w mid who given went
+  gone_before p w mid who given went may g =
+      let o = coroutine_of (set_mode w who modes.Running) who in
+      let same : g.one ≡ with_mode modes.Running may.one = same_one o o g.one (with_mode modes.Running may.one) refl g.found (runs_still who w.coroutines may.one may.found) in
+      let body : g.one.body ≡ may.one.body = ap (λ c. c.body) same in
+      let world : resume (set_mode w who modes.Running) who g.view ≡ resume w who g.view = ap (λ cs. record w { coroutines = cs }) (twice who g.view w.coroutines) in
+      record {
+        one = may.one;
+        found = may.found;
+        view = g.view;
+        next = g.next;
+        moved = subst (λ b. g.view ≡ (if is_build went.lack then p.short b given else (p.next b given).0)) body g.moved;
+        so = subst (λ b. WentSo p (resume w who g.view) mid who g.view g.next (p.next b given).1 went) body (subst (λ v. WentSo p v mid who g.view g.next (p.next g.one.body given).1 went) world g.so);
+      }
+
+  -- what was taken is what it is given
+  pub taken_is : (w : World V) (who : ℕ) (word : Word) (given twin : Answer) (o : Option (Coroutine V)) → o ≡ coroutine_of w who → ◌≡◌ {A = Option (Word × Answer × Answer)} (Some (word, given, twin)) (if_some o None (λ c. Some ((given_of c.mode).0, (given_of c.mode).1, (given_of c.mode).1))) → (word ≡ (answer_given w who).0) × (given ≡ (answer_given w who).1) × (twin ≡ (answer_given w who).1)
+  taken_is w who word given twin None e f = cc
+  taken_is w who word given twin (Some c) e f =
+      let it : (answer_given w who) ≡ given_of c.mode = ap (λ (q : Option (Coroutine V)). if_some q (Start, Number 0) (λ d. given_of d.mode)) (sym e) in
+      let x : ◌≡◌ {A = Word × Answer × Answer} (word, given, twin) ((given_of c.mode).0, (given_of c.mode).1, (given_of c.mode).1) = cc in
+      (ap (λ y. y.0) x ∙ ap (λ y. y.0) (sym it), ap (λ y. y.1) x ∙ ap (λ y. y.1) (sym it), ap (λ y. y.2) x ∙ ap (λ y. y.1) (sym it))
+
+  -- who is there has an answer that is taken
+  pub taken_some : (w : World V) (who : ℕ) (o : Option (Coroutine V)) (one : Coroutine V) → o ≡ Some one → ◌≡◌ {A = Option (Word × Answer × Answer)} None (if_some o None (λ c. Some ((given_of c.mode).0, (given_of c.mode).1, (given_of c.mode).1))) → ⊥
+  taken_some w who None one e f = cc
+  taken_some w who (Some c) one e f = cc

@@ -241,7 +241,7 @@ fn child_of<B: Body>(
     let numbers = told(alloc, next, args)?;
     match world.coroutine_of(who) {
         None => Err(NoMemory),
-        Some(one) => one.body.child(program, numbers.as_slice()),
+        Some(one) => one.body().child(program, numbers.as_slice()),
     }
 }
 
@@ -365,7 +365,7 @@ fn refusal<B: Body>(world: &World<B>, who: u64, call: &Call) -> Option<Option<Er
 {
     match world.coroutine_of(who) {
         None => None,
-        Some(one) => Some(world.refuse(who, &one.body, call)),
+        Some(one) => Some(world.refuse(who, one.body(), call)),
     }
 }
 

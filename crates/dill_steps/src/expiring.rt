@@ -11,8 +11,8 @@ use crate::entering::late_answer;
 use crate::settling::{asked_of, give};
 use dill_base::Deadline;
 use dill_calls::{Call, Word};
-use dill_rules::{Coroutine, Mode};
-use dill_world::{World, pending_call};
+use dill_rules::Mode;
+use dill_world::{Row, World, pending_call};
 
 /// A coroutine, and the moment in milliseconds at which its pending call expires.
 #[derive(Clone, Copy)]
@@ -52,14 +52,17 @@ fn due_in(mode: &Mode) -> Option<u64>
 }
 
 /// The timer of a coroutine whose deadline is passed.
-fn late_of<B>(c: &Coroutine<B>, moment: u64) -> Option<Late>
+fn late_of<B>(c: &Row<B>, moment: u64) -> Option<Late>
     ensures { option_map as_timer result ≡ late_timer moment c.now }
 {
-    match due_in(&c.mode) {
+    match due_in(c.mode()) {
         None => None,
         Some(due) => {
             if due <= moment {
-                Some(Late { due, who: c.number })
+                Some(Late {
+                    due,
+                    who: c.number(),
+                })
             } else {
                 None
             }
@@ -84,7 +87,7 @@ fn sooner_of(x: Late, rest: Option<Late>) -> Late
 }
 
 /// The first of a coroutine's timer, where it has one that is passed, and others.
-fn sooner_with<B>(c: &Coroutine<B>, moment: u64, rest: Option<Late>) -> Option<Late>
+fn sooner_with<B>(c: &Row<B>, moment: u64, rest: Option<Late>) -> Option<Late>
     ensures { option_map as_timer result ≡ sooner_by (late_timer moment c.now) (option_map as_timer rest) }
 {
     match late_of(c, moment) {
@@ -94,7 +97,7 @@ fn sooner_with<B>(c: &Coroutine<B>, moment: u64, rest: Option<Late>) -> Option<L
 }
 
 /// The first passed deadline: the earliest one, and of equal ones that of the lower coroutine.
-fn first_late<B>(coroutines: &[Coroutine<B>], moment: u64) -> Option<Late>
+fn first_late<B>(coroutines: &[Row<B>], moment: u64) -> Option<Late>
     ensures { option_map as_timer result ≡ first_of (expiring.in_order (filter_map (late_timer moment) coroutines.now)) }
 {
     let mut first = None;
@@ -105,24 +108,24 @@ fn first_late<B>(coroutines: &[Coroutine<B>], moment: u64) -> Option<Late>
 }
 
 /// The earliest moment at which a pending call expires.
-fn least_of<B>(coroutines: &[Coroutine<B>]) -> Option<u64>
+fn least_of<B>(coroutines: &[Row<B>]) -> Option<u64>
     ensures { result ≡ reduce min (filter_map due_at coroutines.now) }
 {
-    coroutines.iter().filter_map(|c| due_in(&c.mode)).min()
+    coroutines.iter().filter_map(|c| due_in(c.mode())).min()
 }
 
 /// A coroutine that waits, and the word of its call.
-fn waiter<B>(c: &Coroutine<B>) -> Option<(u64, Word)>
+fn waiter<B>(c: &Row<B>) -> Option<(u64, Word)>
     ensures { result ≡ pair_of c.now }
 {
-    match pending_call(&c.mode) {
+    match pending_call(c.mode()) {
         None => None,
-        Some(call) => Some((c.number, call.word())),
+        Some(call) => Some((c.number(), call.word())),
     }
 }
 
 /// The first coroutine above a number that waits, and the word of its call.
-fn first_waiter<B>(coroutines: &[Coroutine<B>], after: u64) -> Option<(u64, Word)>
+fn first_waiter<B>(coroutines: &[Row<B>], after: u64) -> Option<(u64, Word)>
     ensures { result ≡ find (λ x. nat_lt after x.0) (filter_map pair_of coroutines.now) }
 {
     coroutines

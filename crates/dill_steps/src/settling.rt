@@ -9,8 +9,8 @@ ghost use Rattle.dill_world.specs.Store.{world_of, may_wait, is_plain_mode, is_p
 
 use dill_base::Errno;
 use dill_calls::{Answer, Call, Word};
-use dill_rules::{Coroutine, Mode};
-use dill_world::{World, is_ending};
+use dill_rules::Mode;
+use dill_world::{Row, World, is_ending};
 
 /// What an answer needs of the pending call that it is given to: the call's word, and the number that died by an `hclose`.
 #[derive(Clone, Copy)]
@@ -83,14 +83,14 @@ pub fn is_clear<B>(world: &World<B>, who: u64) -> bool
 }
 
 /// Whether a coroutine is ending and can finish.
-pub fn can_finish<B>(world: &World<B>, c: &Coroutine<B>) -> bool
+pub fn can_finish<B>(world: &World<B>, c: &Row<B>) -> bool
     ensures { result ≡ settling.can_finish (world_of world.now) c.now }
 {
-    is_ending(&c.mode) && is_clear(world, c.number)
+    is_ending(c.mode()) && is_clear(world, c.number())
 }
 
 /// The lowest coroutine whose ending can finish.
-fn finishing<B>(world: &World<B>) -> Option<&Coroutine<B>>
+fn finishing<B>(world: &World<B>) -> Option<&Row<B>>
     ensures { option_copied result ≡ find (settling.can_finish (world_of world.now)) world.now.coroutines }
 {
     world.coroutines().iter().find(|c| can_finish(world, c))
@@ -102,27 +102,27 @@ fn next_ending<B>(world: &World<B>) -> Option<(u64, Option<Errno>)>
 {
     match finishing(world) {
         None => None,
-        Some(c) => Some((c.number, outcome_of(&c.mode))),
+        Some(c) => Some((c.number(), outcome_of(c.mode()))),
     }
 }
 
 /// The answer that a coroutine can be given, with what it needs of its call.
-fn answer_due<B>(world: &World<B>, c: &Coroutine<B>) -> Option<(u64, Asked, Answer)>
+fn answer_due<B>(world: &World<B>, c: &Row<B>) -> Option<(u64, Asked, Answer)>
     requires { is_plain_row c.now ≡ true }
     ensures due { result ≡ asked_due (world_of world.now) c.now }
     ensures short { IfSome result (λ x. is_short_answer x.2 ≡ true) }
 {
-    match pending_in(&c.mode) {
+    match pending_in(c.mode()) {
         None => None,
-        Some(call) => match world.answer_of(c.number, call) {
+        Some(call) => match world.answer_of(c.number(), call) {
             None => None,
-            Some(answer) => Some((c.number, asked_of(call), answer)),
+            Some(answer) => Some((c.number(), asked_of(call), answer)),
         },
     }
 }
 
 /// The first answer that is due to one of these coroutines.
-fn first_due<B>(world: &World<B>, coroutines: &[Coroutine<B>]) -> Option<(u64, Asked, Answer)>
+fn first_due<B>(world: &World<B>, coroutines: &[Row<B>]) -> Option<(u64, Asked, Answer)>
     requires { ArePlain coroutines.now }
     ensures due { result ≡ first_some (asked_due (world_of world.now)) coroutines.now }
     ensures short { IfSome result (λ x. is_short_answer x.2 ≡ true) }

@@ -13,7 +13,7 @@ use crate::settling::settle;
 use dill_base::{Errno, Octets};
 use dill_calls::{Answer, Body, Call, LackPlace, Next, Ran, Word};
 use dill_plain::PlainBody;
-use dill_world::{World, copy_answer};
+use dill_world::World;
 use std::alloc::Global;
 
 /// Where a turn was refused memory, if it was, how its program ended, if it did, and the text of the `print` that it enters.
@@ -159,16 +159,27 @@ pub fn turn<B: PlainBody>(alloc: Global, world: &mut World<B>, who: u64, spare: 
     ensures few { spare ≡ false → length world.new.coroutines ≤ length world.old.coroutines }
     ensures one { length world.new.coroutines ≤ length world.old.coroutines + 1 }
 {
-    let (word, given) = world.answer_given(who);
     world.begin();
-    let went = go_on(alloc, world, who, copy_answer(&given), spare);
-    settle(world);
-    Ran {
-        who,
-        word,
-        given,
-        lack: went.lack,
-        end: went.outcome,
-        text: went.text,
+    match world.take_answer(who) {
+        None => Ran {
+            who,
+            word: Word::Start,
+            given: Answer::Number(0),
+            lack: None,
+            end: None,
+            text: None,
+        },
+        Some((word, given, twin)) => {
+            let went = go_on(alloc, world, who, twin, spare);
+            settle(world);
+            Ran {
+                who,
+                word,
+                given,
+                lack: went.lack,
+                end: went.outcome,
+                text: went.text,
+            }
+        }
     }
 }

@@ -22,7 +22,7 @@ fn two(rt: &impl Abort, alloc: Global) -> Result<World<Brief>, Fail> {
 fn is_answered(world: &World<Brief>, who: u64, word: Word, fault: Option<Errno>) -> bool {
     match world.coroutine_of(who) {
         None => false,
-        Some(one) => match &one.mode {
+        Some(one) => match one.mode() {
             Mode::Fresh(of, Answer::Number(_)) => *of == word && fault.is_none(),
             Mode::Fresh(of, Answer::Fault(errno)) => *of == word && fault == Some(*errno),
             _ => false,

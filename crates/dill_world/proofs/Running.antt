@@ -4,10 +4,11 @@ use Rattle.std.specs.List.{position_from}
 use Rattle.dill_calls.specs.declared.answer.Answer.{Answer}
 use Rattle.dill_calls.specs.declared.body.Next.{Next}
 use Rattle.dill_calls.specs.Program.{Program, Turns}
-use Rattle.dill_base.specs.Maps.{change}
+use Rattle.dill_calls.specs.declared.word.Word.{Word}
+use Rattle.dill_base.specs.Maps.{if_some, change}
 use Rattle.dill_rules.specs.declared.coroutine.Coroutine.{Coroutine}
 use Rattle.dill_rules.specs.World.{is_coroutine}
-use Rattle.dill_rules.specs.Turning.{as_running}
+use Rattle.dill_rules.specs.Turning.{as_running, given_of}
 use Rattle.dill_world.specs.Store.{Store, world_of}
 use Rattle.dill_world.specs.Steps.{WentOn, RunsOn, Resumed}
 use Rattle.dill_base.proofs.Places.{place, no_place}
@@ -47,3 +48,13 @@ module _ {V : Type 0} (p : Program V) where
       (λ none. (none.0, ap (λ rows. world_of (record s { coroutines = rows })) none.1))
       (λ c ran. went c given said _ _ (λ view e. ap (λ rows. world_of (record s { coroutines = rows })) e) ran)
       h
+
+module _ {V : Type 0} where
+  -- the answer of who stands there
+  pub taken_at : (xs : List (Coroutine V)) (who at : ℕ) (old : Coroutine V) (r : Word × Answer × Answer) → position_from (is_coroutine who) 0 xs ≡ Some at → old ≡ get_or xs at old → r ≡ ((given_of old.mode).0, (given_of old.mode).1, (given_of old.mode).1) → Some r ≡ if_some (find (is_coroutine who) xs) None (λ c. Some ((given_of c.mode).0, (given_of c.mode).1, (given_of c.mode).1))
+  taken_at xs who at old r there value is =
+      let there_is : find (is_coroutine who) xs ≡ Some old = (place (is_coroutine who) (λ x. x) old xs at there).found ∙ ap Some (sym value) in
+      ap Some is ∙ sym (ap (λ (o : Option (Coroutine V)). if_some o None (λ c. Some ((given_of c.mode).0, (given_of c.mode).1, (given_of c.mode).1))) there_is)
+
+  pub taken_none : (xs : List (Coroutine V)) (who : ℕ) → position_from (is_coroutine who) 0 xs ≡ None → ◌≡◌ {A = Option (Word × Answer × Answer)} None (if_some (find (is_coroutine who) xs) None (λ c. Some ((given_of c.mode).0, (given_of c.mode).1, (given_of c.mode).1)))
+  taken_none xs who gone = sym (ap (λ (o : Option (Coroutine V)). if_some o None (λ c. Some ((given_of c.mode).0, (given_of c.mode).1, (given_of c.mode).1))) (no_place (is_coroutine who) (λ x. x) xs 0 gone).none)

@@ -5,4 +5,5 @@ pub mod Lined
 pub mod Releases
 pub mod Steps
 pub mod Store
+pub mod Twins
 pub mod Ways

@@ -77,8 +77,8 @@ is_short_answer answer = false
 abbrev pub is_plain_mode : Mode → Bool
 is_plain_mode (modes.Pending call) = may_wait call
 is_plain_mode modes.Running = true
-is_plain_mode (modes.Fresh word answer) = is_short_answer answer
-is_plain_mode (modes.Answered word answer) = is_short_answer answer
+is_plain_mode (modes.Fresh word answer) = true
+is_plain_mode (modes.Answered word answer) = true
 is_plain_mode (modes.Ending outcome) = true
 
 abbrev pub is_plain_row : {V : Type 0} → Coroutine V → Bool

@@ -4,14 +4,13 @@ ghost use Rattle.dill_calls.specs.declared.answer.Answer.TheVariants.{Chosen, Fa
 ghost use Rattle.dill_chan.specs.declared.end.Want.TheVariants.{Send, Recv};
 ghost use Rattle.dill_rules.specs.Naming.{end_of_clause};
 ghost use Rattle.dill_rules.specs.Answers as answers;
-ghost use Rattle.dill_rules.specs.Turning.{given_of, answer_given};
-ghost use Rattle.dill_world.specs.Store.{world_of, may_wait, is_short_answer, is_plain_mode};
+ghost use Rattle.dill_world.specs.Store.{world_of, may_wait, is_short_answer};
 
 use crate::rows::find_dead_as;
 use crate::world::World;
 use dill_base::{Errno, Octets};
 use dill_calls::{Answer, Call, Clause, Word};
-use dill_rules::{Mode, Thing};
+use dill_rules::Thing;
 
 /// A copy of an answer without bytes.
 pub fn copy_answer(answer: &Answer) -> Answer
@@ -67,30 +66,7 @@ fn fault_of(fault: Option<Errno>) -> Option<Answer>
     }
 }
 
-/// The answer that waits to be given, with the word of its call.
-fn given_of(mode: &Mode) -> (Word, Answer)
-    requires { is_plain_mode mode.now ≡ true }
-    ensures value { result ≡ given_of mode.now }
-    ensures short { is_short_answer result.1 ≡ true }
-{
-    match mode {
-        Mode::Answered(word, answer) => (*word, copy_answer(answer)),
-        _ => (Word::Start, Answer::Number(0)),
-    }
-}
-
 impl<B> World<B> {
-    /// The answer that a coroutine is given at its turn, with the word of its call.
-    pub fn answer_given(&self, who: u64) -> (Word, Answer)
-        ensures value { result ≡ answer_given (world_of self.now) who }
-        ensures short { is_short_answer result.1 ≡ true }
-    {
-        match self.coroutine_of(who) {
-            None => (Word::Start, Answer::Number(0)),
-            Some(found) => given_of(&found.mode),
-        }
-    }
-
     fn when_empty(&self, bundle: Option<u64>) -> Option<Answer>
         ensures short { IfSome result (λ a. is_short_answer a ≡ true) }
         ensures value { result ≡ answers.when_empty (world_of self.now) bundle }

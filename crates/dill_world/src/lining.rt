@@ -1,22 +1,11 @@
 ghost use Rattle.std.specs.Prelude.{◌≡◌, ◌+◌, ◌≤◌, ◌++◌, length, map, vec_capacity, true};
 ghost use Rattle.dill_rules.specs.State as states;
 ghost use Rattle.dill_world.specs.Lined.{fresh_one, fresh_of};
-ghost use Rattle.dill_world.specs.Store.{world_of, is_plain_mode, is_plain_row, ArePlain};
+ghost use Rattle.dill_world.specs.Store.{world_of, is_plain_row, ArePlain};
 
+use crate::row::Row;
 use crate::world::World;
-use dill_rules::{Coroutine, Mode};
-use std::mem;
-
-/// Where who stands there stands once the step is over.
-fn lined_mode(mode: Mode) -> Mode
-    ensures mode { result ≡ states.lined_mode mode }
-    ensures plain { is_plain_mode mode ≡ true → is_plain_mode result ≡ true }
-{
-    match mode {
-        Mode::Fresh(word, answer) => Mode::Answered(word, answer),
-        other => other,
-    }
-}
+use dill_rules::Mode;
 
 /// Whether who stands there was answered in this step.
 fn is_fresh(mode: &Mode) -> bool
@@ -26,18 +15,18 @@ fn is_fresh(mode: &Mode) -> bool
 }
 
 /// A coroutine that was answered in this step joins a queue that has room for it.
-fn queue_one<B>(c: &Coroutine<B>, ready: &mut Vec<u64>)
+fn queue_one<B>(c: &Row<B>, ready: &mut Vec<u64>)
     requires { length ready.old.items + length (fresh_one c.now) ≤ vec_capacity ready.old }
     ensures items { ready.new.items ≡ ready.old.items ++ fresh_one c.now }
     ensures capacity { vec_capacity ready.new ≡ vec_capacity ready.old }
 {
-    if is_fresh(&c.mode) {
-        ready.push_reserved(c.number);
+    if is_fresh(c.mode()) {
+        ready.push_reserved(c.number());
     }
 }
 
 /// Those who were answered in this step join a queue that has room for them.
-fn queue_each<B>(coroutines: &[Coroutine<B>], ready: &mut Vec<u64>)
+fn queue_each<B>(coroutines: &[Row<B>], ready: &mut Vec<u64>)
     requires { length ready.old.items + length (fresh_of coroutines.now) ≤ vec_capacity ready.old }
     ensures items { ready.new.items ≡ ready.old.items ++ fresh_of coroutines.now }
     ensures capacity { vec_capacity ready.new ≡ vec_capacity ready.old }
@@ -48,16 +37,15 @@ fn queue_each<B>(coroutines: &[Coroutine<B>], ready: &mut Vec<u64>)
 }
 
 /// A coroutine stands there once the step is over.
-fn line_one<B>(c: &mut Coroutine<B>)
+fn line_one<B: Drop>(c: &mut Row<B>)
     ensures row { c.new ≡ states.lined c.old }
     ensures plain { is_plain_row c.old ≡ true → is_plain_row c.new ≡ true }
 {
-    let mode = mem::replace(&mut c.mode, Mode::Running);
-    c.mode = lined_mode(mode);
+    c.line();
 }
 
 /// The coroutines stand there once the step is over.
-fn line_each<B>(coroutines: &mut [Coroutine<B>])
+fn line_each<B: Drop>(coroutines: &mut [Row<B>])
     ensures rows { coroutines.new ≡ map states.lined coroutines.old }
     ensures plain { ArePlain coroutines.old → ArePlain coroutines.new }
 {

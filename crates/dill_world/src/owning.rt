@@ -14,22 +14,20 @@ ghost use Rattle.dill_world.specs.Store.{world_of};
 ghost use Rattle.dill_world.specs.Steps.{add_channel, bear_apart};
 
 use crate::naming::draws_of;
+use crate::row::Row;
 use crate::rows::drop_closing;
 use crate::world::World;
 use dill_base::NoMemory;
 use dill_calls::{Answer, Arg, Call, Note, Word};
 use dill_chan::Channels;
-use dill_rules::{Closing, Coroutine, Mode, Thing};
+use dill_rules::{Closing, Mode, Thing};
 
 /// A coroutine that is about to start.
-fn born<B>(number: u64, body: B) -> Coroutine<B>
+fn born<B>(number: u64, body: B) -> Row<B>
     ensures { result ≡ record { number = number; body = body; mode = modes.Fresh words.Start (Number 0) } }
 {
-    Coroutine {
-        number,
-        body,
-        mode: Mode::Fresh(Word::Start, Answer::Number(0)),
-    }
+    let mode = Mode::Fresh(Word::Start, Answer::Number(0));
+    Row::new(number, body, mode, Some(Answer::Number(0)))
 }
 
 /// A coroutine that is about to be there has room for its clauses at channels.
@@ -128,7 +126,7 @@ impl<B: Drop> World<B> {
         }
         seat(&mut self.channels, number)?;
         self.scopes.enter(home, number)?;
-        let _ = self.coroutines.push(born(number, body));
+        self.coroutines.push_reserved(born(number, body));
         self.last_coroutine = number;
         Ok(())
     }
@@ -148,7 +146,7 @@ impl<B: Drop> World<B> {
         }
         seat(&mut self.channels, number)?;
         self.scopes.open(name, who, number)?;
-        let _ = self.coroutines.push(born(number, body));
+        self.coroutines.push_reserved(born(number, body));
         let _ = self.handles.make(Thing::Bundle(name), who);
         self.last_bundle = name;
         self.last_coroutine = number;

@@ -11,10 +11,11 @@ ghost use Rattle.dill_world.specs.Ways.{goes_by, is_taken_up};
 ghost use Rattle.dill_world.specs.declared.refusals.Way.TheVariants as ways;
 
 use crate::naming::{bears, draws_of, gives_twice, is_accept, is_on, is_receive, is_send};
+use crate::row::Row;
 use crate::world::World;
 use dill_base::Errno;
 use dill_calls::{Arg, Body, Call, Clause, Word};
-use dill_rules::{Coroutine, Mode};
+use dill_rules::Mode;
 
 /// The most bytes of a message, of an item of a channel and of a receive.
 const MOST_BYTES: usize = 1_048_576;
@@ -46,21 +47,21 @@ fn waits_so(mode: &Mode, way: Way, number: u64) -> bool
     }
 }
 
-fn somebody_waits_so<B>(coroutines: &[Coroutine<B>], way: Way, number: u64) -> bool
+fn somebody_waits_so<B>(coroutines: &[Row<B>], way: Way, number: u64) -> bool
     ensures { result ≡ list_any (λ c. if_some (pending_call c.mode) false (λ call. goes_by way (word_of call) && is_on number call)) coroutines.now }
 {
-    coroutines.iter().any(|c| waits_so(&c.mode, way, number))
+    coroutines.iter().any(|c| waits_so(c.mode(), way, number))
 }
 
 /// Whether a call of this word uses a direction that is in use.
-fn is_taken_up<B>(coroutines: &[Coroutine<B>], word: Word, way: Way, number: u64) -> bool
+fn is_taken_up<B>(coroutines: &[Row<B>], word: Word, way: Way, number: u64) -> bool
     ensures { result ≡ is_taken_up coroutines.now word way number }
 {
     goes(way, word) && somebody_waits_so(coroutines, way, number)
 }
 
 /// Whether a call of this word uses any direction that is in use.
-fn is_in_some_use<B>(coroutines: &[Coroutine<B>], word: Word, number: u64) -> bool
+fn is_in_some_use<B>(coroutines: &[Row<B>], word: Word, number: u64) -> bool
     ensures { result ≡ (is_taken_up coroutines.now word ways.Send number || (is_taken_up coroutines.now word ways.Receive number || is_taken_up coroutines.now word ways.Accept number)) }
 {
     if is_taken_up(coroutines, word, Way::Send, number) {

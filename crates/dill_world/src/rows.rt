@@ -4,38 +4,42 @@ ghost use Rattle.dill_base.specs.Maps.{change, without};
 ghost use Rattle.dill_rules.specs.World.{is_coroutine, with_mode};
 ghost use Rattle.dill_rules.specs.Owning.{is_closing_of, is_dead_as};
 ghost use Rattle.dill_world.specs.Store.{is_plain_mode, ArePlain};
+ghost use Rattle.dill_world.specs.Twins.{answer_in};
 
-use dill_rules::{Closing, Coroutine, Mode};
+use crate::row::Row;
+use dill_calls::Answer;
+use dill_rules::{Closing, Mode};
 
 /// Where a coroutine stands in the list.
-pub fn place_of<B>(coroutines: &[Coroutine<B>], who: u64) -> Option<usize>
+pub fn place_of<B>(coroutines: &[Row<B>], who: u64) -> Option<usize>
     ensures place { result ≡ position_from (is_coroutine who) 0 coroutines.now }
     ensures within { IfSome result (λ at. at < length coroutines.now) }
 {
-    coroutines.iter().position(|c| c.number == who)
+    coroutines.iter().position(|c| c.number() == who)
 }
 
 /// A coroutine of the list.
-pub fn find_coroutine<B>(coroutines: &[Coroutine<B>], who: u64) -> Option<&Coroutine<B>>
+pub fn find_coroutine<B>(coroutines: &[Row<B>], who: u64) -> Option<&Row<B>>
     ensures { option_copied result ≡ find (is_coroutine who) coroutines.now }
 {
-    coroutines.iter().find(|c| c.number == who)
+    coroutines.iter().find(|c| c.number() == who)
 }
 
 /// A coroutine stands there now.
-pub fn put_mode<B: Drop>(coroutines: &mut Vec<Coroutine<B>>, who: u64, mode: Mode)
-    requires { is_plain_mode mode ≡ true }
+pub fn put_mode<B: Drop>(coroutines: &mut Vec<Row<B>>, who: u64, mode: Mode, twin: Option<Answer>)
+    requires plain { is_plain_mode mode ≡ true }
+    requires twin { twin ≡ answer_in mode }
     ensures rows { coroutines.new.items ≡ change (is_coroutine who) (with_mode mode) coroutines.old.items }
     ensures plain { ArePlain coroutines.old.items → ArePlain coroutines.new.items }
 {
     if let Some(at) = place_of(coroutines, who) {
         let found = &mut coroutines[at];
-        found.mode = mode;
+        found.put(mode, twin);
     }
 }
 
 /// A coroutine is gone from the list.
-pub fn drop_coroutine<B: Drop>(coroutines: &mut Vec<Coroutine<B>>, who: u64)
+pub fn drop_coroutine<B: Drop>(coroutines: &mut Vec<Row<B>>, who: u64)
     ensures rows { coroutines.new.items ≡ without (is_coroutine who) coroutines.old.items }
     ensures plain { ArePlain coroutines.old.items → ArePlain coroutines.new.items }
 {

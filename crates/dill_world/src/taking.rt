@@ -7,11 +7,12 @@ ghost use Rattle.dill_rules.specs.Taking as taking;
 ghost use Rattle.dill_world.specs.Store.{world_of, is_plain_mode, may_wait};
 
 use crate::naming::{args_of, clauses_of, end_of_clause, is_alone_on, is_on, one_taken};
+use crate::row::Row;
 use crate::rows::find_coroutine;
 use crate::world::World;
 use dill_calls::{Arg, Call, Clause, Word};
 use dill_handles::Entry;
-use dill_rules::{Coroutine, Mode, Thing};
+use dill_rules::{Mode, Thing};
 
 /// The bundle that a thing is.
 pub fn bundle_of(thing: Thing) -> Option<u64>
@@ -60,21 +61,21 @@ fn waits_alone_on(mode: &Mode, number: u64) -> bool
     }
 }
 
-fn somebody_waits_on<B>(coroutines: &[Coroutine<B>], number: u64) -> bool
+fn somebody_waits_on<B>(coroutines: &[Row<B>], number: u64) -> bool
     ensures { result ≡ list_any (λ c. if_some (worlds.pending_call c.mode) false (taking.is_on number)) coroutines.now }
 {
-    coroutines.iter().any(|c| waits_on(&c.mode, number))
+    coroutines.iter().any(|c| waits_on(c.mode(), number))
 }
 
-fn somebody_waits_alone_on<B>(coroutines: &[Coroutine<B>], number: u64) -> bool
+fn somebody_waits_alone_on<B>(coroutines: &[Row<B>], number: u64) -> bool
     ensures { result ≡ list_any (λ c. if_some (worlds.pending_call c.mode) false (taking.is_alone_on number)) coroutines.now }
 {
-    coroutines.iter().any(|c| waits_alone_on(&c.mode, number))
+    coroutines.iter().any(|c| waits_alone_on(c.mode(), number))
 }
 
 impl<B> World<B> {
     /// A coroutine that is there.
-    pub fn coroutine_of(&self, who: u64) -> Option<&Coroutine<B>>
+    pub fn coroutine_of(&self, who: u64) -> Option<&Row<B>>
         ensures value { option_copied result ≡ worlds.coroutine_of (world_of self.now) who }
         ensures plain { IfSome result (λ c. is_plain_mode c.now.mode ≡ true) }
     {
@@ -88,7 +89,7 @@ impl<B> World<B> {
     {
         match self.coroutine_of(who) {
             None => None,
-            Some(found) => pending_call(&found.mode),
+            Some(found) => pending_call(found.mode()),
         }
     }
 
@@ -108,7 +109,7 @@ impl<B> World<B> {
         }
         match self.coroutine_of(who) {
             None => false,
-            Some(found) => is_ending(&found.mode),
+            Some(found) => is_ending(found.mode()),
         }
     }
 

@@ -1,17 +1,21 @@
-ghost use Rattle.std.specs.Prelude.{◌≡◌, ◌≤◌, true, find, IfOk, IfSome};
+ghost use Rattle.std.specs.Prelude.{◌≡◌, ◌≤◌, true, find, IfOk, IfSome, Some, None};
+ghost use Rattle.dill_base.specs.Maps.{if_some, change};
+ghost use Rattle.dill_rules.specs.declared.coroutine.Mode.TheVariants as modes;
+ghost use Rattle.dill_world.specs.Twins.{answer_in};
 ghost use Rattle.dill_rules.specs.World as worlds;
 ghost use Rattle.dill_scope.specs.Scopes as scopes;
 ghost use Rattle.dill_world.specs.Store.{world_of, no_random, may_wait, is_plain_mode, is_short_answer, ArePlain};
-ghost use Rattle.dill_calls.specs.Program.{Turns};
 ghost use Rattle.dill_rules.specs.Turning as turning;
 ghost use Rattle.dill_world.specs.Steps.{left, RunsOn, Resumed};
 
+use crate::answers::copy_answer;
+use crate::row::Row;
 use crate::rows::{drop_coroutine, place_of, put_mode};
 use dill_base::{Errno, NoMemory};
 use dill_calls::{Answer, Body, Call, Next, Note, Word};
 use dill_chan::Channels;
 use dill_handles::Handles;
-use dill_rules::{Closing, Coroutine, Mode, Thing};
+use dill_rules::{Closing, Mode, Thing};
 use dill_scope::Scopes;
 use std::alloc::Global;
 use std::marker::Model;
@@ -22,7 +26,7 @@ use std::marker::Model;
 /// There is room for each note that the step can still take, and for each closing.
 #[derive(Drop)]
 pub struct World<B> {
-    pub(crate) coroutines: Vec<Coroutine<B>>,
+    pub(crate) coroutines: Vec<Row<B>>,
     pub(crate) handles: Handles<Thing>,
     pub(crate) scopes: Scopes,
     pub(crate) closings: Vec<Closing>,
@@ -57,18 +61,8 @@ fn leave_home(forest: &mut Scopes, who: u64)
     }
 }
 
-/// Gives a coroutine an answer, from which its program runs on.
-fn run_on<B: Body>(one: &mut Coroutine<B>, given: Answer) -> Next
-    requires { 1 ≤ B.means.left one.old.body }
-    ensures turns { Turns B.means one.old.body given one.new.body result }
-    ensures runs { one.new ≡ turning.as_running one.new.body one.old }
-{
-    one.mode = Mode::Running;
-    one.body.turn(given)
-}
-
 /// Where a coroutine stands, it runs on from an answer.
-fn run_at<B: Body>(coroutines: &mut Vec<Coroutine<B>>, who: u64, given: Answer) -> Option<Next>
+fn run_at<B: Body>(coroutines: &mut Vec<Row<B>>, who: u64, given: Answer) -> Option<Next>
     requires { IfSome (find (worlds.is_coroutine who) coroutines.old.items) (λ c. 1 ≤ B.means.left c.body) }
     ensures runs { RunsOn B.means coroutines.old.items coroutines.new.items who given result }
     ensures plain { ArePlain coroutines.old.items → ArePlain coroutines.new.items }
@@ -77,7 +71,7 @@ fn run_at<B: Body>(coroutines: &mut Vec<Coroutine<B>>, who: u64, given: Answer) 
         None => None,
         Some(at) => {
             let one = &mut coroutines[at];
-            Some(run_on(one, given))
+            Some(one.run(given))
         }
     }
 }
@@ -91,11 +85,8 @@ impl<B> World<B> {
     {
         let scopes = Scopes::new(alloc)?;
         let mut coroutines = Vec::new(alloc);
-        let first = Coroutine {
-            number: 1,
-            body,
-            mode: Mode::Answered(Word::Start, Answer::Number(0)),
-        };
+        let mode = Mode::Answered(Word::Start, Answer::Number(0));
+        let first = Row::new(1, body, mode, Some(Answer::Number(0)));
         if coroutines.push(first).is_err() {
             return Err(NoMemory);
         }
@@ -119,7 +110,7 @@ impl<B> World<B> {
 /// What can be read.
 impl<B> World<B> {
     /// The coroutines by rising number.
-    pub fn coroutines(&self) -> &[Coroutine<B>]
+    pub fn coroutines(&self) -> &[Row<B>]
         ensures rows { result.now ≡ self.now.coroutines }
         ensures plain { ArePlain result.now }
     {
@@ -215,18 +206,33 @@ impl<B: Drop> World<B> {
 
     /// A coroutine stands there now.
     pub fn set_mode(&mut self, who: u64, mode: Mode)
-        requires { is_plain_mode mode ≡ true }
+        requires plain { is_plain_mode mode ≡ true }
+        requires none { answer_in mode ≡ None }
         ensures { world_of self.new ≡ worlds.set_mode (world_of self.old) who mode }
     {
-        put_mode(&mut self.coroutines, who, mode);
+        put_mode(&mut self.coroutines, who, mode, None);
     }
 
-    /// A coroutine is answered, and waits at no channel any more.
+    /// A coroutine is answered by what has no bytes, and waits at no channel any more.
     pub fn reply(&mut self, who: u64, word: Word, answer: Answer)
         requires { is_short_answer answer ≡ true }
         ensures { world_of self.new ≡ worlds.reply (world_of self.old) who word answer }
     {
-        self.set_mode(who, Mode::Fresh(word, answer));
+        let twin = copy_answer(&answer);
+        self.reply_twice(who, word, answer, twin);
+    }
+
+    /// A coroutine is answered, and waits at no channel any more. The answer is had twice: for its program, and to be told.
+    pub fn reply_twice(&mut self, who: u64, word: Word, answer: Answer, twin: Answer)
+        requires { twin ≡ answer }
+        ensures { world_of self.new ≡ worlds.reply (world_of self.old) who word answer }
+    {
+        put_mode(
+            &mut self.coroutines,
+            who,
+            Mode::Fresh(word, answer),
+            Some(twin),
+        );
         self.channels.forget(who);
     }
 
@@ -248,6 +254,32 @@ impl<B: Drop> World<B> {
         if who == 1 {
             self.ended = Some(outcome);
         }
+    }
+}
+
+/// The answer of a coroutine that is there is taken twice, and it makes its call.
+fn take_at<B: Drop>(coroutines: &mut Vec<Row<B>>, who: u64) -> Option<(Word, Answer, Answer)>
+    ensures given { result ≡ if_some (find (worlds.is_coroutine who) coroutines.old.items) None (λ c. Some ((turning.given_of c.mode).0, (turning.given_of c.mode).1, (turning.given_of c.mode).1)) }
+    ensures rows { coroutines.new.items ≡ change (worlds.is_coroutine who) (worlds.with_mode modes.Running) coroutines.old.items }
+    ensures plain { ArePlain coroutines.old.items → ArePlain coroutines.new.items }
+{
+    match place_of(coroutines, who) {
+        None => None,
+        Some(at) => {
+            let one = &mut coroutines[at];
+            Some(one.take())
+        }
+    }
+}
+
+impl<B: Drop> World<B> {
+    /// The answer that a coroutine is given at its turn, twice, with the word of its call: for its program, and to be told. The
+    /// coroutine makes its call. None where it isn't there.
+    pub fn take_answer(&mut self, who: u64) -> Option<(Word, Answer, Answer)>
+        ensures given { result ≡ if_some (worlds.coroutine_of (world_of self.old) who) None (λ c. Some ((turning.given_of c.mode).0, (turning.given_of c.mode).1, (turning.given_of c.mode).1)) }
+        ensures runs { world_of self.new ≡ worlds.set_mode (world_of self.old) who modes.Running }
+    {
+        take_at(&mut self.coroutines, who)
     }
 }
 

@@ -7,5 +7,5 @@ returns-in-Some-clause-free g c =
     λ e. record {
       view = c.in-Some.one.now.body;
       has = record { one = c.in-Some.one.now; found = sym c.in-Some.ensures.value; same = refl };
-      free = sym c.refuse.ensures ∙ some_of e;
+      free = sym (rw c.body.ensures at c.refuse.ensures) ∙ some_of e;
     }

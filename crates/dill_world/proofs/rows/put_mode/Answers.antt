@@ -9,10 +9,10 @@ pub returns-in-Some-clause-rows : goal.returns-in-Some-clause-rows
 returns-in-Some-clause-rows g c =
     let xs = c.args.coroutines.now.items in
     let found = place (is_coroutine c.args.who) (with_mode c.args.mode) c.index_mut-found.result.now xs c.in-Some.at (rw c.deref.ensures.value at (sym c.in-Some.ensures.place)) in
-    sym (found.changed ∙ ap (λ y. slice_set xs c.in-Some.at (with_mode c.args.mode y)) (sym c.index_mut-found.ensures.value))
+    ap (λ y. slice_set xs c.in-Some.at y) c.put.ensures ∙ sym (found.changed ∙ ap (λ y. slice_set xs c.in-Some.at (with_mode c.args.mode y)) (sym c.index_mut-found.ensures.value))
 
 pub returns-in-Some-clause-plain : goal.returns-in-Some-clause-plain
-returns-in-Some-clause-plain g c = λ plain. subst (λ ys. ArePlain ys) (sym (returns-in-Some-clause-rows g c)) (all_change is_plain_row (is_coroutine c.args.who) (with_mode c.args.mode) (λ x. c.requires) c.args.coroutines.now.items plain)
+returns-in-Some-clause-plain g c = λ plain. subst (λ ys. ArePlain ys) (sym (returns-in-Some-clause-rows g c)) (all_change is_plain_row (is_coroutine c.args.who) (with_mode c.args.mode) (λ x. c.requires.plain) c.args.coroutines.now.items plain)
 
 pub returns-in_default-clause-rows : goal.returns-in_default-clause-rows
 returns-in_default-clause-rows g c =

@@ -1,0 +1,134 @@
+ghost use Rattle.std.specs.Prelude.{◌≡◌, ◌≤◌, Some, None};
+ghost use Rattle.dill_calls.specs.Program.{Turns};
+ghost use Rattle.dill_calls.specs.declared.answer.Answer.TheVariants.{Number};
+ghost use Rattle.dill_calls.specs.declared.word.Word.TheVariants as words;
+ghost use Rattle.dill_rules.specs.State as states;
+ghost use Rattle.dill_rules.specs.Turning as turning;
+ghost use Rattle.dill_rules.specs.World.{with_mode};
+ghost use Rattle.dill_rules.specs.declared.coroutine.Mode.TheVariants as modes;
+ghost use Rattle.dill_world.specs.Twins.{answer_in};
+
+use dill_calls::{Answer, Body, Next, Word};
+use dill_rules::{Coroutine, Mode};
+use std::marker::Model;
+use std::mem;
+
+/// A coroutine, and its answer once more while it has one: one for its program, and one for what is told of its turn.
+#[derive(Drop)]
+pub struct Row<B> {
+    one: Coroutine<B>,
+    twin: Option<Answer>,
+}
+
+impl<B> Model for Row<B> {
+    ghost use Rattle.dill_rules.specs.declared.coroutine.Coroutine.{Coroutine};
+    ghost use Rattle.std.specs.Prelude.{◌≡◌};
+    ghost use Rattle.dill_world.specs.Twins.{answer_in};
+
+    ghost Value = { Coroutine B };
+
+    ghost view = { λ r. r.one };
+
+    ghost invariant = { λ r. r.twin ≡ answer_in r.one.mode };
+}
+
+impl<B> Row<B> {
+    /// A coroutine that stands there.
+    pub fn new(number: u64, body: B, mode: Mode, twin: Option<Answer>) -> Row<B>
+        requires { twin ≡ answer_in mode }
+        ensures { result ≡ record { number = number; body = body; mode = mode } }
+    {
+        Row {
+            one: Coroutine { number, body, mode },
+            twin,
+        }
+    }
+
+    /// Its number.
+    pub fn number(&self) -> u64
+        ensures { result ≡ self.now.number }
+    {
+        self.one.number
+    }
+
+    /// Where it stands.
+    pub fn mode(&self) -> &Mode
+        ensures { result.now ≡ self.now.mode }
+    {
+        &self.one.mode
+    }
+
+    /// What it runs.
+    pub fn body(&self) -> &B
+        ensures { result.now ≡ self.now.body }
+    {
+        &self.one.body
+    }
+}
+
+/// Where who stands there stands once the step is over.
+fn lined_mode(mode: Mode) -> Mode
+    ensures mode { result ≡ states.lined_mode mode }
+    ensures twin { answer_in result ≡ answer_in mode }
+{
+    match mode {
+        Mode::Fresh(word, answer) => Mode::Answered(word, answer),
+        other => other,
+    }
+}
+
+/// What is given, to a program and to who is told of its turn, of an answer that waits.
+fn given_of(mode: Mode, twin: Option<Answer>) -> (Word, Answer, Answer)
+    requires { twin ≡ answer_in mode }
+    ensures { result ≡ ((turning.given_of mode).0, (turning.given_of mode).1, (turning.given_of mode).1) }
+{
+    match mode {
+        Mode::Answered(word, answer) => match twin {
+            Some(second) => (word, answer, second),
+            None => (word, answer, Answer::Number(0)),
+        },
+        _ => (Word::Start, Answer::Number(0), Answer::Number(0)),
+    }
+}
+
+impl<B: Drop> Row<B> {
+    /// It stands there once the step is over.
+    pub fn line(&mut self)
+        ensures { self.new ≡ states.lined self.old }
+    {
+        let mode = mem::replace(&mut self.one.mode, Mode::Running);
+        self.one.mode = lined_mode(mode);
+    }
+
+    /// It makes its call, and the answer that waited is taken twice.
+    pub fn take(&mut self) -> (Word, Answer, Answer)
+        ensures given { result ≡ ((turning.given_of self.old.mode).0, (turning.given_of self.old.mode).1, (turning.given_of self.old.mode).1) }
+        ensures runs { self.new ≡ with_mode modes.Running self.old }
+    {
+        let twin = mem::replace(&mut self.twin, None);
+        let mode = mem::replace(&mut self.one.mode, Mode::Running);
+        given_of(mode, twin)
+    }
+
+    /// It stands there now.
+    pub fn put(&mut self, mode: Mode, twin: Option<Answer>)
+        requires { twin ≡ answer_in mode }
+        ensures { self.new ≡ with_mode mode self.old }
+    {
+        self.one.mode = mode;
+        self.twin = twin;
+    }
+}
+
+impl<B: Body> Row<B> {
+    /// Its program runs on from an answer.
+    pub fn run(&mut self, given: Answer) -> Next
+        requires { 1 ≤ B.means.left self.old.body }
+        ensures turns { Turns B.means self.old.body given self.new.body result }
+        ensures runs { self.new ≡ turning.as_running self.new.body self.old }
+    {
+        self.one.mode = Mode::Running;
+        self.twin = None;
+        self.one.body.turn(given)
+    }
+}
