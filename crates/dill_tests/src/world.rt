@@ -105,7 +105,9 @@ fn calls_are_refused_in_the_order_of_their_errnos(rt: HostRuntime) -> Result<(),
 #[test]
 fn a_coroutine_runs_on_from_its_answer(rt: HostRuntime) -> Result<(), Fail> {
     let mut world = memory(World::new(rt.alloc(), Brief { name: 1 }))?;
-    let (word, given) = world.answer_given(1);
+    let Some((word, given, _told)) = world.take_answer(1) else {
+        return Err(Fail::from("nobody"));
+    };
     assert!(rt; word == Word::Start);
     assert!(rt; matches!(world.resume(1, given), Some(Next::End(None))));
     world.set_mode(1, Mode::Ending(None));
