@@ -2,6 +2,7 @@ use crate::acts::{gone, message, note, refused, stood};
 use crate::greeting::{asking, expecting, heard};
 use crate::http::head;
 use crate::messages::Kind;
+use dill_stack::Stack;
 use std::alloc::Global;
 use std::test::Fail;
 
@@ -26,7 +27,14 @@ fn cut_short(alloc: Global, item: Item, front: &[u8]) -> Result<Vec<u8>, Fail> {
     Ok(log)
 }
 
-// The errno of a further receive stands behind it.
+// Looks for a message, and once more behind the end of the link; what a further one is refused with stands behind it.
+fn looks_twice(log: &mut Vec<u8>, stack: &mut Stack) -> Result<(), Fail> {
+    message(log, stack, 64)?;
+    stack.ended();
+    message(log, stack, 64)?;
+    refused(log, stack, 64)
+}
+
 fn message_cut_short(
     alloc: Global,
     log: &mut Vec<u8>,
@@ -34,10 +42,7 @@ fn message_cut_short(
     front: &[u8],
 ) -> Result<(), Fail> {
     let mut stack = stood(alloc, front, kind)?;
-    message(log, &mut stack, 64)?;
-    stack.ended();
-    message(log, &mut stack, 64)?;
-    refused(log, &stack, 64)
+    looks_twice(log, &mut stack)
 }
 
 // What stands behind the lines of a request that are whole, where the link ends there.

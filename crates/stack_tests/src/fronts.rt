@@ -3,13 +3,24 @@ use crate::messages::Kind;
 use std::alloc::Global;
 use std::test::Fail;
 
-/// What a receive finds at each front of these bytes that isn't empty, and what a further one is refused with then.
+/// What a receive finds in these bytes, and what a further one is refused with then.
+fn front(
+    alloc: Global,
+    log: &mut Vec<u8>,
+    kind: Kind,
+    bytes: &[u8],
+    limit: usize,
+) -> Result<(), Fail> {
+    let mut stack = stood(alloc, bytes, kind)?;
+    message(log, &mut stack, limit)?;
+    refused(log, &stack, limit)
+}
+
+/// The same of each front of these bytes that isn't empty.
 fn fronts(alloc: Global, kind: Kind, bytes: &[u8], limit: usize) -> Result<Vec<u8>, Fail> {
     let mut log = Vec::new(alloc);
     for count in 0..bytes.len() {
-        let mut stack = stood(alloc, &bytes[..count + 1], kind)?;
-        message(&mut log, &mut stack, limit)?;
-        refused(&mut log, &stack, limit)?;
+        front(alloc, &mut log, kind, &bytes[..count + 1], limit)?;
     }
     Ok(log)
 }

@@ -44,39 +44,38 @@ pub fn heard(log: &mut Vec<u8>, stack: &mut Stack) -> Result<(), Fail> {
     note(log, &stack.greeted())
 }
 
-/// A server's handshake, whose bytes come in one piece.
-fn greeted(alloc: Global, log: &mut Vec<u8>, bytes: &[u8]) -> Result<Stack, Fail> {
-    let mut stack = expecting(alloc, bytes)?;
-    heard(log, &mut stack)?;
-    gone(log, &mut stack)?;
-    heard(log, &mut stack)?;
-    Ok(stack)
-}
-
-/// Two messages, and what is sent behind them.
-fn two_messages(log: &mut Vec<u8>, stack: &mut Stack) -> Result<(), Fail> {
+/// A handshake of a server, and three receives with what they send.
+fn serves(log: &mut Vec<u8>, stack: &mut Stack) -> Result<(), Fail> {
+    heard(log, stack)?;
+    gone(log, stack)?;
+    heard(log, stack)?;
     message(log, stack, 64)?;
     message(log, stack, 64)?;
-    gone(log, stack)
+    gone(log, stack)?;
+    message(log, stack, 64)?;
+    refused(log, stack, 64)
 }
 
-/// A server's session whose bytes come in one piece: its handshake, and three receives with what they send.
+/// A server's session whose bytes come in one piece.
 fn served(alloc: Global, bytes: &[u8]) -> Result<Vec<u8>, Fail> {
+    let mut stack = expecting(alloc, bytes)?;
     let mut log = Vec::new(alloc);
-    let mut stack = greeted(alloc, &mut log, bytes)?;
-    two_messages(&mut log, &mut stack)?;
-    message(&mut log, &mut stack, 64)?;
-    refused(&mut log, &stack, 64)?;
+    serves(&mut log, &mut stack)?;
     Ok(log)
 }
 
-/// A client's handshake: what it sends, its look then, and a message.
+/// A handshake of a client: what it sends, its look then, and a message.
+fn asks(log: &mut Vec<u8>, stack: &mut Stack) -> Result<(), Fail> {
+    gone(log, stack)?;
+    heard(log, stack)?;
+    message(log, stack, 64)
+}
+
+/// A client's session whose bytes come in one piece.
 fn asked(alloc: Global, bytes: &[u8]) -> Result<Vec<u8>, Fail> {
-    let mut log = Vec::new(alloc);
     let mut stack = asking(alloc, bytes)?;
-    gone(&mut log, &mut stack)?;
-    heard(&mut log, &mut stack)?;
-    message(&mut log, &mut stack, 64)?;
+    let mut log = Vec::new(alloc);
+    asks(&mut log, &mut stack)?;
     Ok(log)
 }
 

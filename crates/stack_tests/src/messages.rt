@@ -1,9 +1,9 @@
-ghost use Rattle.std.specs.Prelude.{◌≡◌, ◌≤◌, [], length};
+ghost use Rattle.std.specs.Prelude.{◌≡◌, []};
 
-use crate::counting::Counter;
+use crate::acts::{gone, message, stood};
 use dill_base::Octets;
 use dill_frames::PrefixForm;
-use dill_stack::{Layer, Stack, StackFault, Top, Want};
+use dill_stack::{Layer, Stack, StackFault};
 use dill_ws::Side;
 use std::alloc::Global;
 use std::test::Fail;
@@ -42,33 +42,19 @@ pub fn put(alloc: Global, stack: &mut Stack, kind: Kind) -> Result<Result<(), St
     }
 }
 
-/// Looks for a message of at most so many bytes.
-pub fn looked(alloc: Global, stack: &mut Stack, limit: usize) -> Result<String, Fail> {
-    match stack.reserve(Want::Message(limit)) {
-        Ok(()) => {}
-        Err(_) => return Err(Fail::from("memory")),
-    }
-    match stack.top() {
-        Top::Bytes => Err(Fail::from("bytes")),
-        Top::Http => Err(Fail::from("a head")),
-        _ => Ok(format!(in alloc; "{:?}", stack.read(Want::Message(limit), &mut Counter(0)))?),
-    }
+/// A message, a second one behind it, and what is to be sent then.
+fn twice(log: &mut Vec<u8>, stack: &mut Stack, limit: usize) -> Result<(), Fail> {
+    message(log, stack, limit)?;
+    message(log, stack, limit)?;
+    gone(log, stack)
 }
 
-/// What a receive answers where these bytes have come to a stack of this layer, a second one behind it, and what is to
-/// be sent then.
-fn answered(alloc: Global, kind: Kind, bytes: &[u8], limit: usize) -> Result<String, Fail>
-    requires { length bytes.now ≤ 4096 }
-{
-    let mut stack = Stack::new(alloc)?;
-    stack.came(bytes);
-    match put(alloc, &mut stack, kind)? {
-        Ok(()) => {}
-        Err(_) => return Err(Fail::from("attach")),
-    }
-    let first = looked(alloc, &mut stack, limit)?;
-    let second = looked(alloc, &mut stack, limit)?;
-    Ok(format!(in alloc; "{first} {second} {:?}", stack.offered())?)
+/// The same where these bytes have come to a stack of this layer.
+fn answered(alloc: Global, kind: Kind, bytes: &[u8], limit: usize) -> Result<Vec<u8>, Fail> {
+    let mut stack = stood(alloc, bytes, kind)?;
+    let mut log = Vec::new(alloc);
+    twice(&mut log, &mut stack, limit)?;
+    Ok(log)
 }
 
 #[test]
@@ -81,68 +67,58 @@ fn a_message_is_given_through_its_layer_and_the_last_ping_is_answered(
             Kind::Prefix(2, false),
             b"\x00\x02hi\x00" as &[u8],
             8,
-            "Given(Bytes(Octets { bytes: [104, 105] })) Need []",
+            b"hi;need;;" as &[u8],
         ),
         (
             Kind::Prefix(2, false),
             b"\x00\x09",
             8,
-            "Fault(Emsgsize) Fault(Emsgsize) []",
+            b"EMSGSIZE;EMSGSIZE;;",
         ),
-        (
-            Kind::Suffix,
-            b"hi\r\n\r\n",
-            8,
-            "Given(Bytes(Octets { bytes: [104, 105] })) Given(Bytes(Octets { bytes: [] })) []",
-        ),
+        (Kind::Suffix, b"hi\r\n\r\n", 8, b"hi;;;"),
         (
             Kind::Server,
             b"\x81\x85\x37\xfa\x21\x3d\x7f\x9f\x4d\x51\x58",
             64,
-            "Given(Bytes(Octets { bytes: [72, 101, 108, 108, 111] })) Need []",
+            b"Hello;need;;",
         ),
         (
             Kind::Server,
             b"\x01\x83\0\0\0\0Hel\x89\x80\0\0\0\0\x80\x82\0\0\0\0lo",
             64,
-            "Given(Bytes(Octets { bytes: [72, 101, 108, 108, 111] })) Need [138, 0]",
+            b"Hello;need;\x8a\0;",
         ),
         (
             Kind::Server,
             b"\x81\x85\0\0\0\0Hello",
             4,
-            "Fault(Emsgsize) Fault(Emsgsize) []",
+            b"EMSGSIZE;EMSGSIZE;;",
         ),
         (
             Kind::Server,
             b"\x81\x81\0\0\0\0\xff",
             64,
-            "Fault(Eproto) Fault(Eproto) []",
+            b"EPROTO;EPROTO;;",
         ),
-        (
-            Kind::Server,
-            b"\x88\x80\0\0\0\0",
-            64,
-            "Fault(Epipe) Fault(Epipe) []",
-        ),
-        (Kind::Server, b"\x01\x81\0\0\0\0a", 64, "Need Need []"),
+        (Kind::Server, b"\x88\x80\0\0\0\0", 64, b"EPIPE;EPIPE;;"),
+        (Kind::Server, b"\x01\x81\0\0\0\0a", 64, b"need;need;;"),
         (
             Kind::Client,
             b"\x89\x02hi",
             8,
-            "Need Need [138, 130, 0, 0, 0, 1, 104, 105]",
+            b"need;need;\x8a\x82\0\0\0\x01hi;",
         ),
         (
             Kind::Server,
             b"\x89\x81\0\0\0\0a\x89\x81\0\0\0\0b",
             8,
-            "Need Need [138, 1, 98]",
+            b"need;need;\x8a\x01b;",
         ),
-        (Kind::Server, b"\x8a\x80\0\0\0\0", 8, "Need Need []"),
+        (Kind::Server, b"\x8a\x80\0\0\0\0", 8, b"need;need;;"),
     ];
-    for (kind, bytes, limit, told) in table {
-        let said = answered(alloc, kind, bytes, limit)?;
-        assert_eq!(rt; said.as_str(), told);
+    for (kind, bytes, limit, want) in table {
+        let told = answered(alloc, kind, bytes, limit)?;
+        assert_eq!(rt; told.as_slice(), want);
     }
     Ok(())
 }

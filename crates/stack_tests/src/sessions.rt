@@ -18,16 +18,20 @@ fn cap(alloc: Global, stack: &mut Stack) -> Result<(), Fail> {
     }
 }
 
-/// Messages up to the peer's end, and both layers are left.
+/// Messages up to the peer's end; both layers are left, and three bytes are read.
+fn ends(log: &mut Vec<u8>, stack: &mut Stack) -> Result<(), Fail> {
+    message(log, stack, 10)?;
+    message(log, stack, 10)?;
+    parted(log, stack)?;
+    parted(log, stack)?;
+    exactly(log, stack, 3)
+}
+
 fn ended(alloc: Global, bytes: &[u8]) -> Result<Vec<u8>, Fail> {
-    let mut log = Vec::new(alloc);
     let mut stack = stood(alloc, bytes, Kind::Prefix(2, false))?;
     cap(alloc, &mut stack)?;
-    message(&mut log, &mut stack, 10)?;
-    message(&mut log, &mut stack, 10)?;
-    parted(&mut log, &mut stack)?;
-    parted(&mut log, &mut stack)?;
-    exactly(&mut log, &mut stack, 3)?;
+    let mut log = Vec::new(alloc);
+    ends(&mut log, &mut stack)?;
     Ok(log)
 }
 
@@ -43,8 +47,8 @@ fn an_end_by_a_terminal_message_leaves_what_is_unread(rt: HostRuntime) -> Result
 
 /// What a message is sent as.
 fn spelled(alloc: Global, kind: Kind, text: &[u8]) -> Result<Vec<u8>, Fail> {
-    let mut log = Vec::new(alloc);
     let mut stack = stood(alloc, b"", kind)?;
+    let mut log = Vec::new(alloc);
     sent(&mut log, &mut stack, text)?;
     Ok(log)
 }
@@ -72,54 +76,58 @@ fn a_message_is_sent_in_its_framing(rt: HostRuntime) -> Result<(), Fail> {
     Ok(())
 }
 
-/// How many bytes two writes are offered of a message of so many letters, or its refusal.
-fn counted(alloc: Global, count: u32) -> Result<String, Fail> {
+fn letters(alloc: Global, count: u32) -> Result<Vec<u8>, Fail> {
     let mut text = Vec::new(alloc);
     for _at in 0..count {
         text.push(b'a')?;
     }
-    let mut stack = stood(alloc, b"", Kind::Prefix(2, false))?;
-    if !stack.is_sent() {
-        return Err(Fail::from("pending"));
-    }
-    match stack.frame(text.as_slice(), &mut Counter(0)) {
-        Ok(()) => {}
-        Err(fault) => return Ok(format!(in alloc; "{fault:?}")?),
+    Ok(text)
+}
+
+/// How many bytes two writes are offered of a message, or nothing where it is refused.
+fn pieces(stack: &mut Stack, text: &[u8]) -> Option<(usize, usize)> {
+    if !stack.is_sent() || stack.frame(text, &mut Counter(0)).is_err() {
+        return None;
     }
     let first = stack.offered().len();
     stack.took(first);
-    Ok(format!(in alloc; "{first} {}", stack.offered().len())?)
+    Some((first, stack.offered().len()))
+}
+
+/// The same of a message of so many letters behind its length.
+fn counted(alloc: Global, count: u32) -> Result<Option<(usize, usize)>, Fail> {
+    let text = letters(alloc, count)?;
+    let mut stack = stood(alloc, b"", Kind::Prefix(2, false))?;
+    Ok(pieces(&mut stack, text.as_slice()))
 }
 
 #[test]
 fn a_long_message_is_offered_in_pieces_or_refused(rt: HostRuntime) -> Result<(), Fail> {
     let alloc = rt.alloc();
-    let table = [(65_535, "65536 1"), (65_536, "Refused(Emsgsize)")];
-    for (count, want) in table {
-        let told = counted(alloc, count)?;
-        assert_eq!(rt; told.as_str(), want);
+    for (count, want) in [(65_535, Some((65_536, 1))), (65_536, None)] {
+        assert_eq!(rt; counted(alloc, count)?, want);
     }
     Ok(())
 }
 
 /// Bytes are given up when so many have gone: what a second send gives then, and one of no bytes.
-fn given_up(alloc: Global, count: usize) -> Result<Vec<u8>, Fail> {
-    let mut log = Vec::new(alloc);
-    let mut stack = bare(alloc, b"")?;
-    if !stack.is_sent() {
-        return Err(Fail::from("pending"));
-    }
-    match stack.frame(b"abcdef", &mut Counter(0)) {
-        Ok(()) => {}
-        Err(_) => return Err(Fail::from("frame")),
+fn gives_up(log: &mut Vec<u8>, stack: &mut Stack, count: usize) -> Result<(), Fail> {
+    if !stack.is_sent() || stack.frame(b"abcdef", &mut Counter(0)).is_err() {
+        return Err(Fail::from("frame"));
     }
     if stack.offered().len() < count {
         return Err(Fail::from("offered"));
     }
     stack.took(count);
     stack.withdraw();
-    sent(&mut log, &mut stack, b"")?;
-    sent(&mut log, &mut stack, b"gh")?;
+    sent(log, stack, b"")?;
+    sent(log, stack, b"gh")
+}
+
+fn given_up(alloc: Global, count: usize) -> Result<Vec<u8>, Fail> {
+    let mut stack = bare(alloc, b"")?;
+    let mut log = Vec::new(alloc);
+    gives_up(&mut log, &mut stack, count)?;
     Ok(log)
 }
 
