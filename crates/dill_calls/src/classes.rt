@@ -195,6 +195,11 @@ impl Word {
                 | Word::Go
                 | Word::BundleGo
                 | Word::BundleWait
+                | Word::Chmake
+                | Word::Chsend
+                | Word::Chrecv
+                | Word::Chdone
+                | Word::Choose
         )
     }
 }
