@@ -5,11 +5,10 @@ ghost use Rattle.dill_stack.specs.Read.{line_answer, two_of, coded_of, ends_fiel
 ghost use Rattle.dill_stack.specs.Standing.{receives_at};
 ghost use Rattle.dill_stack.specs.Taking.{DrawsNone, after, IsWithin, line_read, room_after, second_after, said_of};
 
-use crate::answer::AnswerRoom;
 use crate::placed::{Base, HttpLayer, Place};
 use crate::stack::Stack;
 use crate::want::{ReadOut, Want};
-use dill_base::{Errno, Front};
+use dill_base::{Errno, Front, Room};
 use dill_calls::Answer;
 use dill_http::{Cut, Span, line_front, read_field, read_request, read_status};
 
@@ -98,12 +97,7 @@ fn ends_fields(want: Want, line: &[u8]) -> bool
 }
 
 // What a receive reads in a line.
-fn line_answer(
-    first: &mut AnswerRoom,
-    second: &mut AnswerRoom,
-    want: Want,
-    line: &[u8],
-) -> Option<Answer>
+fn line_answer(first: &mut Room, second: &mut Room, want: Want, line: &[u8]) -> Option<Answer>
     requires first { length line.now ≤ first.old }
     requires second { length line.now ≤ second.old }
     ensures answer { result ≡ line_answer want line.now }
@@ -119,12 +113,7 @@ fn line_answer(
 }
 
 // The two parts of a line.
-fn two_of(
-    first: &mut AnswerRoom,
-    second: &mut AnswerRoom,
-    line: &[u8],
-    cut: Option<Cut>,
-) -> Option<Answer>
+fn two_of(first: &mut Room, second: &mut Room, line: &[u8], cut: Option<Cut>) -> Option<Answer>
     requires first { length line.now ≤ first.old }
     requires second { length line.now ≤ second.old }
     requires within { IfSome cut (λ c. LiesIn line.now c.first × LiesIn line.now c.second) }
@@ -143,7 +132,7 @@ fn two_of(
 }
 
 // The code and the reason of a line.
-fn coded_of(first: &mut AnswerRoom, line: &[u8], status: Option<(u32, Span)>) -> Option<Answer>
+fn coded_of(first: &mut Room, line: &[u8], status: Option<(u32, Span)>) -> Option<Answer>
     requires room { length line.now ≤ first.old }
     requires within { IfSome status (λ s. LiesIn line.now s.1) }
     ensures answer { result ≡ coded_of line.now status }
