@@ -32,11 +32,11 @@ use Rattle.laws_queue.specs.Stands.{StandsFor}
 use Rattle.laws_queue.specs.Well.{bit}
 use Rattle.laws_queue.proofs.Following.{next_is, nobody_next}
 use Rattle.laws_sound.proofs.LinklessLaws.{follows_linkless, expired_next, settled_after}
-use Rattle.laws_sound.proofs.Apart.{linkless_apart, settles_apart}
+use Rattle.laws_sound.proofs.Calming.{steps_keep_settled}
 use Rattle.laws_queue.proofs.Keeping.{steps_keep_well}
 use Rattle.laws_sound.proofs.Linkless.{begin_linkless}
 use Rattle.laws_sound.proofs.Turns.{closed_linkless, go_on_linkless}
-use Rattle.laws_sound.specs.Laws.{is_closing, is_timed, HasGoing}
+use Rattle.laws_sound.specs.Laws.{is_closing, is_timed, HasGoing, KeepsSettled}
 use Rattle.laws_sound.specs.Order.{IsInOrder}
 use Rattle.laws_sound.proofs.Going.{closing_goes_on, linkless_long}
 use Rattle.laws_sound.proofs.Sound.{rooted_inside}
@@ -47,7 +47,7 @@ use Rattle.laws_debt.specs.Laws.{KeepsStable, EndsClosing}
 use Rattle.laws_debt.specs.Owed.{share_by, is_early as early_in, owed}
 use Rattle.laws_debt.specs.Says.{IsLowering}
 use Rattle.laws_debt.specs.Steady.{LowersInside, IsEven, IsSteady}
-use Rattle.laws_debt.proofs.Ending.{KeepsWithin, due_at, settled_queued, take_all}
+use Rattle.laws_debt.proofs.Ending.{KeepsWithin, take_all}
 use Rattle.laws_debt.proofs.Falling.{share_in, LowersAt, turn_falls}
 use Rattle.laws_debt.proofs.Keeping.{good_stable, good_settle, good_moved, good_turn, turn_is, good_closed}
 use Rattle.laws_debt.proofs.Lists.{is_total, all_to, equal_number}
@@ -69,6 +69,9 @@ module _ {V : Type 0} (p : Program V) (law : IsLawful p) (unlinked : MakesLinkle
 
   follows : FollowsLinkless p
   follows = follows_linkless p law unlinked
+
+  calm : KeepsSettled p
+  calm = steps_keep_settled p law unlinked
 
   stable_steps : KeepsStable p
   stable_steps = steps_keep_stable p law unlinked
@@ -99,28 +102,13 @@ module _ {V : Type 0} (p : Program V) (law : IsLawful p) (unlinked : MakesLinkle
   turn_step : (s : State V) (lack : Option LackPlace) (even : IsEven p s) (who : ℕ) (rest : List ℕ) → IsSettled even.kept.world → even.kept.ready ≡ who ∷ rest → Stepped p law unlinked even.kept s (turn p lack even.kept.world who) (λ n. n == who) (filter (λ x. not (is_stamp_of who x)) s.answers)
   turn_step s lack even who rest settled e = turn_steps p law unlinked keeps within_steps even.kept s lack who rest even.stable settled even.stands even.stamps even.lowers e
 
-  turn_settles : (lack : Option LackPlace) (k : Kept V) (who : ℕ) → (s : IsStable p k) → MayTurn p k.world who → IsSettled (turn p lack k.world who)
-  turn_settles lack k who s may =
-      let w = k.world in
-      let c = may.one in
-      let moved = go_on p lack (begin w) who c.body in
-      let linkless_move = unlinked c.body (answer_given (begin w) who).1 may.real may.some in
-      let good = good_moved p law unlinked lack w who may c may.found may.some may.real (good_stable p k s) in
-      subst IsSettled (sym (turn_is p law unlinked lack w who c may.found)) (settles_apart V moved (linkless_apart moved (go_on_linkless p lack (begin w) who c.body linkless_move (begin_linkless w s.linkless))) good.numbered)
-
-  turn_settled : (lack : Option LackPlace) (k : Kept V) (who : ℕ) (rest : List ℕ) → IsStable p k → k.ready ≡ who ∷ rest → IsSettled (queued (turn p lack k.world who) rest (k.early - 1)).world
-  turn_settled lack k who rest s e =
-      let may = keeps.first k who rest s.well e in
-      let good = good_turn p law unlinked lack k.world who may (good_stable p k s) in
-      settled_queued p (turn p lack k.world who) rest (k.early - 1) good.sits (turn_settles lack k who s may)
-
   turn_steady : (s : State V) (lack : Option LackPlace) (st : IsSteady p s) (who : ℕ) (rest : List ℕ) → st.even.kept.ready ≡ who ∷ rest → IsSteady p (turn_of p lack s who)
   turn_steady s lack st who rest e =
       let even = st.even in
       let k = even.kept in
       record {
         even = even_after p law unlinked k s even.stable even.stands even.stamps (turn p lack k.world who) (λ n. n == who) (filter (λ x. not (is_stamp_of who x)) s.answers) (turn_step s lack even who rest st.settled e) rest (k.early - 1) (turn_stable lack k who rest even.stable e) (turn p lack s.world who) (turn_after s lack even who rest e);
-        settled = turn_settled lack k who rest even.stable e;
+        settled = subst (λ (l : Kept V). IsSettled l.world) (ap (turn_first p lack k) e) (calm.turned k lack even.stable.well even.stable.linkless even.stable.order st.settled);
       }
 
   turn_comes : (s : State V) (lack : Option LackPlace) (st : IsSteady p s) (who : ℕ) (rest : List ℕ) (b : ℕ) → st.even.kept.ready ≡ who ∷ rest → is_closing s.world.scopes b ≡ true → Comes s (turn_of p lack s who) b × (is_inside s.world.scopes b who ≡ true → debt p (turn_of p lack s who) b < debt p s b)
@@ -199,11 +187,9 @@ module _ {V : Type 0} (p : Program V) (law : IsLawful p) (unlinked : MakesLinkle
       let even = st.even in
       let k = even.kept in
       let steps = shut_steps p law unlinked k s even.stable even.stands even.stamps even.lowers in
-      let r = root_closed k.world in
-      let good = good_closed p law unlinked keeps (steps_keep_order p law) k.world (good_stable p k even.stable) in
       record {
-        even = other_even s even (settle r) steps (length k.ready) (stable_steps.shut k even.stable) _ (follows.shut k s even.stable.linkless even.stands);
-        settled = settled_queued p (settle r) k.ready (length k.ready) (good_settle p r good).sits (settles_apart V r (linkless_apart r (closed_linkless k.world even.stable.linkless)) good.numbered);
+        even = other_even s even (settle (root_closed k.world)) steps (length k.ready) (stable_steps.shut k even.stable) _ (follows.shut k s even.stable.linkless even.stands);
+        settled = calm.shut k even.stable.well even.stable.linkless;
       }
 
   shut_comes : (s : State V) (b : ℕ) → IsSteady p s → is_closing s.world.scopes b ≡ true → Comes s (shut s) b
@@ -288,10 +274,9 @@ module _ {V : Type 0} (p : Program V) (law : IsLawful p) (unlinked : MakesLinkle
       let m = late_of s st in
       let even = m.even_now in
       let k = even.kept in
-      let good = good_stable p k even.stable in
       record {
         even = other_even late even (settle k.world) (settle_steps p law unlinked k late even.stable even.stands even.stamps even.lowers) k.early (stable_steps.settled k even.stable) (settle late.world) (settled_after k late even.stable.linkless even.stands);
-        settled = settled_queued p (settle k.world) k.ready k.early (good_settle p k.world good).sits (settles_apart V k.world (linkless_apart k.world even.stable.linkless) good.numbered);
+        settled = calm.settled k even.stable.well even.stable.linkless;
       }
 
   expired_comes : (s : State V) (b : ℕ) → IsSteady p s → is_closing s.world.scopes b ≡ true → Comes s (expired s) b
@@ -350,30 +335,6 @@ module _ {V : Type 0} (p : Program V) (law : IsLawful p) (unlinked : MakesLinkle
       let same : debt p (woke s told ready) b ≡ debt p s b = debt_moved s (woke s told ready).world.scopes (woke s told ready).world.coroutines b h.scopes_kept h.crew_kept in
       record { places = λ n there. ap (λ (q : Scopes). is_inside q b n) h.scopes_kept; no_more = omega (arith, same) }
 
-  -- a wait makes nothing due
-  due_heated : (w v : World V) (cs : List (Coroutine V)) → AllSit p cs → v.scopes ≡ w.scopes → v.handles ≡ w.handles → v.closings ≡ w.closings → v.channels ≡ w.channels → first_some (answer_due v) cs ≡ first_some (answer_due w) cs
-  due_heated w v [] a s h c d = refl
-  due_heated w v (x ∷ cs) a s h c d = ap (λ o. option_or o (first_some (answer_due v) cs)) (due_at w v x.number (pending_call x.mode) a.0.0 s h c d) ∙ ap (λ o. option_or (answer_due w x) o) (due_heated w v cs a.1 s h c d)
-
-  heats_more : (ready : List Ready) (w : World V) → ((fold heat_ready w ready).handles ≡ w.handles) × ((fold heat_ready w ready).closings ≡ w.closings) × ((fold heat_ready w ready).channels ≡ w.channels)
-  heats_more [] w = (refl, refl, refl)
-  heats_more (x ∷ xs) w = let r = heats_more xs (heat_ready w x) in (r.0, r.1, r.2)
-
-  finishes_same : (w v : World V) (cs : List (Coroutine V)) → v.scopes ≡ w.scopes → find (can_finish v) cs ≡ find (can_finish w) cs
-  finishes_same w v cs e = ap (λ t. find (can_finish (record w { scopes = t })) cs) e
-
-  woke_settled : (s : State V) (told : ℕ) (ready : List Ready) (st : IsSteady p s) → IsSettled (kept_woke st.even.kept told ready).world
-  woke_settled s told ready st =
-      let k = st.even.kept in
-      let v = (kept_woke k told ready).world in
-      let h = heats ready (begin k.world) in
-      let m = heats_more ready (begin k.world) in
-      let sits = (good_stable p k st.even.stable).sits in
-      record {
-        endings = ap (find (can_finish v)) h.crew_kept ∙ finishes_same k.world v k.world.coroutines h.scopes_kept ∙ st.settled.endings;
-        answers = ap (first_some (answer_due v)) h.crew_kept ∙ due_heated k.world v k.world.coroutines sits h.scopes_kept m.0 m.1 m.2 ∙ st.settled.answers;
-      }
-
   -- ---- the laws
 
   no_closing : (c : Bool) (b : ℕ) → if_some (cond c (Some (record { name = 0; owner = None; closing = false })) None) false (λ (x : Bundle). x.closing) ≡ true → ⊥
@@ -408,7 +369,7 @@ module _ {V : Type 0} (p : Program V) (law : IsLawful p) (unlinked : MakesLinkle
   steady s (Turn lack) st = turned_steady s lack st
   steady s Expire st = expired_steady s st
   steady s Shut st = shut_steady s st
-  steady s (Wake told ready) st = record { even = woke_even s told ready st.even; settled = woke_settled s told ready st }
+  steady s (Wake told ready) st = record { even = woke_even s told ready st.even; settled = calm.woke st.even.kept told ready st.even.stable.linkless st.settled }
 
   comes : (s : State V) (x : Step) (b : ℕ) → IsSteady p s → is_closing s.world.scopes b ≡ true → Comes s (step p s x) b
   comes s (Turn lack) b st c = (turned_comes s lack b st c).0

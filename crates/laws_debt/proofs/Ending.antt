@@ -2,12 +2,10 @@
 use Rattle.std.proofs.Common.{◌≡◌, ◌∙◌, ◌+◌, ◌-◌, ◌^◌, ◌≤◌, ◌<◌, ◌==◌, ℕ, zero, suc, List, [], ◌∷◌, ◌++◌, length, map, take, fold, find, Bool, true, false, ◌&&◌, cond, Option, Some, None, is_some, if◌then◌else◌, refl, sym, ap, subst, arith}
 use Rattle.std.specs.List.{AllByRecursion, list_any}
 use Rattle.std.specs.List.Sorted.{IsStrictlyIncreasing}
-use Rattle.std.specs.Option.{option_or}
 use Rattle.std.proofs.lemmas.Bool.Decides.{nat_tests}
 use Rattle.dill_base.specs.declared.errno.Errno.{Errno}
 use Rattle.dill_calls.specs.declared.answer.Answer.{Answer}
 use Rattle.dill_calls.specs.declared.call.Call.{Call}
-use Rattle.dill_calls.specs.declared.call.Call.TheVariants as calls
 use Rattle.dill_calls.specs.declared.ran.LackPlace.{LackPlace}
 use Rattle.dill_calls.specs.Program.{Program, IsLawful}
 use Rattle.dill_scope.specs.declared.forest.Bundle.{Bundle}
@@ -16,20 +14,14 @@ use Rattle.dill_base.specs.Maps.{if_some, first_some, change}
 use Rattle.dill_rules.specs.declared.coroutine.Coroutine.{Coroutine}
 use Rattle.dill_rules.specs.World.{World, is_coroutine, coroutine_of, begin, pending_call, is_answered}
 use Rattle.dill_rules.specs.Taking.{is_cancelled}
-use Rattle.dill_rules.specs.Answers.{answer_of}
 use Rattle.dill_rules.specs.Settling.{is_clear, can_finish, answer_due, settle_one, settle, IsSettled}
 use Rattle.dill_rules.specs.State.{lined, fresh}
 use Rattle.dill_rules.specs.Turning.{as_running, resume, given_of, answer_given, go_on, turn}
 use Rattle.laws_queue.specs.Kept.{Kept, has_answer, queued, turn_first, kept_turn, kept_shut, root_closed}
 use Rattle.laws_queue.specs.Laws.{MayTurn, KeepsWell}
 use Rattle.laws_sound.specs.Linkless.{MakesLinkless, may_wait, IsLinkless}
-use Rattle.laws_sound.proofs.Apart.{linkless_apart}
-use Rattle.laws_sound.proofs.Meeting.{choice_same}
-use Rattle.dill_rules.specs.Answers.{when, choice_fault, clause_fault}
-use Rattle.dill_base.specs.declared.errno.Errno.TheVariants.{Ecanceled}
-use Rattle.dill_calls.specs.declared.answer.Answer.TheVariants.{Fault}
 use Rattle.laws_queue.specs.Well.{Numbered, bit, occurs, IsQueue, IsWell}
-use Rattle.laws_sound.specs.Laws.{SettlesApart, is_closing, CancelsAll, RootGoesOn}
+use Rattle.laws_sound.specs.Laws.{KeepsSettled, is_closing, CancelsAll, RootGoesOn}
 use Rattle.laws_sound.specs.Order.{IsInOrder}
 use Rattle.laws_sound.specs.Orderly.{IsOrderly, weigh}
 use Rattle.laws_debt.specs.Closing.{IsStable, IsClosing}
@@ -41,8 +33,6 @@ use Rattle.laws_sound.proofs.Steps.{settle_one_linkless}
 use Rattle.laws_sound.proofs.Turns.{closed_linkless, go_on_linkless}
 use Rattle.laws_debt.proofs.Bounded.{owes_few, all_early}
 use Rattle.laws_debt.proofs.Keeping.{root_flags, good_stable, turn_is}
-use Rattle.laws_queue.proofs.Lining.{lined_pending}
-use Rattle.laws_sound.proofs.Leaving.{lined_ends}
 use Rattle.laws_debt.proofs.Lists.{is_total, all_found, all_to, found_passes, equal_number}
 use Rattle.laws_debt.proofs.Lowering.{all_calm, owed_evolves, lowers_evolves, owed_lined, all_lower_lined, others_lower, share_falls, answered_owes, called_falls, ended_falls, first_gone, others_same}
 use Rattle.laws_debt.proofs.Settling.{AllSit, leads_sits, settle_one_leads, settle_leads}
@@ -122,54 +112,6 @@ module _ {V : Type 0} where
   of_closing w i None e f = cc
   of_closing w i (Some x) e f = closing_only w w.scopes.bundles i x e f
 
--- ---- nothing is due behind a step
-
-module _ {V : Type 0} where
-  answer_same : (w v : World V) (who : ℕ) (call : Call) → may_wait call ≡ true → v.scopes ≡ w.scopes → v.handles ≡ w.handles → v.closings ≡ w.closings → v.channels ≡ w.channels → answer_of v who call ≡ answer_of w who call
-  answer_same w v who (calls.Msleep deadline) e s h c d = ap (λ t. answer_of (record w { scopes = t }) who (calls.Msleep deadline)) s
-  answer_same w v who (calls.BundleWait number deadline) e s h c d =
-      ap (λ t. answer_of (record v { scopes = t }) who (calls.BundleWait number deadline)) s ∙ ap (λ t. answer_of (record w { handles = t }) who (calls.BundleWait number deadline)) h
-  answer_same w v who (calls.Hclose number) e s h c d =
-      ap (λ t. answer_of (record v { scopes = t }) who (calls.Hclose number)) s ∙ ap (λ t. answer_of (record w { closings = t }) who (calls.Hclose number)) c
-  answer_same w v who (calls.Chsend number bytes deadline) e s h c d =
-      ap (λ t. answer_of (record v { scopes = t }) who (calls.Chsend number bytes deadline)) s
-      ∙ ap (λ t. answer_of (record v { scopes = w.scopes; handles = t }) who (calls.Chsend number bytes deadline)) h
-      ∙ ap (λ t. answer_of (record w { channels = t }) who (calls.Chsend number bytes deadline)) d
-  answer_same w v who (calls.Chrecv number size deadline) e s h c d =
-      ap (λ t. answer_of (record v { scopes = t }) who (calls.Chrecv number size deadline)) s
-      ∙ ap (λ t. answer_of (record v { scopes = w.scopes; handles = t }) who (calls.Chrecv number size deadline)) h
-      ∙ ap (λ t. answer_of (record w { channels = t }) who (calls.Chrecv number size deadline)) d
-  answer_same w v who (calls.Choose deadline all) e s h c d =
-      ap (λ t. option_or (when (is_cancelled (record w { scopes = t }) who) (Fault Ecanceled)) (option_or None (choice_fault v 0 all))) s
-      ∙ ap (λ o. option_or (when (is_cancelled w who) (Fault Ecanceled)) (option_or None o))
-      (choice_same v w (λ number want. ap (λ t. clause_fault (record v { handles = t }) number want) h ∙ ap (λ t. clause_fault (record w { channels = t }) number want) d) 0 all)
-  answer_same w v who _ e s h c d = cc
-
-  pub due_at : (w v : World V) (n : ℕ) (o : Option Call) → if_some o true may_wait ≡ true → v.scopes ≡ w.scopes → v.handles ≡ w.handles → v.closings ≡ w.closings → v.channels ≡ w.channels → ◌≡◌ {A = Option (ℕ × Call × Answer)} (if_some o None (λ call. if_some (answer_of v n call) None (λ a. Some (n, call, a)))) (if_some o None (λ call. if_some (answer_of w n call) None (λ a. Some (n, call, a))))
-  due_at w v n None m s h c d = refl
-  due_at w v n (Some call) m s h c d = ap (λ r. if_some r None (λ a. Some (n, call, a))) (answer_same w v n call m s h c d)
-
-  due_lined : (p : Program V) (w v : World V) (cs : List (Coroutine V)) → AllSit p cs → v.scopes ≡ w.scopes → v.handles ≡ w.handles → v.closings ≡ w.closings → v.channels ≡ w.channels → first_some (answer_due v) (map lined cs) ≡ first_some (answer_due w) cs
-  due_lined p w v [] a s h c d = refl
-  due_lined p w v (x ∷ cs) a s h c d =
-      let one : answer_due v (lined x) ≡ answer_due w x = ap (λ o. if_some o None (λ call. if_some (answer_of v x.number call) None (λ b. Some (x.number, call, b)))) (lined_pending x.mode) ∙ due_at w v x.number (pending_call x.mode) a.0.0 s h c d in
-      ap (λ o. option_or o (first_some (answer_due v) (map lined cs))) one ∙ ap (λ o. option_or (answer_due w x) o) (due_lined p w v cs a.1 s h c d)
-
-  none_lined : (test more : Coroutine V → Bool) (cs : List (Coroutine V)) → ((x : Coroutine V) → more (lined x) ≡ test x) → find test cs ≡ None → find more (map lined cs) ≡ None
-  none_lined test more [] h e = refl
-  none_lined test more (x ∷ cs) h e = at (test x) (h x) e (none_lined test more cs h)
-    where
-      at : (b : Bool) → more (lined x) ≡ b → cond b (Some x) (find test cs) ≡ None → (find test cs ≡ None → find more (map lined cs) ≡ None) → find more (lined x ∷ map lined cs) ≡ None
-      at true i f rest = cc
-      at false i f rest = rw i (rest f)
-
-  -- a place in the queue makes nothing due
-  pub settled_queued : (p : Program V) (w : World V) (ready : List ℕ) (early : ℕ) → AllSit p w.coroutines → IsSettled w → IsSettled (queued w ready early).world
-  settled_queued p w ready early a s = record {
-    endings = none_lined (can_finish w) (can_finish (queued w ready early).world) w.coroutines (λ x. ap (λ b. b && is_clear w x.number) (lined_ends x.mode)) s.endings;
-    answers = due_lined p w (queued w ready early).world w.coroutines a refl refl refl refl ∙ s.answers;
-  }
-
 pub take_all : (xs ys : List ℕ) → take (length xs) (xs ++ ys) ≡ xs
 take_all [] ys = refl
 take_all (x ∷ xs) ys = ap (λ zs. x ∷ zs) (take_all xs ys)
@@ -223,105 +165,96 @@ module _ {V : Type 0} (p : Program V) (law : IsLawful p) (unlinked : MakesLinkle
 
   -- the turn of the first of the queue, but for the places of those that it answers
   record TurnsOff (w : World V) (early : ℕ) (who : ℕ) (rest : List ℕ) (v : World V) : Type 0 where
-    sits : AllSit p v.coroutines
     holds : AllHold (IsShutAs 0) 0 v
-    settled : IsSettled v
     lowers : AllLower (early_of (early - 1) rest) v.coroutines
     falls : weigh (share_by p (early_of (early - 1) rest)) v.coroutines < weigh (share_by p (early_of early (who ∷ rest))) w.coroutines
 
-  module _ (settling_ends : SettlesApart V) where
-    -- what a step comes to behind its settling
-    record Settles (w : World V) (v : World V) : Type 0 where
-      sits_then : AllSit p v.coroutines
-      holds_then : AllHold (IsShutAs 0) 0 v
-      settled_then : IsSettled v
-      leads_then_to : Leads p all_calm w v
+  -- what a step comes to behind its settling
+  record Settles (w : World V) (v : World V) : Type 0 where
+    holds_then : AllHold (IsShutAs 0) 0 v
+    leads_then_to : Leads p all_calm w v
 
-    settles_to : (w : World V) → InClosing w → Settles w (settle w)
-    settles_to w i =
-        let e = settling w i in
-        record {
-          sits_then = leads_sits p all_calm w (settle w) e i.sits;
-          holds_then = settling_holds w i;
-          settled_then = settling_ends w (linkless_apart w i.linkless) i.order.order.fits.numbered;
-          leads_then_to = e;
-        }
+  settles_to : (w : World V) → InClosing w → Settles w (settle w)
+  settles_to w i =
+      let e = settling w i in
+      record {
+        holds_then = settling_holds w i;
+        leads_then_to = e;
+      }
 
-    -- the part of the turn until it settles
-    record MovesOff (w : World V) (early : ℕ) (who : ℕ) (rest : List ℕ) (v : World V) : Type 0 where
-      in_closing : InClosing v
-      lowers_moved : AllLower (early_of (early - 1) rest) v.coroutines
-      falls_moved : weigh (share_by p (early_of (early - 1) rest)) v.coroutines < weigh (share_by p (early_of early (who ∷ rest))) w.coroutines
+  -- the part of the turn until it settles
+  record MovesOff (w : World V) (early : ℕ) (who : ℕ) (rest : List ℕ) (v : World V) : Type 0 where
+    in_closing : InClosing v
+    lowers_moved : AllLower (early_of (early - 1) rest) v.coroutines
+    falls_moved : weigh (share_by p (early_of (early - 1) rest)) v.coroutines < weigh (share_by p (early_of early (who ∷ rest))) w.coroutines
 
-    went_falls : (w : World V) (early who : ℕ) (rest : List ℕ) (c : Coroutine V) (v : World V) → coroutine_of w who ≡ Some c → is_answered c.mode ≡ true → 1 ≤ p.left c.body → SaysIn (p.said c.body) c.mode → IsLowering (early_of early (who ∷ rest)) c → Numbered 0 w.coroutines w.last_coroutine → early_of (early - 1) rest who ≡ false → Went p law all_calm (begin w) who c (given_of c.mode).1 v → weigh (share_by p (early_of (early - 1) rest)) v.coroutines < weigh (share_by p (early_of early (who ∷ rest))) w.coroutines
-    went_falls w early who rest c v found answered some says lowers numbered gone (called word view goes leads) =
-        let now = early_of early (who ∷ rest) in
-        let less = early_of (early - 1) rest in
-        let number = found_number who w.coroutines c found in
-        let share = share_falls p now less who gone (others_same who rest early) c view word number answered says lowers goes in
-        let falls = called_falls p now less who gone (others_same who rest early) c view word w.coroutines w.last_coroutine numbered found share in
-        let kept = owed_evolves p less (resume (begin w) who view).coroutines v.coroutines w.last_coroutine v.last_coroutine leads in
-        omega (arith, falls, kept)
-    went_falls w early who rest c v found answered some says lowers numbered gone (ended view outcome same last) =
-        let now = early_of early (who ∷ rest) in
-        let less = early_of (early - 1) rest in
-        let owes = answered_owes p now less who gone (others_same who rest early) c answered some in
-        let here = found_changed (is_coroutine who) (as_running view) c w.coroutines (λ d. refl) found in
-        let falls = ended_falls p now less who gone (others_same who rest early) c view outcome w.coroutines w.last_coroutine numbered found here owes in
-        subst (λ cs. weigh (share_by p less) cs < weigh (share_by p now) w.coroutines) (sym same) falls
+  went_falls : (w : World V) (early who : ℕ) (rest : List ℕ) (c : Coroutine V) (v : World V) → coroutine_of w who ≡ Some c → is_answered c.mode ≡ true → 1 ≤ p.left c.body → SaysIn (p.said c.body) c.mode → IsLowering (early_of early (who ∷ rest)) c → Numbered 0 w.coroutines w.last_coroutine → early_of (early - 1) rest who ≡ false → Went p law all_calm (begin w) who c (given_of c.mode).1 v → weigh (share_by p (early_of (early - 1) rest)) v.coroutines < weigh (share_by p (early_of early (who ∷ rest))) w.coroutines
+  went_falls w early who rest c v found answered some says lowers numbered gone (called word view goes leads) =
+      let now = early_of early (who ∷ rest) in
+      let less = early_of (early - 1) rest in
+      let number = found_number who w.coroutines c found in
+      let share = share_falls p now less who gone (others_same who rest early) c view word number answered says lowers goes in
+      let falls = called_falls p now less who gone (others_same who rest early) c view word w.coroutines w.last_coroutine numbered found share in
+      let kept = owed_evolves p less (resume (begin w) who view).coroutines v.coroutines w.last_coroutine v.last_coroutine leads in
+      omega (arith, falls, kept)
+  went_falls w early who rest c v found answered some says lowers numbered gone (ended view outcome same last) =
+      let now = early_of early (who ∷ rest) in
+      let less = early_of (early - 1) rest in
+      let owes = answered_owes p now less who gone (others_same who rest early) c answered some in
+      let here = found_changed (is_coroutine who) (as_running view) c w.coroutines (λ d. refl) found in
+      let falls = ended_falls p now less who gone (others_same who rest early) c view outcome w.coroutines w.last_coroutine numbered found here owes in
+      subst (λ cs. weigh (share_by p less) cs < weigh (share_by p now) w.coroutines) (sym same) falls
 
-    moves_off : (k : Kept V) (lack : Option LackPlace) (who : ℕ) (rest : List ℕ) → IsClosing p k → k.ready ≡ who ∷ rest → (may : MayTurn p k.world who) → MovesOff k.world k.early who rest (go_on p lack (begin k.world) who may.one.body)
-    moves_off k lack who rest s e may =
-        let w = k.world in
-        let c = may.one in
-        let b = begin w in
-        let moved = go_on p lack b who c.body in
-        let good = good_stable p k s.stable in
-        let sits = good.sits in
-        let shut : AllHold (IsShutAs 0) 0 w = record { given = omega arith; bundles = of_closing w s.stable.order.order.fits.forest.ordered.bundles (find (scopes.is_bundle 0) w.scopes.bundles) refl s.closing; flags = s.stable.flags } in
-        let before : InClosing w = record { linkless = s.stable.linkless; order = s.stable.order; sits = sits; holds = shut } in
-        let once = (subst (λ q. IsQueue q w.coroutines) e s.stable.well.queue).once who in
-        let gone = first_gone who rest k.early (absent_rest who rest _ once) in
-        let lowers : AllLower (early_of k.early (who ∷ rest)) w.coroutines = subst (λ q. AllLower (λ n. list_any (λ m. m == n) (take k.early q)) w.coroutines) e s.lowers in
-        let says = all_found (Says p) (is_coroutine who) c w.coroutines may.found s.stable.says in
-        let lowering = all_found (IsLowering (early_of k.early (who ∷ rest))) (is_coroutine who) c w.coroutines may.found lowers in
-        let linkless_move = unlinked c.body (answer_given b who).1 may.real may.some in
-        let went : Went p law all_calm b who c (answer_given b who).1 moved = go_on_went p law all_calm lack b who c unlinked may.some (record { found = may.found; real = may.real; cancelled = λ q. off w who c before may.found q; born = λ q. cc; sits = sits; met = λ other its answer g q. unmet p w sits s.settled other its answer g (λ d h. off w other d before h q) }) in
-        let from = went_leads p law all_calm b who c (answer_given b who).1 moved may.found went in
-        let view = from.0 in
-        let sits_moved = leads_sits p all_calm (resume b who view) moved from.1 (sits_resumed p b who view c may.found sits) in
-        let resumed = all_resumed who view (IsLowering (early_of k.early (who ∷ rest))) (IsLowering (early_of (k.early - 1) rest)) w.coroutines 0 w.last_coroutine s.stable.well.numbered
-        (others_lower p (early_of k.early (who ∷ rest)) (early_of (k.early - 1) rest) who gone (others_same who rest k.early)) (λ x i f. tt) lowers in
-        record {
-          in_closing = record {
-            linkless = go_on_linkless p lack b who c.body linkless_move (begin_linkless w s.stable.linkless);
-            order = within.moved k lack who rest c s.stable.well s.stable.order e may.found;
-            sits = sits_moved;
-            holds = go_on_shut (IsShutAs 0) 0 (shut_lasts 0) p lack b who c.body (record { given = shut.given; bundles = shut.bundles; flags = shut.flags });
-          };
-          lowers_moved = lowers_evolves p (early_of (k.early - 1) rest) (resume b who view).coroutines moved.coroutines w.last_coroutine moved.last_coroutine from.1 resumed;
-          falls_moved = went_falls w k.early who rest c moved may.found may.answered may.some says lowering s.stable.well.numbered gone (subst (λ a. Went p law all_calm b who c a.1 moved) (given_is w who c may.found) went);
-        }
+  moves_off : (k : Kept V) (lack : Option LackPlace) (who : ℕ) (rest : List ℕ) → IsClosing p k → k.ready ≡ who ∷ rest → (may : MayTurn p k.world who) → MovesOff k.world k.early who rest (go_on p lack (begin k.world) who may.one.body)
+  moves_off k lack who rest s e may =
+      let w = k.world in
+      let c = may.one in
+      let b = begin w in
+      let moved = go_on p lack b who c.body in
+      let good = good_stable p k s.stable in
+      let sits = good.sits in
+      let shut : AllHold (IsShutAs 0) 0 w = record { given = omega arith; bundles = of_closing w s.stable.order.order.fits.forest.ordered.bundles (find (scopes.is_bundle 0) w.scopes.bundles) refl s.closing; flags = s.stable.flags } in
+      let before : InClosing w = record { linkless = s.stable.linkless; order = s.stable.order; sits = sits; holds = shut } in
+      let once = (subst (λ q. IsQueue q w.coroutines) e s.stable.well.queue).once who in
+      let gone = first_gone who rest k.early (absent_rest who rest _ once) in
+      let lowers : AllLower (early_of k.early (who ∷ rest)) w.coroutines = subst (λ q. AllLower (λ n. list_any (λ m. m == n) (take k.early q)) w.coroutines) e s.lowers in
+      let says = all_found (Says p) (is_coroutine who) c w.coroutines may.found s.stable.says in
+      let lowering = all_found (IsLowering (early_of k.early (who ∷ rest))) (is_coroutine who) c w.coroutines may.found lowers in
+      let linkless_move = unlinked c.body (answer_given b who).1 may.real may.some in
+      let went : Went p law all_calm b who c (answer_given b who).1 moved = go_on_went p law all_calm lack b who c unlinked may.some (record { found = may.found; real = may.real; cancelled = λ q. off w who c before may.found q; born = λ q. cc; sits = sits; met = λ other its answer g q. unmet p w sits s.settled other its answer g (λ d h. off w other d before h q) }) in
+      let from = went_leads p law all_calm b who c (answer_given b who).1 moved may.found went in
+      let view = from.0 in
+      let sits_moved = leads_sits p all_calm (resume b who view) moved from.1 (sits_resumed p b who view c may.found sits) in
+      let resumed = all_resumed who view (IsLowering (early_of k.early (who ∷ rest))) (IsLowering (early_of (k.early - 1) rest)) w.coroutines 0 w.last_coroutine s.stable.well.numbered
+      (others_lower p (early_of k.early (who ∷ rest)) (early_of (k.early - 1) rest) who gone (others_same who rest k.early)) (λ x i f. tt) lowers in
+      record {
+        in_closing = record {
+          linkless = go_on_linkless p lack b who c.body linkless_move (begin_linkless w s.stable.linkless);
+          order = within.moved k lack who rest c s.stable.well s.stable.order e may.found;
+          sits = sits_moved;
+          holds = go_on_shut (IsShutAs 0) 0 (shut_lasts 0) p lack b who c.body (record { given = shut.given; bundles = shut.bundles; flags = shut.flags });
+        };
+        lowers_moved = lowers_evolves p (early_of (k.early - 1) rest) (resume b who view).coroutines moved.coroutines w.last_coroutine moved.last_coroutine from.1 resumed;
+        falls_moved = went_falls w k.early who rest c moved may.found may.answered may.some says lowering s.stable.well.numbered gone (subst (λ a. Went p law all_calm b who c a.1 moved) (given_is w who c may.found) went);
+      }
 
-    turns_off : (k : Kept V) (lack : Option LackPlace) (who : ℕ) (rest : List ℕ) → IsClosing p k → k.ready ≡ who ∷ rest → MayTurn p k.world who → TurnsOff k.world k.early who rest (turn p lack k.world who)
-    turns_off k lack who rest s e may =
-        let w = k.world in
-        let less = early_of (k.early - 1) rest in
-        let moved = go_on p lack (begin w) who may.one.body in
-        let m = moves_off k lack who rest s e may in
-        let over = settles_to moved m.in_closing in
-        let kept = owed_evolves p less moved.coroutines (settle moved).coroutines moved.last_coroutine (settle moved).last_coroutine over.leads_then_to in
-        let before = m.falls_moved in
-        let done : TurnsOff w k.early who rest (settle moved) = record {
-          sits = over.sits_then;
-          holds = over.holds_then;
-          settled = over.settled_then;
-          lowers = lowers_evolves p less moved.coroutines (settle moved).coroutines moved.last_coroutine (settle moved).last_coroutine over.leads_then_to m.lowers_moved;
-          falls = omega (arith, before, kept);
-        } in
-        subst (TurnsOff w k.early who rest) (sym (turn_is p law unlinked lack w who may.one may.found)) done
+  turns_off : (k : Kept V) (lack : Option LackPlace) (who : ℕ) (rest : List ℕ) → IsClosing p k → k.ready ≡ who ∷ rest → MayTurn p k.world who → TurnsOff k.world k.early who rest (turn p lack k.world who)
+  turns_off k lack who rest s e may =
+      let w = k.world in
+      let less = early_of (k.early - 1) rest in
+      let moved = go_on p lack (begin w) who may.one.body in
+      let m = moves_off k lack who rest s e may in
+      let over = settles_to moved m.in_closing in
+      let kept = owed_evolves p less moved.coroutines (settle moved).coroutines moved.last_coroutine (settle moved).last_coroutine over.leads_then_to in
+      let before = m.falls_moved in
+      let done : TurnsOff w k.early who rest (settle moved) = record {
+        holds = over.holds_then;
+        lowers = lowers_evolves p less moved.coroutines (settle moved).coroutines moved.last_coroutine (settle moved).last_coroutine over.leads_then_to m.lowers_moved;
+        falls = omega (arith, before, kept);
+      } in
+      subst (TurnsOff w k.early who rest) (sym (turn_is p law unlinked lack w who may.one may.found)) done
 
-  module _ (settling_ends : SettlesApart V) (stable : KeepsStable p) (goes : RootGoesOn p) where
+  module _ (calm : KeepsSettled p) (stable : KeepsStable p) (goes : RootGoesOn p) where
     few : (k : Kept V) → IsClosing p k → owed p k ≤ 2 ^ 48
     few k s = subst (λ n. n ≤ 2 ^ 48) (sym (is_total (share_by p (is_early k)) k.world.coroutines)) (owes_few p law (is_early k) k.world.coroutines s.stable.well.lives s.stable.order.order.fits.few)
 
@@ -335,7 +268,7 @@ module _ {V : Type 0} (p : Program V) (law : IsLawful p) (unlinked : MakesLinkle
           sits = good.sits;
           holds = record { given = omega arith; bundles = root_shuts k.world.scopes.bundles s.order.order.fits.forest.ordered.bundles; flags = root_flags k.world s.flags };
         } in
-        let over = settles_to settling_ends w before in
+        let over = settles_to w before in
         let all : ℕ → Bool = λ n. list_any (λ m. m == n) k.ready in
         let lowers = all_early k.ready k.world.coroutines 0 k.world.last_coroutine s.well.numbered s.well.queue s.rest in
         let lined_lower = all_lower_lined all (settle w).coroutines (lowers_evolves p all w.coroutines (settle w).coroutines w.last_coroutine (settle w).last_coroutine over.leads_then_to lowers) in
@@ -344,7 +277,7 @@ module _ {V : Type 0} (p : Program V) (law : IsLawful p) (unlinked : MakesLinkle
         record {
           stable = kept;
           closing = root_shut after.world kept.order.order (record { given = over.holds_then.given; bundles = over.holds_then.bundles; flags = kept.flags });
-          settled = settled_queued p (settle w) k.ready (length k.ready) over.sits_then over.settled_then;
+          settled = calm.shut k s.well s.linkless;
           early = length_more k.ready (fresh (settle w));
           lowers = subst (λ q. AllLower (λ n. list_any (λ m. m == n) q) after.world.coroutines) (sym (take_all k.ready (fresh (settle w)))) lined_lower;
         }
@@ -353,7 +286,7 @@ module _ {V : Type 0} (p : Program V) (law : IsLawful p) (unlinked : MakesLinkle
     turned_first : (k : Kept V) (lack : Option LackPlace) (who : ℕ) (rest : List ℕ) → KeepsWell p → IsClosing p k → k.ready ≡ who ∷ rest → IsClosing p (kept_turn p lack k) × (owed p (kept_turn p lack k) < owed p k)
     turned_first k lack who rest keeps s e =
         let may = keeps.first k who rest s.stable.well e in
-        let off = turns_off settling_ends k lack who rest s e may in
+        let off = turns_off k lack who rest s e may in
         let v = turn p lack k.world who in
         let after = queued v rest (k.early - 1) in
         let is : kept_turn p lack k ≡ after = ap (turn_first p lack k) e in
@@ -365,7 +298,7 @@ module _ {V : Type 0} (p : Program V) (law : IsLawful p) (unlinked : MakesLinkle
         let closing : IsClosing p after = record {
           stable = kept;
           closing = root_shut after.world kept.order.order (record { given = off.holds.given; bundles = off.holds.bundles; flags = kept.flags });
-          settled = settled_queued p v rest (k.early - 1) off.sits off.settled;
+          settled = subst (λ (l : Kept V). IsSettled l.world) is (calm.turned k lack s.stable.well s.stable.linkless s.stable.order s.settled);
           early = let m = length_more rest (fresh v) in omega (arith, less, m);
           lowers = subst (λ f. AllLower f after.world.coroutines) (sym same) (all_lower_lined (early_of (k.early - 1) rest) v.coroutines off.lowers);
         } in

@@ -107,7 +107,7 @@ module _ {V : Type 0} where
           fewer (ap (λ cs. counts rests cs + 1) now ∙ count_moved rests x.0 mode due.one w.coroutines (rests_fresh (word_of x.1) g.answer) due.found (pending_waits due.one.mode x.1 due.call))
           (subst (λ cs. Numbered 0 cs (settle_one w).last_coroutine) (sym now) (subst (Numbered 0 (change (is_coroutine x.0) (with_mode mode) w.coroutines)) (sym last) (numbered_change (is_coroutine x.0) (with_mode mode) w.coroutines 0 w.last_coroutine (λ d. refl) n)))
 
-  within_same : (k : ℕ) (w : World V) → settle_one w ≡ w → settle_within k w ≡ w
+  pub within_same : (k : ℕ) (w : World V) → settle_one w ≡ w → settle_within k w ≡ w
   within_same zero w e = refl
   within_same (suc k) w e = ap (settle_within k) e ∙ within_same k w e
 

@@ -3,28 +3,22 @@ use Rattle.std.proofs.Common.{◌≡◌, ◌∙◌, ℕ, zero, suc, List, [], �
 use Rattle.std.proofs.lemmas.Bool.{and_parts}
 use Rattle.std.proofs.lemmas.List.{append-nil}
 use Rattle.std.specs.List.{list_all}
-use Rattle.std.specs.Option.{option_or}
-use Rattle.dill_calls.specs.declared.answer.Answer.{Answer}
-use Rattle.dill_calls.specs.declared.call.Call.{Call}
-use Rattle.dill_calls.specs.declared.call.Call.TheVariants as calls
 use Rattle.dill_calls.specs.Program.{Program}
 use Rattle.dill_scope.specs.declared.forest.Bundle.{Bundle}
 use Rattle.dill_scope.specs.Scopes as scopes
 use Rattle.dill_base.specs.Maps.{if_some, change, first_some}
-use Rattle.dill_rules.specs.Taking.{is_cancelled}
-use Rattle.dill_base.specs.declared.errno.Errno.TheVariants.{Ecanceled}
-use Rattle.dill_calls.specs.declared.answer.Answer.TheVariants.{Fault}
 use Rattle.dill_rules.specs.declared.coroutine.Coroutine.{Coroutine}
 use Rattle.dill_rules.specs.declared.coroutine.Mode.{Mode}
 use Rattle.dill_rules.specs.declared.coroutine.Mode.TheVariants as modes
 use Rattle.dill_rules.specs.World.{World, begin, from_start, pending_call}
-use Rattle.dill_rules.specs.Answers.{answer_of, when}
 use Rattle.dill_rules.specs.Settling.{answer_due, finish, give_first, settle, settle_one, settle_within, IsSettled}
 use Rattle.dill_rules.specs.Giving.{give}
 use Rattle.dill_rules.specs.State.{lined, lined_mode, is_fresh, fresh}
 use Rattle.laws_queue.specs.Kept.{Kept, queued, kept_shut}
 use Rattle.laws_sound.specs.Linkless.{IsLinkless, may_wait, waits_linkless}
-use Rattle.laws_sound.proofs.Meeting.{choice_same}
+use Rattle.laws_queue.proofs.Settling.{within_same}
+use Rattle.laws_sound.proofs.Calming.{begin_settled}
+use Rattle.laws_sound.proofs.Linkless.{begin_linkless}
 use Rattle.laws_sound.proofs.Steps.{pass_linkless}
 use Rattle.laws_sound.specs.Laws.{is_closing, is_resting, IsAtRest}
 use Rattle.laws_debt.specs.Closing.{IsClosing}
@@ -56,40 +50,9 @@ fresh_rest modes.Running e = cc
 fresh_rest (modes.Fresh word answer) e = cc
 
 module _ {V : Type 0} where
-  -- settling doesn't look at notes
-  answer_begun : (w : World V) (who : ℕ) (call : Call) → may_wait call ≡ true → answer_of (begin w) who call ≡ answer_of w who call
-  answer_begun w who (calls.Msleep deadline) e = refl
-  answer_begun w who (calls.Hclose number) e = refl
-  answer_begun w who (calls.BundleWait number deadline) e = refl
-  answer_begun w who (calls.Chsend number bytes deadline) e = refl
-  answer_begun w who (calls.Chrecv number size deadline) e = refl
-  answer_begun w who (calls.Choose deadline all) e = ap (λ o. option_or (when (is_cancelled w who) (Fault Ecanceled)) (option_or None o)) (choice_same (begin w) w (λ number want. refl) 0 all)
-  answer_begun w who _ e = cc
-
-  due_begun : (w : World V) (n : ℕ) (o : Option Call) → if_some o true may_wait ≡ true
-      → ◌≡◌ {A = Option (ℕ × Call × Answer)} (if_some o None (λ call. if_some (answer_of (begin w) n call) None (λ a. Some (n, call, a)))) (if_some o None (λ call. if_some (answer_of w n call) None (λ a. Some (n, call, a))))
-  due_begun w n None e = refl
-  due_begun w n (Some call) e = ap (λ r. if_some r None (λ a. Some (n, call, a))) (answer_begun w n call e)
-
-  first_begun : (w : World V) (cs : List (Coroutine V)) → list_all waits_linkless cs ≡ true → first_some (answer_due (begin w)) cs ≡ first_some (answer_due w) cs
-  first_begun w [] e = refl
-  first_begun w (c ∷ cs) e =
-      let h = and_parts (waits_linkless c) (list_all waits_linkless cs) e in
-      ap (λ o. option_or o (first_some (answer_due (begin w)) cs)) (due_begun w c.number (pending_call c.mode) h.0) ∙ ap (λ o. option_or (answer_due w c) o) (first_begun w cs h.1)
-
-  begun_settled : (w : World V) → IsLinkless w → IsSettled w → IsSettled (begin w)
-  begun_settled w linkless settled = record { endings = settled.endings; answers = first_begun w w.coroutines linkless.calls ∙ settled.answers }
-
-  begun_linkless : (w : World V) → IsLinkless w → IsLinkless (begin w)
-  begun_linkless w linkless = record { links = linkless.links; place = linkless.place; wrote = linkless.wrote; things = linkless.things; calls = linkless.calls }
-
   -- where nothing is due nothing settles
   one_same : (w : World V) → IsSettled w → settle_one w ≡ w
   one_same w settled = ap (λ o. if_some o (give_first w) (finish w)) settled.endings ∙ ap (λ o. if_some o w (λ x. give w x.0 x.1 x.2)) settled.answers
-
-  within_same : (k : ℕ) (w : World V) → settle_one w ≡ w → settle_within k w ≡ w
-  within_same zero w e = refl
-  within_same (suc k) w e = ap (settle_within k) e ∙ within_same k w e
 
   settle_same : (w : World V) → IsLinkless w → IsSettled w → settle w ≡ w
   settle_same w linkless settled =
@@ -131,5 +94,5 @@ module _ {V : Type 0} where
         let w = k.world in
         let linkless = closing.stable.linkless in
         ap (λ v. queued (settle v) k.ready (length k.ready)) (again_world w linkless closing.closing)
-        ∙ ap (λ v. queued v k.ready (length k.ready)) (settle_same (begin w) (begun_linkless w linkless) (begun_settled w linkless closing.settled))
+        ∙ ap (λ v. queued v k.ready (length k.ready)) (settle_same (begin w) (begin_linkless w linkless) (begin_settled w linkless.calls closing.settled))
         ∙ queued_same (begin w) k.ready (length k.ready) closing.stable.rest

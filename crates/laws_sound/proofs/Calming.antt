@@ -1,24 +1,16 @@
 -- After each step that settles nothing is due, and all are at rest.
 use Rattle.std.proofs.Common.{◌≡◌, ◌∙◌, ℕ, ◌-◌, List, [], ◌∷◌, length, map, find, fold, Bool, true, false, ◌&&◌, cond, Option, Some, None, refl, sym, ap, subst}
-use Rattle.std.proofs.lemmas.Bool.{and_parts}
 use Rattle.std.specs.Prelude.{max}
 use Rattle.std.specs.List.{list_all}
 use Rattle.std.specs.Option.{option_or}
 use Rattle.rand_core.specs.Stream.{Stream}
-use Rattle.dill_calls.specs.declared.answer.Answer.{Answer}
-use Rattle.dill_calls.specs.declared.call.Call.{Call}
-use Rattle.dill_calls.specs.declared.call.Call.TheVariants as calls
 use Rattle.dill_calls.specs.declared.ran.LackPlace.{LackPlace}
 use Rattle.dill_calls.specs.declared.ran.Note.{Note}
 use Rattle.dill_calls.specs.Program.{Program, IsLawful}
 use Rattle.dill_kernel.specs.declared.ready.Ready.{Ready}
 use Rattle.dill_base.specs.Maps.{if_some, first_some}
 use Rattle.dill_rules.specs.declared.coroutine.Coroutine.{Coroutine}
-use Rattle.dill_rules.specs.Answers.{answer_of, when}
-use Rattle.dill_rules.specs.Taking.{is_cancelled}
-use Rattle.dill_base.specs.declared.errno.Errno.TheVariants.{Ecanceled}
-use Rattle.dill_calls.specs.declared.answer.Answer.TheVariants.{Fault}
-use Rattle.laws_sound.proofs.Meeting.{choice_same}
+use Rattle.dill_rules.specs.Answers.{answer_of}
 use Rattle.dill_rules.specs.Expiring.{passed}
 use Rattle.dill_rules.specs.Hearing.{heat_ready}
 use Rattle.dill_rules.specs.Links.{Links}
@@ -28,7 +20,7 @@ use Rattle.dill_rules.specs.Turning.{go_on, move_of, answer_given}
 use Rattle.dill_rules.specs.World.{World, Place, at_start, begin, pending_call}
 use Rattle.laws_queue.specs.Kept.{Kept, queued, turn_first, kept_turn, kept_expire_next, kept_late, kept_expired, kept_shut, kept_woke, root_closed}
 use Rattle.laws_queue.specs.Laws.{KeepsWell}
-use Rattle.laws_sound.specs.Linkless.{MovesLinkless, MakesLinkless, may_wait, waits_linkless, IsLinkless}
+use Rattle.laws_sound.specs.Linkless.{MovesLinkless, MakesLinkless, waits_linkless, IsLinkless}
 use Rattle.laws_queue.specs.Well.{Numbered, IsWell}
 use Rattle.laws_queue.proofs.Keeping.{steps_keep_well}
 use Rattle.laws_sound.proofs.Linkless.{begin_linkless}
@@ -38,72 +30,44 @@ use Rattle.laws_sound.proofs.Steps.{settle_linkless}
 use Rattle.laws_sound.proofs.Turns.{closed_linkless, go_on_linkless}
 use Rattle.laws_sound.specs.Laws.{StepsKeepSettled}
 use Rattle.laws_sound.specs.Orderly.{IsOrderly}
-use Rattle.laws_sound.proofs.Going.{or_none}
+use Rattle.laws_sound.proofs.Settles.{changed, first_same}
 use Rattle.laws_sound.proofs.Calling.{go_on_goes, turn_is}
 use Rattle.laws_sound.proofs.Leaving.{lined_ends}
 use Rattle.laws_queue.proofs.Lining.{lined_pending}
 
 module _ {V : Type 0} where
-  -- other parts of a world, and other modes, that answers of no link don't look at
-  abbrev changed : World V → List (Coroutine V) → Links → Place → List ℕ → Stream → ℕ → List Note → World V
-  changed w ds l place wrote random moment notes = record w { coroutines = ds; links = l; place = place; wrote = wrote; random = random; moment = moment; notes = notes }
-
-  answer_same : (w : World V) (ds : List (Coroutine V)) (l : Links) (place : Place) (wrote : List ℕ) (random : Stream) (moment : ℕ) (notes : List Note) (n : ℕ) (call : Call) → may_wait call ≡ true → answer_of (changed w ds l place wrote random moment notes) n call ≡ answer_of w n call
-  answer_same w ds l place wrote random moment notes n (calls.Msleep deadline) e = refl
-  answer_same w ds l place wrote random moment notes n (calls.Hclose number) e = refl
-  answer_same w ds l place wrote random moment notes n (calls.BundleWait number deadline) e = refl
-  answer_same w ds l place wrote random moment notes n (calls.Chsend number bytes deadline) e = refl
-  answer_same w ds l place wrote random moment notes n (calls.Chrecv number size deadline) e = refl
-  answer_same w ds l place wrote random moment notes n (calls.Choose deadline all) e = ap (λ o. option_or (when (is_cancelled w n) (Fault Ecanceled)) (option_or None o)) (choice_same (changed w ds l place wrote random moment notes) w (λ number want. refl) 0 all)
-  answer_same w ds l place wrote random moment notes n _ e = cc
-
-  due_same : (w v : World V) (n : ℕ) (o : Option Call) → ((call : Call) → may_wait call ≡ true → answer_of v n call ≡ answer_of w n call) → if_some o true may_wait ≡ true → ◌≡◌ {A = Option (ℕ × Call × Answer)} (if_some o None (λ call. if_some (answer_of v n call) None (λ a. Some (n, call, a)))) (if_some o None (λ call. if_some (answer_of w n call) None (λ a. Some (n, call, a))))
-  due_same w v n None same e = refl
-  due_same w v n (Some call) same e = ap (λ r. if_some r None (λ a. Some (n, call, a))) (same call e)
-
-  -- where nothing is due, nothing is so in the changed world
-  none_finish : (w v : World V) (f : Coroutine V → Coroutine V) → ((c : Coroutine V) → can_finish v (f c) ≡ can_finish w c) → (cs : List (Coroutine V)) → find (can_finish w) cs ≡ None → find (can_finish v) (map f cs) ≡ None
-  none_finish w v f same [] e = refl
-  none_finish w v f same (c ∷ cs) e = at (can_finish w c) refl e (none_finish w v f same cs)
+  -- a place in the queue makes nothing due
+  lined_finish : (w : World V) (cs : List (Coroutine V)) → find (can_finish w) cs ≡ None → find (can_finish w) (map lined cs) ≡ None
+  lined_finish w [] e = refl
+  lined_finish w (c ∷ cs) e = at (can_finish w c) (ap (λ b. b && is_clear w c.number) (lined_ends c.mode)) e (lined_finish w cs)
     where
-      at : (b : Bool) → can_finish w c ≡ b → cond b (Some c) (find (can_finish w) cs) ≡ None → (find (can_finish w) cs ≡ None → find (can_finish v) (map f cs) ≡ None) → find (can_finish v) (map f (c ∷ cs)) ≡ None
+      at : (b : Bool) → can_finish w (lined c) ≡ b → cond b (Some c) (find (can_finish w) cs) ≡ None → (find (can_finish w) cs ≡ None → find (can_finish w) (map lined cs) ≡ None) → find (can_finish w) (map lined (c ∷ cs)) ≡ None
       at true g h rest = cc
-      at false g h rest = let t : can_finish v (f c) ≡ false = same c ∙ g in ap (λ b. cond b (Some (f c)) (find (can_finish v) (map f cs))) t ∙ rest h
+      at false g h rest = ap (λ b. cond b (Some (lined c)) (find (can_finish w) (map lined cs))) g ∙ rest h
 
-  none_due : (w v : World V) (f : Coroutine V → Coroutine V) → ((c : Coroutine V) → waits_linkless c ≡ true → answer_due v (f c) ≡ answer_due w c) → (cs : List (Coroutine V)) → list_all waits_linkless cs ≡ true → first_some (answer_due w) cs ≡ None → first_some (answer_due v) (map f cs) ≡ None
-  none_due w v f same [] p e = refl
-  none_due w v f same (c ∷ cs) p e =
-      let b = and_parts (waits_linkless c) (list_all waits_linkless cs) p in
-      let o = or_none (answer_due w c) (first_some (answer_due w) cs) e in
-      ap (λ r. option_or r (first_some (answer_due v) (map f cs))) (same c b.0 ∙ o.0) ∙ none_due w v f same cs b.1 o.1
+  lined_due : (w : World V) (cs : List (Coroutine V)) → first_some (answer_due w) (map lined cs) ≡ first_some (answer_due w) cs
+  lined_due w [] = refl
+  lined_due w (c ∷ cs) =
+      ap (λ o. option_or (if_some o None (λ call. if_some (answer_of w c.number call) None (λ a. Some (c.number, call, a)))) (first_some (answer_due w) (map lined cs))) (lined_pending c.mode)
+      ∙ ap (λ o. option_or (answer_due w c) o) (lined_due w cs)
 
   settled_lined : (w : World V) → IsLinkless w → IsSettled w → IsSettled (record w { coroutines = map lined w.coroutines })
-  settled_lined w linkless s =
-      let v = record w { coroutines = map lined w.coroutines } in
-      record {
-        endings = none_finish w v lined (λ c. ap (λ b. b && is_clear w c.number) (lined_ends c.mode)) w.coroutines s.endings;
-        answers = none_due w v lined
-            (λ c e. ap (λ o. if_some o None (λ call. if_some (answer_of v c.number call) None (λ a. Some (c.number, call, a)))) (lined_pending c.mode)
-            ∙ due_same w v c.number (pending_call c.mode) (answer_same w (map lined w.coroutines) w.links w.place w.wrote w.random w.moment w.notes c.number) e) w.coroutines linkless.calls s.answers;
-      }
-
-  map_itself : (cs : List (Coroutine V)) → map (λ c. c) cs ≡ cs
-  map_itself [] = refl
-  map_itself (c ∷ cs) = ap (λ ds. c ∷ ds) (map_itself cs)
+  settled_lined w linkless s = record {
+    endings = lined_finish w w.coroutines s.endings;
+    answers = lined_due (record w { coroutines = map lined w.coroutines }) w.coroutines ∙ first_same w (map lined w.coroutines) w.links w.place w.wrote w.random w.moment w.notes w.coroutines linkless.calls ∙ s.answers;
+  }
 
   settled_anyway : (w : World V) (l : Links) (place : Place) (wrote : List ℕ) (random : Stream) (moment : ℕ) (notes : List Note) → list_all waits_linkless w.coroutines ≡ true → IsSettled w → IsSettled (changed w w.coroutines l place wrote random moment notes)
-  settled_anyway w l place wrote random moment notes calls s =
-      let v = changed w w.coroutines l place wrote random moment notes in
-      record {
-        endings = ap (find (can_finish v)) (sym (map_itself w.coroutines)) ∙ none_finish w v (λ d. d) (λ d. refl) w.coroutines s.endings;
-        answers = ap (first_some (answer_due v)) (sym (map_itself w.coroutines)) ∙ none_due w v (λ d. d) (λ d e. due_same w v d.number (pending_call d.mode) (answer_same w w.coroutines l place wrote random moment notes d.number) e) w.coroutines calls s.answers;
-      }
+  settled_anyway w l place wrote random moment notes calls s = record {
+    endings = s.endings;
+    answers = first_same w w.coroutines l place wrote random moment notes w.coroutines calls ∙ s.answers;
+  }
 
   -- what settles
   queued_settled : (w : World V) (ready : List ℕ) (early : ℕ) → IsLinkless w → Numbered 0 w.coroutines w.last_coroutine → IsSettled (queued (settle w) ready early).world
   queued_settled w ready early linkless n = settled_lined (settle w) (settle_linkless w linkless) (settles_apart V w (linkless_apart w linkless) n)
 
-  begin_settled : (w : World V) → list_all waits_linkless w.coroutines ≡ true → IsSettled w → IsSettled (begin w)
+  pub begin_settled : (w : World V) → list_all waits_linkless w.coroutines ≡ true → IsSettled w → IsSettled (begin w)
   begin_settled w calls s = settled_anyway w w.links w.place w.wrote w.random w.moment [] calls s
 
   heated_settled : (ready : List Ready) (w : World V) → list_all waits_linkless w.coroutines ≡ true → IsSettled w → (list_all waits_linkless (fold heat_ready w ready).coroutines ≡ true) × IsSettled (fold heat_ready w ready)

@@ -6,6 +6,7 @@ use Rattle.std.specs.Option.{option_or}
 use Rattle.dill_calls.specs.declared.answer.Answer.{Answer}
 use Rattle.dill_calls.specs.declared.call.Call.{Call}
 use Rattle.dill_calls.specs.declared.call.Call.TheVariants as calls
+use Rattle.dill_calls.specs.declared.ran.Note.{Note}
 use Rattle.dill_calls.specs.declared.word.Word.TheVariants as words
 use Rattle.rand_core.specs.Stream.{Stream}
 use Rattle.dill_handles.specs.Handles as handles
@@ -13,7 +14,8 @@ use Rattle.dill_handles.specs.declared.entry.Entry.{Entry}
 use Rattle.dill_base.specs.Maps.{if_some, first_some}
 use Rattle.dill_rules.specs.declared.coroutine.Coroutine.{Coroutine}
 use Rattle.dill_rules.specs.declared.thing.Thing.{Thing}
-use Rattle.dill_rules.specs.World.{World, reply, pending_call, from_start}
+use Rattle.dill_rules.specs.Links.{Links}
+use Rattle.dill_rules.specs.World.{World, Place, reply, pending_call, from_start}
 use Rattle.dill_rules.specs.Owning.{free_bundle, release, close_bundle, is_dead_as}
 use Rattle.dill_rules.specs.Taking.{bundle_of}
 use Rattle.dill_rules.specs.Answers.{answer_of, when}
@@ -28,24 +30,31 @@ use Rattle.laws_sound.proofs.Blind.{some_blind, if_blind, fold_blind, release_bl
 use Rattle.laws_sound.proofs.Meeting.{choice_same}
 
 module _ {V : Type 0} where
-  pub answer_blind : (u : Stream) (w : World V) (who : ℕ) (call : Call) → may_wait call ≡ true → answer_of ((lent u) w) who call ≡ answer_of w who call
-  answer_blind u w who (calls.Msleep deadline) e = refl
-  answer_blind u w who (calls.Hclose number) e = refl
-  answer_blind u w who (calls.BundleWait number deadline) e = refl
-  answer_blind u w who (calls.Chsend number bytes deadline) e = refl
-  answer_blind u w who (calls.Chrecv number size deadline) e = refl
-  answer_blind u w who (calls.Choose deadline all) e = ap (λ o. option_or (when (is_cancelled w who) (Fault Ecanceled)) (option_or None o)) (choice_same ((lent u) w) w (λ number want. refl) 0 all)
-  answer_blind u w who _ e = cc
+  -- the same but for what answers of no link don't look at
+  abbrev pub changed : World V → List (Coroutine V) → Links → Place → List ℕ → Stream → ℕ → List Note → World V
+  changed w ds l place wrote random moment notes = record w { coroutines = ds; links = l; place = place; wrote = wrote; random = random; moment = moment; notes = notes }
 
-  due_blind : (u : Stream) (w : World V) (n : ℕ) (o : Option Call) → if_some o true may_wait ≡ true → ◌≡◌ {A = Option (ℕ × Call × Answer)} (if_some o None (λ call. if_some (answer_of ((lent u) w) n call) None (λ a. Some (n, call, a)))) (if_some o None (λ call. if_some (answer_of w n call) None (λ a. Some (n, call, a))))
-  due_blind u w n None e = refl
-  due_blind u w n (Some call) e = ap (λ r. if_some r None (λ a. Some (n, call, a))) ((answer_blind u) w n call e)
+  pub answer_same : (w : World V) (ds : List (Coroutine V)) (l : Links) (place : Place) (wrote : List ℕ) (random : Stream) (moment : ℕ) (notes : List Note) (n : ℕ) (call : Call) → may_wait call ≡ true → answer_of (changed w ds l place wrote random moment notes) n call ≡ answer_of w n call
+  answer_same w ds l place wrote random moment notes n (calls.Msleep deadline) e = refl
+  answer_same w ds l place wrote random moment notes n (calls.Hclose number) e = refl
+  answer_same w ds l place wrote random moment notes n (calls.BundleWait number deadline) e = refl
+  answer_same w ds l place wrote random moment notes n (calls.Chsend number bytes deadline) e = refl
+  answer_same w ds l place wrote random moment notes n (calls.Chrecv number size deadline) e = refl
+  answer_same w ds l place wrote random moment notes n (calls.Choose deadline all) e = ap (λ o. option_or (when (is_cancelled w n) (Fault Ecanceled)) (option_or None o)) (choice_same (changed w ds l place wrote random moment notes) w (λ number want. refl) 0 all)
+  answer_same w ds l place wrote random moment notes n _ e = cc
 
-  pub first_blind : (u : Stream) (w : World V) (cs : List (Coroutine V)) → list_all waits_linkless cs ≡ true → first_some (answer_due ((lent u) w)) cs ≡ first_some (answer_due w) cs
-  first_blind u w [] e = refl
-  first_blind u w (c ∷ cs) e =
+  due_same : (w v : World V) (n : ℕ) (o : Option Call) → ((call : Call) → may_wait call ≡ true → answer_of v n call ≡ answer_of w n call) → if_some o true may_wait ≡ true → ◌≡◌ {A = Option (ℕ × Call × Answer)} (if_some o None (λ call. if_some (answer_of v n call) None (λ a. Some (n, call, a)))) (if_some o None (λ call. if_some (answer_of w n call) None (λ a. Some (n, call, a))))
+  due_same w v n None same e = refl
+  due_same w v n (Some call) same e = ap (λ r. if_some r None (λ a. Some (n, call, a))) (same call e)
+
+  -- and so is the first answer that is due
+  pub first_same : (w : World V) (ds : List (Coroutine V)) (l : Links) (place : Place) (wrote : List ℕ) (random : Stream) (moment : ℕ) (notes : List Note) (cs : List (Coroutine V)) → list_all waits_linkless cs ≡ true → first_some (answer_due (changed w ds l place wrote random moment notes)) cs ≡ first_some (answer_due w) cs
+  first_same w ds l place wrote random moment notes [] e = refl
+  first_same w ds l place wrote random moment notes (c ∷ cs) e =
+      let v = changed w ds l place wrote random moment notes in
       let h = and_parts (waits_linkless c) (list_all waits_linkless cs) e in
-      ap (λ o. option_or o (first_some (answer_due ((lent u) w)) cs)) ((due_blind u) w c.number (pending_call c.mode) h.0) ∙ ap (λ o. option_or (answer_due w c) o) ((first_blind u) w cs h.1)
+      ap (λ o. option_or o (first_some (answer_due v) cs)) (due_same w v c.number (pending_call c.mode) (answer_same w ds l place wrote random moment notes c.number) h.0)
+      ∙ ap (λ o. option_or (answer_due w c) o) (first_same w ds l place wrote random moment notes cs h.1)
 
   pub give_blind : (u : Stream) (w : World V) (who : ℕ) (call : Call) (answer : Answer) → may_wait call ≡ true → give ((lent u) w) who call answer ≡ (lent u) (give w who call answer)
   give_blind u w who (calls.Msleep deadline) answer e = refl

@@ -21,7 +21,7 @@ use Rattle.laws_sound.specs.Linkless.{may_wait, waits_linkless, IsLinkless}
 use Rattle.laws_sound.proofs.Blind.{some_blind}
 use Rattle.laws_sound.proofs.Lists.{all_without, all_found}
 use Rattle.laws_sound.proofs.Linkless.{linkless_with, reply_linkless, release_linkless, free_bundle_linkless, fold_linkless}
-use Rattle.laws_sound.proofs.Settles.{first_blind, give_blind, finish_blind}
+use Rattle.laws_sound.proofs.Settles.{first_same, give_blind, finish_blind}
 use Rattle.laws_sound.proofs.Apart.{pass_apart, linkless_apart}
 
 pub some_blind_at : {V A : Type 0} (u : Stream) (o : Option A) (n w : World V) (g f : A → World V) → n ≡ (lent u) w → ((a : A) → o ≡ Some a → g a ≡ (lent u) (f a)) → if_some o n g ≡ (lent u) (if_some o w f)
@@ -80,9 +80,9 @@ module _ {V : Type 0} where
   give_first_linkless : (w : World V) → IsLinkless w → IsLinkless (give_first w)
   give_first_linkless w linkless = some_linkless_at (first_some (answer_due w) w.coroutines) w (λ x. give w x.0 x.1 x.2) linkless (λ x e. give_linkless w x.0 x.1 x.2 (first_waits w w.coroutines x linkless.calls e) linkless)
 
-  give_first_blind : (u : Stream) (w : World V) → IsLinkless w → give_first ((lent u) w) ≡ (lent u) (give_first w)
-  give_first_blind u w linkless =
-      ap (λ o. if_some o ((lent u) w) (λ x. give ((lent u) w) x.0 x.1 x.2)) ((first_blind u) w w.coroutines linkless.calls)
+  give_first_same : (u : Stream) (w : World V) → IsLinkless w → give_first ((lent u) w) ≡ (lent u) (give_first w)
+  give_first_same u w linkless =
+      ap (λ o. if_some o ((lent u) w) (λ x. give ((lent u) w) x.0 x.1 x.2)) (first_same w w.coroutines w.links w.place w.wrote u w.moment w.notes w.coroutines linkless.calls)
       ∙ (some_blind_at u) (first_some (answer_due w) w.coroutines) ((lent u) w) w (λ x. give ((lent u) w) x.0 x.1 x.2) (λ x. give w x.0 x.1 x.2) refl (λ x e. (give_blind u) w x.0 x.1 x.2 (first_waits w w.coroutines x linkless.calls e))
 
   keep_end_linkless : (w : World V) (c : Coroutine V) → IsLinkless w → IsLinkless (keep_end w c)
@@ -109,7 +109,7 @@ module _ {V : Type 0} where
       some_plain_or (Some c) = finish_linkless w c linkless
 
   settle_one_blind : (u : Stream) (w : World V) → IsLinkless w → settle_one ((lent u) w) ≡ (lent u) (settle_one w)
-  settle_one_blind u w linkless = (some_blind u) (find (can_finish w) w.coroutines) (give_first ((lent u) w)) (give_first w) (finish ((lent u) w)) (finish w) ((give_first_blind u) w linkless) ((finish_blind u) w)
+  settle_one_blind u w linkless = (some_blind u) (find (can_finish w) w.coroutines) (give_first ((lent u) w)) (give_first w) (finish ((lent u) w)) (finish w) ((give_first_same u) w linkless) ((finish_blind u) w)
 
   pub within_linkless : (n : ℕ) (w : World V) → IsLinkless w → IsLinkless (settle_within n w)
   within_linkless zero w linkless = linkless

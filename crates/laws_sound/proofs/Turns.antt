@@ -36,7 +36,7 @@ use Rattle.dill_rules.specs.Naming.{uses_link}
 use Rattle.laws_sound.proofs.Blind.{if_blind, query_blind, own_blind, close_blind, go_blind, bundle_go_blind}
 use Rattle.laws_sound.proofs.Lists.{all_change}
 use Rattle.laws_sound.proofs.Linkless.{linkless_with, set_mode_linkless, reply_linkless, pend_linkless, begin_linkless, make_linkless, add_bundle_linkless, move_linkless, release_linkless, close_bundle_linkless, fold_linkless, give_all_linkless, bear_linkless}
-use Rattle.laws_sound.proofs.Settles.{answer_blind, give_blind, close_all_blind}
+use Rattle.laws_sound.proofs.Settles.{answer_same, give_blind, close_all_blind}
 use Rattle.laws_sound.proofs.Steps.{some_blind_at, some_linkless_at, if_linkless, call_waits, give_linkless, settle_linkless, settle_blind}
 
 -- a deadline from its entry on makes no call another
@@ -104,7 +104,7 @@ module _ {V : Type 0} (p : Program V) where
   perform_linkless w who view _ e linkless = cc
 
   late_blind : (u : Stream) (w : World V) (who : ℕ) (call : Call) → may_wait call ≡ true → is_too_late ((lent u) w) who call ≡ is_too_late w who call
-  late_blind u w who call e = ap (λ o. is_late w.moment call && (not (uses_link (word_of call)) && is_none o)) ((answer_blind u) w who call e)
+  late_blind u w who call e = ap (λ o. is_late w.moment call && (not (uses_link (word_of call)) && is_none o)) (answer_same w w.coroutines w.links w.place w.wrote u w.moment w.notes who call e)
 
   meet_blind : (u : Stream) (w : World V) (who : ℕ) → IsLinkless w → meet_deadline ((lent u) w) who ≡ (lent u) (meet_deadline w who)
   meet_blind u w who linkless =
