@@ -26,7 +26,7 @@ use Rattle.dill_rules.specs.Owning.{entry_of, release, close_bundle}
 use Rattle.dill_rules.specs.Refusals.{refuse}
 use Rattle.dill_rules.specs.Effects.{close_thing}
 use Rattle.dill_rules.specs.Entering.{entered, keep_for, is_too_late, late_answer, meet_deadline, done, enter, lack_fault}
-use Rattle.dill_rules.specs.Settling.{close_all, end}
+use Rattle.dill_rules.specs.Settling.{close_all, end, settle}
 use Rattle.dill_rules.specs.State.{is_fresh}
 use Rattle.dill_rules.specs.Turning.{is_build, is_entry, as_running, may_lack_build, resume, answer_given, move_of, make_move, lack_move, go_on}
 use Rattle.laws_queue.proofs.Crew.{close_all_crew}
@@ -35,7 +35,7 @@ use Rattle.laws_debt.proofs.Flagging.{all_picked}
 use Rattle.laws_debt.proofs.Lists.{all_append, all_without, all_to}
 use Rattle.laws_debt.proofs.Tracking.{all_by_key}
 use Rattle.laws_queue.proofs.Numbers.{found_changed}
-use Rattle.laws_debt.proofs.Lasting.{Parts, Lasting, release_lasts, meet_lasts, enter_lasts}
+use Rattle.laws_debt.proofs.Lasting.{Parts, Lasting, release_lasts, meet_lasts, enter_lasts, settle_lasts}
 use Rattle.laws_debt.proofs.Shutting.{all_units}
 
 -- if it is closing it was before
@@ -65,23 +65,24 @@ module _ (s : Scopes) where
     owns = λ p number owner h. h;
     makes = λ p thing owner e h. h;
     moves = λ p number owner x k h. h;
-    retires = λ p number h. h;
     closes = λ c p owner name number x e f k h. absurd c;
-    frees = λ p x h. all_without (OldFlag s) (is_bundle x.bundle) p.scopes.bundles h;
     bundles = λ p who h. all_append (OldFlag s) p.scopes.bundles (record { name = p.last_bundle + 1; owner = Some who; closing = false } ∷ []) h ((λ e. cc), tt);
     bears = λ p home who h. h;
-    ends = λ p who h. h;
+    clears = record { retires = λ p number h. h; frees = λ p x h. all_without (OldFlag s) (is_bundle x.bundle) p.scopes.bundles h; ends = λ p who h. h };
   }
 
 module _ {V : Type 0} (s : Scopes) where
   abbrev Flags : World V → Type 0
   Flags v = AllByRecursion (OldFlag s) v.scopes.bundles
 
+  pub settle_flags : (v : World V) → Flags v → Flags (settle v)
+  settle_flags v h = settle_lasts (FlagsIn s) (λ last x. Unit {0}) ⊥ (flags_last s) v h
+
   meet_flags : (v : World V) (who : ℕ) → Flags v → Flags (meet_deadline v who)
-  meet_flags v who h = meet_lasts (λ last x. Unit {0}) ⊥ (FlagsIn s) (flags_last s) v who h
+  meet_flags v who h = meet_lasts (FlagsIn s) v who h
 
   release_flags : (v : World V) (number : ℕ) → Flags v → Flags (release v number)
-  release_flags v number h = release_lasts (λ last x. Unit {0}) ⊥ (FlagsIn s) (flags_last s) v number h
+  release_flags v number h = release_lasts (FlagsIn s) (flags_last s).clears v number h
 
   -- who stands so had no answer
   stands_so : (who : ℕ) (mode : Mode) (cs : List (Coroutine V)) → is_fresh mode ≡ false → AllByRecursion NoAnswer cs → AllByRecursion NoAnswer (change (is_coroutine who) (with_mode mode) cs)
@@ -118,7 +119,7 @@ module _ {V : Type 0} (s : Scopes) where
       at : (o : Option Errno) → Begun s (if_some o (if lacks && takes_memory words.Hclose then reply w who words.Hclose (Fault errnos.Enomem) else done p w who view (calls.Hclose number)) (λ g. reply w who words.Hclose (Fault g)))
       at None = lack (lacks && takes_memory words.Hclose)
       at (Some g) = same h
-  enter_begun p lacks w who view call c f a h = same (enter_lasts (λ last x. Unit {0}) ⊥ (FlagsIn s) (flags_last s) p lacks w who view call (λ e. cc) h)
+  enter_begun p lacks w who view call c f a h = same (enter_lasts (FlagsIn s) (λ last x. Unit {0}) ⊥ (flags_last s) p lacks w who view call (λ e. cc) h)
 
   end_begun : (w : World V) (who : ℕ) (outcome : Option Errno) → AllByRecursion NoAnswer w.coroutines → Begun s (end w who outcome)
   end_begun w who outcome a = none (stands_so who (modes.Ending outcome) (close_all w who).coroutines refl (subst (AllByRecursion NoAnswer) (sym (close_all_crew w who).coroutines) a))

@@ -32,7 +32,7 @@ use Rattle.dill_chan.specs.Meetings.{has_ended}
 use Rattle.dill_chan.specs.declared.end.Want.TheVariants.{Send}
 use Rattle.dill_rules.specs.Answers.{end_named}
 use Rattle.dill_rules.specs.Channeling.{done_at}
-use Rattle.laws_debt.proofs.Channeling.{channel_scopes}
+use Rattle.laws_debt.proofs.Lasting.{Parts, Clearing, either, which, move_by, close_by, channel_lasts, done_at_lasts, meet_lasts}
 use Rattle.dill_rules.specs.Entering.{keep_for, perform, is_too_late, late_answer, meet_deadline, done, enter}
 use Rattle.dill_rules.specs.Settling.{close_owned, end}
 use Rattle.laws_sound.specs.Linkless.{is_of_link}
@@ -66,11 +66,15 @@ module _ (s : Scopes) (b : ℕ) where
   pub tracks_enter : (t : Scopes) (name who : ℕ) → HomeOk s b (record { who = who; bundle = name }) → Tracks s b t → Tracks s b (scopes.enter t name who)
   tracks_enter t name who ok h = record { homes = all_append (HomeOk s b) t.homes (record { who = who; bundle = name } ∷ []) h.homes (ok, tt); owners = h.owners }
 
-  pub tracks_drop : (t : Scopes) (name : ℕ) → Tracks s b t → Tracks s b (scopes.drop_bundle t name)
-  tracks_drop t name h = record { homes = h.homes; owners = all_without (BundleOk s b) (is_bundle name) t.bundles h.owners }
+  abbrev pub TracksIn : Parts → Type 0
+  TracksIn p = Tracks s b p.scopes
 
-  pub tracks_ended : (t : Scopes) (who : ℕ) → Tracks s b t → Tracks s b (scopes.ended t who)
-  tracks_ended t who h = record { homes = all_without (HomeOk s b) (scopes.is_home who) t.homes h.homes; owners = h.owners }
+  pub tracks_clear : Clearing TracksIn
+  tracks_clear = record {
+    retires = λ p number h. h;
+    frees = λ p x h. record { homes = h.homes; owners = all_without (BundleOk s b) (is_bundle x.bundle) p.scopes.bundles h.owners };
+    ends = λ p who h. record { homes = all_without (HomeOk s b) (scopes.is_home who) p.scopes.homes h.homes; owners = h.owners };
+  }
 
 -- ---- the world in which a call is entered
 
@@ -166,47 +170,11 @@ module _ {V : Type 0} (w : World V) (b : ℕ) (facts : Facts w b) where
   abbrev TracksTo : World V → Type 0
   TracksTo v = Tracks w.scopes b v.scopes
 
-  take_thing_tracks : (v : World V) (thing : Thing) (owner : ℕ) → ((name : ℕ) → bundle_of thing ≡ Some name → OwnerOk w.scopes b name owner) → TracksTo v → TracksTo (take_thing v thing owner)
-  take_thing_tracks v (things.Bundle name) owner ok h = tracks_take w.scopes b v.scopes name owner (ok name refl) h
-  take_thing_tracks v (things.End end) owner ok h = h
-  take_thing_tracks v (things.Listener link) owner ok h = h
-  take_thing_tracks v (things.Socket link) owner ok h = h
-  take_thing_tracks v (things.Value kind value) owner ok h = h
-
-  some_tracks : {A : Type 0} (o : Option A) (v : World V) (f : A → World V) → TracksTo v → ((a : A) → o ≡ Some a → TracksTo (f a)) → TracksTo (if_some o v f)
-  some_tracks None v f h g = h
-  some_tracks (Some a) v f h g = g a refl
-
-  if_tracks : (c : Bool) (v u : World V) → TracksTo v → TracksTo u → TracksTo (if c then v else u)
-  if_tracks true v u h g = h
-  if_tracks false v u h g = g
-
   move_tracks : (v : World V) (number owner : ℕ) → ((x : Entry Thing) (name : ℕ) → entry_of v number ≡ Some x → bundle_of x.thing ≡ Some name → OwnerOk w.scopes b name owner) → TracksTo v → TracksTo (move v number owner)
-  move_tracks v number owner ok h =
-      some_tracks (entry_of v number) v (λ x. note (take_thing (record v { handles = handles.renumber v.handles number x.thing owner }) x.thing owner) (Moved number (handles.next_number v.handles))) h
-      (λ x e. take_thing_tracks (record v { handles = handles.renumber v.handles number x.thing owner }) x.thing owner (λ name f. ok x name e f) h)
+  move_tracks v number owner ok h = move_by (TracksIn w.scopes b) v number owner (λ x e. h) (λ x name e f. tracks_take w.scopes b v.scopes name owner (ok x name e f) h) h
 
-  drop_tracks : (v : World V) (thing : Thing) → TracksTo v → TracksTo (drop v thing)
-  drop_tracks v (things.Bundle name) h = h
-  drop_tracks v (things.End end) h = h
-  drop_tracks v (things.Listener link) h = h
-  drop_tracks v (things.Socket link) h = h
-  drop_tracks v (things.Value kind value) h = h
-
-  release_tracks : (v : World V) (number : ℕ) → TracksTo v → TracksTo (release v number)
-  release_tracks v number h =
-      some_tracks (entry_of v number) v (λ x. note (drop (record v { handles = handles.retire v.handles number }) x.thing) (Freed number)) h
-      (λ x e. drop_tracks (record v { handles = handles.retire v.handles number }) x.thing h)
-
-  close_bundle_tracks : (v : World V) (who name number : ℕ) → OwnerOk w.scopes b name who → TracksTo v → TracksTo (close_bundle v who name number)
-  close_bundle_tracks v who name number ok h = tracks_close w.scopes b (scopes.take v.scopes name who) name (tracks_take w.scopes b v.scopes name who ok h)
-
-  close_thing_tracks : (v : World V) (who number : ℕ) (thing : Thing) → ((name : ℕ) → bundle_of thing ≡ Some name → OwnerOk w.scopes b name who) → TracksTo v → TracksTo (close_thing v who number thing)
-  close_thing_tracks v who number (things.Bundle name) ok h = close_bundle_tracks v who name number (ok name refl) h
-  close_thing_tracks v who number (things.End end) ok h = release_tracks v number h
-  close_thing_tracks v who number (things.Listener link) ok h = release_tracks v number h
-  close_thing_tracks v who number (things.Socket link) ok h = release_tracks v number h
-  close_thing_tracks v who number (things.Value kind value) ok h = release_tracks v number h
+  close_tracks : (v : World V) (who name : ℕ) → OwnerOk w.scopes b name who → TracksTo v → Tracks w.scopes b (scopes.close (scopes.take v.scopes name who) name)
+  close_tracks v who name ok h = tracks_close w.scopes b (scopes.take v.scopes name who) name (tracks_take w.scopes b v.scopes name who ok h)
 
   -- a gift among the entries of a world, which no insider had before
   abbrev GiftOk : List ℕ → Entry Thing → Type 0
@@ -333,15 +301,15 @@ module _ {V : Type 0} (p : Program V) (w : World V) (b : ℕ) (facts : Facts w b
   perform_tracks who view calls.Yield e f h = h
   perform_tracks who view (calls.Msleep deadline) e f h = h
   perform_tracks who view (calls.Hmake kind value) e f h = h
-  perform_tracks who view (calls.Hquery number kind) e f h = some_tracks w b facts (entry_of w number) (keep_for w (calls.Hquery number kind)) (λ x. reply (keep_for w (calls.Hquery number kind)) who _ _) h (λ x g. h)
+  perform_tracks who view (calls.Hquery number kind) e f h = either (TracksIn w.scopes b) (entry_of w number) (keep_for w (calls.Hquery number kind)) (λ x. reply (keep_for w (calls.Hquery number kind)) who _ _) h (λ x g. h)
   perform_tracks who view (calls.Hown number) e f h =
       let may = takes_one who view (calls.Hown number) number refl refl refl f in
       move_tracks w b facts (keep_for w (calls.Hown number)) number who (λ x name g i. take_ok w b facts who (calls.Hown number) number x name g i may.0 may.1) h
   perform_tracks who view (calls.Hclose number) e f h =
       let may = takes_one who view (calls.Hclose number) number refl refl refl f in
       let k = keep_for w (calls.Hclose number) in
-      some_tracks w b facts (entry_of w number) k (λ x. close_thing k who number x.thing) h
-      (λ x g. close_thing_tracks w b facts k who number x.thing (λ name i. take_ok w b facts who (calls.Hclose number) number x name g i may.0 may.1) h)
+      either (TracksIn w.scopes b) (entry_of w number) k (λ x. close_thing k who number x.thing) h
+      (λ x g. close_by (TracksIn w.scopes b) (tracks_clear w.scopes b) k who number x.thing (λ name i. close_tracks w b facts k who name (take_ok w b facts who (calls.Hclose number) number x name g i may.0 may.1) h) h)
   perform_tracks who view calls.Bundle e f h =
       let off = made_by who calls.Bundle refl (unrefused p w who view calls.Bundle refl f).0 in
       tracks_bundle w.scopes b w.scopes (w.last_bundle + 1) who (inr (inr (outside w b facts who off, new_not_of w b facts))) h
@@ -358,7 +326,7 @@ module _ {V : Type 0} (p : Program V) (w : World V) (b : ℕ) (facts : Facts w b
       let off = made_by who (calls.BundleGo number program args) refl un.0 in
       let k = keep_for w (calls.BundleGo number program args) in
       let open_to = or_right (is_in_use w (calls.BundleGo number program args)) (is_closed_bundle w who (calls.BundleGo number program args)) (or_right (is_occupied w (calls.BundleGo number program args)) _ (or_right (list_any (cannot_take w who (calls.BundleGo number program args)) (gifts_of args)) _ un.1)) in
-      some_tracks w b facts (bundle_named k number) k (λ home. reply (start p k view home program args) who _ _) h
+      either (TracksIn w.scopes b) (bundle_named k number) k (λ home. reply (start p k view home program args) who _ _) h
       (λ home g. homes home open_to (entry_of w number) refl g (gifts_free who (calls.BundleGo number program args) (gifts_of args) refl off un.1))
     where
       homes : (home : ℕ) → is_closed_to w number ≡ false → (o : Option (Entry Thing)) → entry_of w number ≡ o → if_some o None (λ x. bundle_of x.thing) ≡ Some home → AllByRecursion (GiftOk w b facts (gifts_of args)) w.handles.entries → Tracks w.scopes b (start p (keep_for w (calls.BundleGo number program args)) view home program args).scopes
@@ -372,23 +340,17 @@ module _ {V : Type 0} (p : Program V) (w : World V) (b : ℕ) (facts : Facts w b
   perform_tracks who view calls.Chmake e f h = h
   perform_tracks who view (calls.Chdone number) e f h =
       let k = keep_for w (calls.Chdone number) in
-      some_tracks w b facts (end_named k number) k (done_at k who) h
-      (λ end g. if_tracks w b facts (has_ended k.channels end (Send [])) (reply k who words.Chdone (Fault errnos.Epipe)) (reply (record k { channels = channels.done k.channels end }) who words.Chdone (Number 0)) h h)
-  perform_tracks who view (calls.Chsend number bytes deadline) e f h = let call = calls.Chsend number bytes deadline in subst (λ t. Tracks w.scopes b t) (sym (channel_scopes (keep_for w call) who call)) h
-  perform_tracks who view (calls.Chrecv number size deadline) e f h = let call = calls.Chrecv number size deadline in subst (λ t. Tracks w.scopes b t) (sym (channel_scopes (keep_for w call) who call)) h
-  perform_tracks who view (calls.Choose deadline all) e f h = let call = calls.Choose deadline all in subst (λ t. Tracks w.scopes b t) (sym (channel_scopes (keep_for w call) who call)) h
+      either (TracksIn w.scopes b) (end_named k number) k (done_at k who) h (λ end g. done_at_lasts (TracksIn w.scopes b) k who end h)
+  perform_tracks who view (calls.Chsend number bytes deadline) e f h = let call = calls.Chsend number bytes deadline in channel_lasts (TracksIn w.scopes b) (keep_for w call) who call h
+  perform_tracks who view (calls.Chrecv number size deadline) e f h = let call = calls.Chrecv number size deadline in channel_lasts (TracksIn w.scopes b) (keep_for w call) who call h
+  perform_tracks who view (calls.Choose deadline all) e f h = let call = calls.Choose deadline all in channel_lasts (TracksIn w.scopes b) (keep_for w call) who call h
   perform_tracks who view _ e f h = cc
-
-  meet_tracks : (v : World V) (who : ℕ) → Tracks w.scopes b v.scopes → Tracks w.scopes b (meet_deadline v who).scopes
-  meet_tracks v who h =
-      some_tracks w b facts (call_of v who) v (λ call. if is_too_late v who call then reply v who (word_of call) (late_answer call) else v) h
-      (λ call e. if_tracks w b facts (is_too_late v who call) (reply v who (word_of call) (late_answer call)) v h h)
 
   pub enter_tracks : (lacks : Bool) (who : ℕ) (view : V) (call : Call) → is_of_link (word_of call) ≡ false → Tracks w.scopes b w.scopes → Tracks w.scopes b (enter p lacks w who view call).scopes
   enter_tracks lacks who view call e h = at (refuse p w who view call) refl
     where
       at : (o : Option Errno) → refuse p w who view call ≡ o → Tracks w.scopes b (if_some o (if lacks && takes_memory (word_of call) then reply w who (word_of call) (Fault errnos.Enomem) else done p w who view call) (λ f. reply w who (word_of call) (Fault f))).scopes
-      at None f = if_tracks w b facts (lacks && takes_memory (word_of call)) (reply w who (word_of call) (Fault errnos.Enomem)) (done p w who view call) h (meet_tracks (perform p (keep_for w call) who view call) who (perform_tracks who view call e f h))
+      at None f = which (TracksIn w.scopes b) (lacks && takes_memory (word_of call)) (reply w who (word_of call) (Fault errnos.Enomem)) (done p w who view call) h (meet_lasts (TracksIn w.scopes b) (perform p (keep_for w call) who view call) who (perform_tracks who view call e f h))
       at (Some g) f = h
 
   closes_own : (who : ℕ) (xs : List (Entry Thing)) (v : World V) → AllByRecursion (λ x. (entry_of w x.number ≡ Some x) × (handles.is_owned who x ≡ true)) xs → Tracks w.scopes b v.scopes → Tracks w.scopes b (fold (close_owned who) v xs).scopes
@@ -399,7 +361,7 @@ module _ {V : Type 0} (p : Program V) (w : World V) (b : ℕ) (facts : Facts w b
       one None e = h
       one (Some name) e =
           let own : owner_of w.scopes name ≡ Some who = subst (λ o. owner_of w.scopes name ≡ Some o) (number_of x.owner who a.0.1) (facts.owned x.number x name a.0.0 e) in
-          close_bundle_tracks w b facts v who name x.number (inl own) h
+          close_tracks w b facts v who name (inl own) h
 
   pub end_tracks : (who : ℕ) (outcome : Option Errno) → Tracks w.scopes b w.scopes → Tracks w.scopes b (end w who outcome).scopes
   end_tracks who outcome h = closes_own who (filter (handles.is_owned who) w.handles.entries) w (all_filter (λ x. entry_of w x.number ≡ Some x) (handles.is_owned who) w.handles.entries facts.each) h

@@ -6,7 +6,6 @@ pub mod Entering
 pub mod Walking
 pub mod Settling
 pub mod Unmet
-pub mod Channeling
 pub mod Flagging
 pub mod Shutting
 pub mod Turning

@@ -27,7 +27,7 @@ use Rattle.laws_sound.specs.Orderly.{IsOrderly}
 use Rattle.laws_debt.specs.Closing.{IsStable}
 use Rattle.laws_debt.specs.Says.{IsLowering}
 use Rattle.laws_debt.specs.Steady.{HasStamps, LowersInside}
-use Rattle.laws_debt.proofs.Beginning.{OldFlag, NoAnswer, Begun, same, none, old_flags, go_on_begun}
+use Rattle.laws_debt.proofs.Beginning.{OldFlag, NoAnswer, Begun, same, none, old_flags, settle_flags, go_on_begun}
 use Rattle.laws_debt.proofs.Bounded.{each_found, queued_early}
 use Rattle.laws_debt.proofs.Ending.{KeepsWithin}
 use Rattle.laws_debt.proofs.Evolving.{Suits, evolves_all}
@@ -40,28 +40,9 @@ use Rattle.laws_debt.proofs.Shutting.{settle_shut, AllHold, go_on_shut}
 use Rattle.laws_debt.proofs.Stamping.{others_stay, taken_gone}
 use Rattle.laws_debt.proofs.Stepwise.{LowersFresh, StampOk, stamp_lasts, stamps_self, all_there, Stepped, less_early}
 use Rattle.laws_debt.proofs.Tracking.{tracks_self}
-use Rattle.laws_debt.proofs.Tree.{InTree, tree_same, tree_leads, settled_tree, closing_found, settle_one_tracks}
+use Rattle.laws_debt.proofs.Tree.{InTree, tree_same, tree_leads, settled_tree, closing_found}
 use Rattle.laws_debt.proofs.Turning.{go_on_went, went_leads, all_resumed}
 use Rattle.laws_debt.proofs.Walking.{unlike}
-
--- ---- what stays of scopes as a world settles
-
-module _ {V : Type 0} (Q : Scopes → Type 0) (dropped : (t : Scopes) (name : ℕ) → Q t → Q (scopes.drop_bundle t name)) (gone : (t : Scopes) (who : ℕ) → Q t → Q (scopes.ended t who)) (p : Program V) where
-  within_scopes : (n : ℕ) (w : World V) → AllSit p w.coroutines → Numbered 0 w.coroutines w.last_coroutine → Q w.scopes → Q (settle_within n w).scopes
-  within_scopes zero w a m h = h
-  within_scopes (suc n) w a m h =
-      let one = settle_one_leads p nobody_calm (λ v. Unit {0}) (λ v who c i e f. cc) w tt a m in
-      within_scopes n (settle_one w) (leads_sits p nobody_calm w (settle_one w) one a) (leads_numbered p nobody_calm w (settle_one w) one m) (settle_one_tracks Q dropped gone p w a m h)
-
-  pub settle_scopes : (w : World V) → AllSit p w.coroutines → Numbered 0 w.coroutines w.last_coroutine → Q w.scopes → Q (settle w).scopes
-  settle_scopes w a m h =
-      let done = settle_within (length w.coroutines) w in
-      let leads = settle_within_leads p nobody_calm (λ v. Unit {0}) (λ v who c i e f. cc) (λ v i. tt) (length w.coroutines) w tt a m in
-      subst (λ (v : World V). Q v.scopes) (sym (pass_nothing p done (leads_sits p nobody_calm w done leads a))) (within_scopes (length w.coroutines) w a m h)
-
--- flags stay old
-pub flags_dropped : (s t : Scopes) (name : ℕ) → AllByRecursion (OldFlag s) t.bundles → AllByRecursion (OldFlag s) (scopes.drop_bundle t name).bundles
-flags_dropped s t name h = all_without (OldFlag s) (is_bundle name) t.bundles h
 
 pub flag_was : (s : Scopes) (t : Scopes) (b : ℕ) → AllByRecursion (OldFlag s) t.bundles → is_closing t b ≡ true → is_closing s b ≡ true
 flag_was s t b a c =
@@ -105,7 +86,7 @@ module _ {V : Type 0} (p : Program V) where
       let v = settle moved in
       let forest = order.order.fits.forest.forest in
       let tree = is_inside moved.scopes b in
-      let flags = settle_scopes (λ t. AllByRecursion (OldFlag moved.scopes) t.bundles) (λ t name h. flags_dropped moved.scopes t name h) (λ t who h. h) p moved sits order.order.fits.numbered (old_flags moved.scopes order.order.fits.forest) in
+      let flags = settle_flags moved.scopes moved (old_flags moved.scopes order.order.fits.forest) in
       let was = flag_was moved.scopes v.scopes b flags closing in
       let x = closing_found moved.scopes b was in
       let name : x.0.name ≡ b = number_of x.0.name b (found_passes (is_bundle b) moved.scopes.bundles x.0 x.1) in
@@ -178,7 +159,7 @@ module _ {V : Type 0} (p : Program V) (law : IsLawful p) (unlinked : MakesLinkle
     where
       at : (moved : World V) → IsGood p moved → IsLinkless moved → IsOrderly moved → is_closing (settle moved).scopes b ≡ true → Begun k.world.scopes moved → AllByRecursion (λ d. is_inside (settle moved).scopes b d.number ≡ true → LowersFresh d.mode) (settle moved).coroutines
       at moved good linkless order closing (same flags) =
-          let kept = settle_scopes (λ t. AllByRecursion (OldFlag k.world.scopes) t.bundles) (λ t name h. flags_dropped k.world.scopes t name h) (λ t n h. h) p moved good.sits good.numbered flags in
+          let kept = settle_flags k.world.scopes moved flags in
           unlike (is_closing k.world.scopes b) old (flag_was k.world.scopes (settle moved).scopes b kept closing)
       at moved good linkless order closing (none unanswered) = begun_settles p moved b linkless order good.sits good.holds unanswered closing
 

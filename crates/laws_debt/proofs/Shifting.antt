@@ -28,7 +28,7 @@ use Rattle.laws_sound.specs.Laws.{is_closing, is_timed}
 use Rattle.laws_debt.specs.Closing.{IsStable}
 use Rattle.laws_debt.specs.Says.{IsLowering}
 use Rattle.laws_debt.specs.Steady.{HasStamps, LowersInside}
-use Rattle.laws_debt.proofs.Beginning.{OldFlag, old_flags}
+use Rattle.laws_debt.proofs.Beginning.{OldFlag, old_flags, settle_flags}
 use Rattle.laws_debt.proofs.Bounded.{each_found, queued_early}
 use Rattle.laws_debt.proofs.Ending.{IsShutAs}
 use Rattle.laws_debt.proofs.Evolving.{Suits, evolves_all}
@@ -38,7 +38,7 @@ use Rattle.laws_debt.proofs.Holding.{tracks_close}
 use Rattle.laws_debt.proofs.Keeping.{nobody_calm, AnyBundle, good_stable, root_flags, settles}
 use Rattle.laws_queue.proofs.Lining.{lined_pending}
 use Rattle.laws_debt.proofs.Lists.{all_to}
-use Rattle.laws_debt.proofs.Moving.{unfresh_all as all_unfresh_of, begun_settles, flag_was, flags_dropped, settle_scopes}
+use Rattle.laws_debt.proofs.Moving.{unfresh_all as all_unfresh_of, begun_settles, flag_was}
 use Rattle.laws_debt.proofs.Settling.{AllSit, call_pends, pending_runs, expire_leads, change_calls}
 use Rattle.laws_debt.proofs.Unmet.{cancels_some, unanswered}
 use Rattle.laws_debt.proofs.Shutting.{settle_shut, AllHold, Lasts, expire_one_shut}
@@ -95,7 +95,7 @@ module _ {V : Type 0} (p : Program V) (law : IsLawful p) (unlinked : MakesLinkle
         holds = settle_shut (StampOk w.scopes s.closings) w.last_bundle (lasts_of k s stable stands stamps) w (start_holds k s stable stands stamps);
         falls = λ b c. settle_falls p law unlinked w w b stable.order.order.fits.forest.forest (is_early s b) (less_early p law unlinked s b none_gone) (tree_self p law unlinked k b stable c) (here_lowers k s b stands lowers c) (omega arith);
         begun = λ b c d.
-            let flags = settle_scopes (λ t. AllByRecursion (OldFlag w.scopes) t.bundles) (λ t name h. flags_dropped w.scopes t name h) (λ t who h. h) p w good.sits good.numbered (old_flags w.scopes stable.order.order.fits.forest) in
+            let flags = settle_flags w.scopes w (old_flags w.scopes stable.order.order.fits.forest) in
             unlike (is_closing w.scopes b) c (flag_was w.scopes (settle w).scopes b flags d);
         answered = had_before k (settle w) stable (settles p w good.sits good.numbered);
         left = λ n g. refl;

@@ -75,7 +75,6 @@ module _ (P : Bundle → Type 0) (low : ℕ) (lasts : LastsOwned P low) where
     owns = λ p number owner h. record { given = h.given; bundles = h.bundles; flags = h.flags };
     makes = λ p thing owner e h. record { given = h.given; bundles = h.bundles; flags = h.flags };
     moves = λ p number owner x k h. record { given = h.given; bundles = h.bundles; flags = h.flags };
-    retires = λ p number h. record { given = h.given; bundles = h.bundles; flags = h.flags };
     closes = λ c p owner name number x e f k h. record {
       given = h.given;
       bundles = all_changed_twice P (scopes.is_bundle name) (scopes.with_owner owner) scopes.as_closing p.scopes.bundles (λ y. refl) (λ y a. lasts.closed y owner a) h.bundles;
@@ -83,11 +82,6 @@ module _ (P : Bundle → Type 0) (low : ℕ) (lasts : LastsOwned P low) where
         ranked = ranked_change (scopes.is_bundle name) scopes.as_closing (scopes.take p.scopes name owner).bundles 0 p.last_bundle (λ y. refl) (ranked_change (scopes.is_bundle name) (scopes.with_owner owner) p.scopes.bundles 0 p.last_bundle (λ y. refl) h.flags.ranked);
         flagged = flagged_closed p.closings p.scopes.bundles name number owner h.flags.flagged;
       };
-    };
-    frees = λ p x h. record {
-      given = h.given;
-      bundles = all_without P (scopes.is_bundle x.bundle) p.scopes.bundles h.bundles;
-      flags = record { ranked = ranked_without x.bundle p.scopes.bundles 0 p.last_bundle h.flags.ranked; flagged = flagged_freed p.closings p.scopes.bundles x.bundle p.last_bundle h.flags.ranked h.flags.flagged };
     };
     bundles = λ p who h.
         let g = h.given in
@@ -101,22 +95,30 @@ module _ (P : Bundle → Type 0) (low : ℕ) (lasts : LastsOwned P low) where
           };
         };
     bears = λ p home who h. record { given = h.given; bundles = h.bundles; flags = h.flags };
-    ends = λ p who h. record { given = h.given; bundles = h.bundles; flags = h.flags };
+    clears = record {
+      retires = λ p number h. record { given = h.given; bundles = h.bundles; flags = h.flags };
+      frees = λ p x h. record {
+        given = h.given;
+        bundles = all_without P (scopes.is_bundle x.bundle) p.scopes.bundles h.bundles;
+        flags = record { ranked = ranked_without x.bundle p.scopes.bundles 0 p.last_bundle h.flags.ranked; flagged = flagged_freed p.closings p.scopes.bundles x.bundle p.last_bundle h.flags.ranked h.flags.flagged };
+      };
+      ends = λ p who h. record { given = h.given; bundles = h.bundles; flags = h.flags };
+    };
   }
 
 module _ {V : Type 0} (P : Bundle → Type 0) (low : ℕ) (lasts : LastsOwned P low) where
   pub settle_owned : (w : World V) → AllHold P low w → AllHold P low (settle w)
-  settle_owned w h = settle_lasts (λ last x. Unit {0}) (Unit {0}) (HoldIn P low) (holds_last P low lasts) w h
+  settle_owned w h = settle_lasts (HoldIn P low) (λ last x. Unit {0}) (Unit {0}) (holds_last P low lasts) w h
 
   pub expire_one_owned : (w : World V) (who : ℕ) → AllHold P low w → AllHold P low (expire_one w who)
-  expire_one_owned w who h = expire_lasts (λ last x. Unit {0}) (Unit {0}) (HoldIn P low) (holds_last P low lasts) w who h
+  expire_one_owned w who h = expire_lasts (HoldIn P low) (λ last x. Unit {0}) (Unit {0}) (holds_last P low lasts) w who h
 
   pub go_on_owned : (p : Program V) (lack : Option LackPlace) (w : World V) (who : ℕ) (view : V) → AllHold P low w → AllHold P low (go_on p lack w who view)
-  go_on_owned p lack w who view h = go_on_lasts (λ last x. Unit {0}) (Unit {0}) (HoldIn P low) (holds_last P low lasts) tt p lack w who view h
+  go_on_owned p lack w who view h = go_on_lasts (HoldIn P low) (λ last x. Unit {0}) (Unit {0}) (holds_last P low lasts) tt p lack w who view h
 
 module _ {V : Type 0} (P : Bundle → Type 0) (low : ℕ) (lasts : Lasts P low) where
   pub settle_one_shut : (w : World V) → AllHold P low w → AllHold P low (settle_one w)
-  settle_one_shut w h = settle_one_lasts (λ last x. Unit {0}) (Unit {0}) (HoldIn P low) (holds_last P low (lasts_owned P low lasts)) w h
+  settle_one_shut w h = settle_one_lasts (HoldIn P low) (λ last x. Unit {0}) (Unit {0}) (holds_last P low (lasts_owned P low lasts)) w h
 
   pub settle_shut : (w : World V) → AllHold P low w → AllHold P low (settle w)
   settle_shut w h = settle_owned P low (lasts_owned P low lasts) w h

@@ -50,7 +50,8 @@ use Rattle.laws_debt.specs.Flags.{IsFlagged, HasFlags}
 use Rattle.laws_debt.proofs.Ending.{IsShutAs, shut_lasts}
 use Rattle.laws_sound.proofs.Turns.{entered_linkless}
 use Rattle.laws_debt.proofs.Flagging.{closed_names}
-use Rattle.laws_debt.proofs.Holding.{Facts, tracks_drop, tracks_ended, enter_tracks, end_tracks}
+use Rattle.laws_debt.proofs.Holding.{Facts, TracksIn, tracks_clear, enter_tracks, end_tracks}
+use Rattle.laws_debt.proofs.Lasting.{settle_one_quiet}
 use Rattle.laws_debt.proofs.Lists as lists
 use Rattle.laws_debt.proofs.Lists.{equal_number, number_of, all_to}
 use Rattle.laws_debt.proofs.Settling.{AllSit, leads_sits, settle_one_leads, settle_leads, pass_nothing, pending_runs}
@@ -166,65 +167,6 @@ module _ {V : Type 0} (p : Program V) where
   pub go_on_tracks : (lack : Option LackPlace) (w : World V) (who : ℕ) (view : V) (b : ℕ) → Facts w b → Tracks w.scopes b w.scopes → MovesLinkless (move_of p w who view) → Tracks w.scopes b (go_on p lack w who view).scopes
   go_on_tracks lack w who view b f h linkless = from_move lack w who b (p.short view (answer_given w who).1) (move_of p w who view) f h linkless
 
--- ---- settling
-
-module _ {V : Type 0} where
-  pub drop_same : (v : World V) (thing : Thing) → (drop v thing).scopes ≡ v.scopes
-  drop_same v (things.Bundle name) = refl
-  drop_same v (things.End end) = refl
-  drop_same v (things.Listener link) = refl
-  drop_same v (things.Socket link) = refl
-  drop_same v (things.Value kind value) = refl
-
--- what holds of scopes and stays so as bundles and coroutines are gone
-module _ {V : Type 0} (Q : Scopes → Type 0) (dropped : (t : Scopes) (name : ℕ) → Q t → Q (scopes.drop_bundle t name)) (gone : (t : Scopes) (who : ℕ) → Q t → Q (scopes.ended t who)) where
-  abbrev QTo : World V → Type 0
-  QTo v = Q v.scopes
-
-  release_tracks : (v : World V) (number : ℕ) → QTo v → QTo (release v number)
-  release_tracks v number h = at (entry_of v number)
-    where
-      at : (o : Option (Entry Thing)) → QTo (if_some o v (λ x. note (drop (record v { handles = handles.retire v.handles number }) x.thing) (Freed number)))
-      at None = h
-      at (Some x) = subst Q (sym (drop_same (record v { handles = handles.retire v.handles number }) x.thing)) h
-
-  fold_tracks : {A : Type 0} (f : World V → A → World V) (xs : List A) (v : World V) → ((u : World V) (a : A) → QTo u → QTo (f u a)) → QTo v → QTo (fold f v xs)
-  fold_tracks f [] v k h = h
-  fold_tracks f (x ∷ xs) v k h = fold_tracks f xs (f v x) k (k v x h)
-
-  finish_tracks : (v : World V) (c : Coroutine V) → QTo v → QTo (finish v c)
-  finish_tracks v c h =
-      let freed = fold_tracks free_bundle (highest_first (filter (is_owned_by v c.number) v.closings)) v (λ u x e. dropped u.scopes x.bundle e) h in
-      let bare = fold_tracks release (reverse (handles.numbers_of (free_all v c.number).handles c.number)) (free_all v c.number) (λ u n e. release_tracks u n e) freed in
-      gone (release_all (free_all v c.number) c.number).scopes c.number bare
-
-  give_tracks : (v : World V) (who : ℕ) (call : Call) (answer : Answer) → may_wait call ≡ true → QTo v → QTo (give v who call answer)
-  give_tracks v who (calls.Msleep deadline) answer e h = h
-  give_tracks v who (calls.BundleWait number deadline) answer e h = h
-  give_tracks v who (calls.Chsend number bytes deadline) answer e h = h
-  give_tracks v who (calls.Chrecv number size deadline) answer e h = h
-  give_tracks v who (calls.Choose deadline all) answer e h = h
-  give_tracks v who (calls.Hclose number) answer e h = at (find (is_dead_as number) v.closings)
-    where
-      at : (o : Option Closing) → QTo (if_some o v (free_bundle v))
-      at None = h
-      at (Some x) = dropped v.scopes x.bundle h
-  give_tracks v who _ answer e h = cc
-
-  pub settle_one_tracks : (p : Program V) (v : World V) → AllSit p v.coroutines → Numbered 0 v.coroutines v.last_coroutine → QTo v → QTo (settle_one v)
-  settle_one_tracks p v a n h = at (find (can_finish v) v.coroutines)
-    where
-      given : (o : Option (ℕ × Call × Answer)) → first_some (answer_due v) v.coroutines ≡ o → QTo (if_some o v (λ x. give v x.0 x.1 x.2))
-      given None e = h
-      given (Some x) e =
-          let d = (due_first v 0 v.last_coroutine v.coroutines x n e).1 in
-          let r = pending_runs p v x.0 x.1 a (record { one = d.one; found = d.found; pends = d.call }) in
-          give_tracks v x.0 x.1 x.2 r.1 h
-
-      at : (o : Option (Coroutine V)) → QTo (if_some o (give_first v) (finish v))
-      at None = given (first_some (answer_due v) v.coroutines) refl
-      at (Some c) = finish_tracks v c h
-
 -- ---- the worlds of a step
 
 -- Somebody is there and inside a bundle. Then the bundle is there.
@@ -280,7 +222,7 @@ module _ {V : Type 0} (p : Program V) (s : Scopes) (b : ℕ) (forest : IsForest 
     order = (settle_one_good w i.order).good;
     sits = leads_sits p in_tree w (settle_one w) (one_leads w i) i.sits;
     holds = settle_one_shut (IsShutAs b) b (shut_lasts b) w i.holds;
-    tracks = settle_one_tracks (Tracks s b) (λ t name h. tracks_drop s b t name h) (λ t who h. tracks_ended s b t who h) p w i.sits i.order.order.fits.numbered i.tracks;
+    tracks = settle_one_quiet (TracksIn s b) (tracks_clear s b) w i.linkless i.tracks;
   }
 
   pub tree_leads : (w : World V) → InTree w → Leads p in_tree w (settle w)

@@ -206,10 +206,12 @@ module _ (tie : Closing) where
     };
     makes = λ p thing owner e h. more p thing owner (λ name f. cc) h;
     moves = λ p number owner x k h. more (retired p number) x.thing owner k.0 (less p number h);
-    retires = less;
     closes = λ c. shut;
-    frees = free;
     bundles = new_bundle;
     bears = λ p home who h. record { ranked = h.ranked; marked = h.marked; noted = h.noted; things = h.things; tied = h.tied; others = h.others; given = h.given };
-    ends = λ p who h. record { ranked = h.ranked; marked = h.marked; noted = h.noted; things = h.things; tied = h.tied; others = h.others; given = h.given };
+    clears = record {
+      retires = less;
+      frees = free;
+      ends = λ p who h. record { ranked = h.ranked; marked = h.marked; noted = h.noted; things = h.things; tied = h.tied; others = h.others; given = h.given };
+    };
   }

@@ -74,14 +74,14 @@ module _ {V : Type 0} (tie : Closing) where
   to_kept k s stands h = subst (Marked tie) (sym stands.world) h
 
   settle_marked : (w : World V) → Marked tie w → Marked tie (settle w)
-  settle_marked w h = settle_lasts (IsLive tie) (Unit {0}) (MarkedIn tie) (lasts_marked tie) w h
+  settle_marked w h = settle_lasts (MarkedIn tie) (IsLive tie) (Unit {0}) (lasts_marked tie) w h
 
   turned_marked : (p : Program V) (k : Kept V) (lack : Option LackPlace) → Marked tie k.world → Marked tie (kept_turn p lack k).world
   turned_marked p k lack h = at k.ready
     where
       turned : (who : ℕ) (o : Option (Coroutine V)) → Marked tie (if_some o k.world (λ c. settle (go_on p lack (begin k.world) who c.body)))
       turned who None = h
-      turned who (Some c) = settle_marked (go_on p lack (begin k.world) who c.body) (go_on_lasts (IsLive tie) (Unit {0}) (MarkedIn tie) (lasts_marked tie) tt p lack (begin k.world) who c.body h)
+      turned who (Some c) = settle_marked (go_on p lack (begin k.world) who c.body) (go_on_lasts (MarkedIn tie) (IsLive tie) (Unit {0}) (lasts_marked tie) tt p lack (begin k.world) who c.body h)
 
       at : (ready : List ℕ) → Marked tie (turn_first p lack k ready).world
       at [] = h
@@ -89,7 +89,7 @@ module _ {V : Type 0} (tie : Closing) where
 
   late_marked : (xs : List ℕ) (k : Kept V) → Marked tie k.world → Marked tie (fold kept_expire_next k xs).world
   late_marked [] k h = h
-  late_marked (x ∷ xs) k h = late_marked xs (kept_expire_next k x) (expire_lasts (IsLive tie) (Unit {0}) (MarkedIn tie) (lasts_marked tie) k.world x h)
+  late_marked (x ∷ xs) k h = late_marked xs (kept_expire_next k x) (expire_lasts (MarkedIn tie) (IsLive tie) (Unit {0}) (lasts_marked tie) k.world x h)
 
   expired_marked : (k : Kept V) → Marked tie k.world → Marked tie (kept_expired k).world
   expired_marked k h = settle_marked (kept_late k).world (late_marked (passed k.world) (record k { world = begin k.world }) h)
