@@ -32,7 +32,7 @@ use Rattle.dill_rules.specs.Turning.{is_build, is_entry, as_running, may_lack_bu
 use Rattle.laws_queue.proofs.Crew.{close_all_crew}
 use Rattle.laws_sound.specs.Laws.{is_closing}
 use Rattle.laws_debt.proofs.Flagging.{all_picked}
-use Rattle.laws_debt.proofs.Lists.{all_append, all_without, all_to}
+use Rattle.laws_queue.proofs.Lists.{all_append, all_without, all_to}
 use Rattle.laws_debt.proofs.Tracking.{all_by_key}
 use Rattle.laws_queue.proofs.Numbers.{found_changed}
 use Rattle.laws_debt.proofs.Lasting.{Parts, Lasting, release_lasts, meet_lasts, enter_lasts, settle_lasts}

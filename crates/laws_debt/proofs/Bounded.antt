@@ -12,7 +12,7 @@ use Rattle.laws_queue.specs.Well.{IsAlive, Lives, Numbered, bit, occurs, is_at, 
 use Rattle.laws_sound.specs.Laws.{is_resting}
 use Rattle.laws_debt.specs.Owed.{share_by}
 use Rattle.laws_debt.specs.Says.{LowersIn, AllLower}
-use Rattle.laws_debt.proofs.Lists.{all_to, equal_number, above_of}
+use Rattle.laws_queue.proofs.Lists.{all_to, equal_number, above_of}
 use Rattle.laws_debt.proofs.Walking.{unlike}
 use Rattle.laws_queue.proofs.Numbers.{above}
 use Rattle.laws_sound.specs.Orderly.{weigh}

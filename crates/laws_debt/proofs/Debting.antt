@@ -50,13 +50,13 @@ use Rattle.laws_debt.specs.Steady.{LowersInside, IsEven, IsSteady}
 use Rattle.laws_debt.proofs.Ending.{KeepsWithin, take_all}
 use Rattle.laws_debt.proofs.Falling.{share_in, LowersAt, turn_falls}
 use Rattle.laws_debt.proofs.Keeping.{good_stable, good_settle, good_moved, good_turn, turn_is, good_closed}
-use Rattle.laws_debt.proofs.Lists.{is_total, all_to, equal_number}
+use Rattle.laws_queue.proofs.Lists.{all_to, equal_number}
+use Rattle.laws_sound.proofs.Counting.{is_total}
 use Rattle.laws_debt.proofs.Moving.{turn_steps}
 use Rattle.laws_debt.proofs.Rooting.{steps_keep_stable, root_debt_falls}
 use Rattle.laws_debt.proofs.Shifting.{none_gone, Hushed, hushed_settled, hushed_expire, hushed_queued, expire_leaves, calls_lined, settle_steps, shut_steps, expire_steps}
-use Rattle.laws_debt.proofs.Settling.{AllSit}
+use Rattle.laws_debt.proofs.Walking.{AllSit, unlike}
 use Rattle.laws_debt.proofs.Stepwise.{Stepped, less_early, debt_total, total_all, all_there, early_queued, even_after, debt_after, places_after}
-use Rattle.laws_debt.proofs.Walking.{unlike}
 use Rattle.laws_debt.proofs.Within.{keeps_within}
 
 -- who lives somewhere is inside the root

@@ -33,14 +33,14 @@ use Rattle.laws_sound.proofs.Steps.{settle_one_linkless}
 use Rattle.laws_sound.proofs.Turns.{closed_linkless, go_on_linkless}
 use Rattle.laws_debt.proofs.Bounded.{owes_few, all_early}
 use Rattle.laws_debt.proofs.Keeping.{root_flags, good_stable, turn_is}
-use Rattle.laws_debt.proofs.Lists.{is_total, all_found, all_to, found_passes, equal_number}
+use Rattle.laws_queue.proofs.Lists.{all_found, all_to, found_passes, equal_number}
+use Rattle.laws_sound.proofs.Counting.{is_total}
 use Rattle.laws_debt.proofs.Lowering.{all_calm, owed_evolves, lowers_evolves, owed_lined, all_lower_lined, others_lower, share_falls, answered_owes, called_falls, ended_falls, first_gone, others_same}
-use Rattle.laws_debt.proofs.Settling.{AllSit, leads_sits, settle_one_leads, settle_leads}
+use Rattle.laws_debt.proofs.Walking.{AllSit, leads_sits, settle_one_calm, settle_calm, Leads, unlike}
 use Rattle.laws_debt.proofs.Shutting.{settle_shut, AllHold, Lasts, settle_one_shut, go_on_shut}
 use Rattle.laws_debt.proofs.Unmet.{unmet}
-use Rattle.laws_debt.proofs.Turning.{sits_resumed, given_is, Went, called, ended, go_on_went, went_leads, found_number, all_resumed}
-use Rattle.laws_debt.proofs.Walking.{Leads, unlike}
-use Rattle.laws_queue.proofs.Numbers.{found_changed}
+use Rattle.laws_debt.proofs.Turning.{sits_resumed, given_is, Went, called, ended, go_on_went, went_leads, all_resumed}
+use Rattle.laws_queue.proofs.Numbers.{found_changed, found_number}
 use Rattle.laws_sound.proofs.Going.{linkless_long}
 
 -- steps within a step keep a world in order
@@ -143,7 +143,7 @@ module _ {V : Type 0} (p : Program V) (law : IsLawful p) (unlinked : MakesLinkle
   off w who c i e f = cancels w who i.order.order (root_shut w i.order.order i.holds) (ap (λ (o : Option (Coroutine V)). is_some o) e)
 
   one_leads : (w : World V) → InClosing w → Leads p all_calm w (settle_one w)
-  one_leads w i = settle_one_leads p all_calm InClosing off w i i.sits i.order.order.fits.numbered
+  one_leads w i = settle_one_calm p all_calm InClosing off w i i.sits i.order.order.fits.numbered
 
   settles : (w : World V) → InClosing w → InClosing (settle_one w)
   settles w i = record {
@@ -154,7 +154,7 @@ module _ {V : Type 0} (p : Program V) (law : IsLawful p) (unlinked : MakesLinkle
   }
 
   settling : (w : World V) → InClosing w → Leads p all_calm w (settle w)
-  settling w i = settle_leads p all_calm InClosing off settles w i i.sits i.order.order.fits.numbered
+  settling w i = settle_calm p all_calm InClosing off settles w i i.sits i.order.order.fits.numbered
 
   settling_holds : (w : World V) → InClosing w → AllHold (IsShutAs 0) 0 (settle w)
   settling_holds w i = settle_shut (IsShutAs 0) 0 (shut_lasts 0) w i.holds

@@ -66,10 +66,6 @@ bare_waits (calls.Chrecv number size deadline) m = refl
 bare_waits (calls.Choose deadline all) m = refl
 bare_waits _ m = cc
 
-pub word_bare : (call : Call) → word_of (without_bytes call) ≡ word_of call
-word_bare (calls.Chsend number bytes deadline) = refl
-word_bare call = refl
-
 quiet_by : (start block close up : Bool) → start ≡ false → (up ≡ true) ⊎ (block ≡ false) → (not start && (not block || (close || up))) ≡ true
 quiet_by true block close up e f = cc
 quiet_by false block close up e (inr f) = ap (λ b. not b || (close || up)) f

@@ -28,19 +28,19 @@ use Rattle.laws_debt.specs.Says.{Says, SaysIn, IsLowering}
 use Rattle.laws_sound.proofs.Linkless.{begin_linkless}
 use Rattle.laws_sound.proofs.Turns.{go_on_linkless}
 use Rattle.laws_debt.proofs.Ending.{KeepsWithin, IsShutAs, shut_lasts}
-use Rattle.laws_debt.proofs.Evolving.{Evolves, Suits, newborn, evolves_all, evolves_total}
+use Rattle.laws_debt.proofs.Evolving.{EvolvesCalm, Suits, evolves_calm, evolves_total}
+use Rattle.laws_queue.proofs.Evolving.{newborn}
 use Rattle.laws_debt.proofs.Holding.{new_outside as new_outside_of}
 use Rattle.laws_debt.proofs.Keeping.{good_stable, turn_is}
-use Rattle.laws_debt.proofs.Lists.{all_found, all_to, found_passes, number_of, some_same}
+use Rattle.laws_queue.proofs.Lists.{all_found, all_to, found_passes, number_of, some_same}
 use Rattle.laws_debt.proofs.Lowering.{less_at, others_lower, others_share, share_falls, answered_owes}
-use Rattle.laws_debt.proofs.Settling.{leads_sits}
+use Rattle.laws_debt.proofs.Walking.{leads_sits, unlike}
 use Rattle.laws_debt.proofs.Shutting.{go_on_shut}
 use Rattle.laws_debt.proofs.Tracking.{tracks_self, all_by_key}
 use Rattle.laws_debt.proofs.Tree.{InTree, tree_same, tree_off, tree_leads, settled_tree, facts_of, closing_found, go_on_tracks}
 use Rattle.laws_debt.proofs.Unmet.{unmet}
-use Rattle.laws_debt.proofs.Turning.{sits_resumed, given_is, Went, called, ended, go_on_went, went_leads, found_number, all_resumed, total_resumed}
-use Rattle.laws_debt.proofs.Walking.{unlike}
-use Rattle.laws_queue.proofs.Numbers.{found_changed}
+use Rattle.laws_debt.proofs.Turning.{sits_resumed, given_is, Went, called, ended, go_on_went, went_leads, all_resumed, total_resumed}
+use Rattle.laws_queue.proofs.Numbers.{found_changed, found_number}
 use Rattle.laws_sound.specs.Orderly.{weigh}
 use Rattle.laws_sound.proofs.Counting.{weigh_change}
 
@@ -66,7 +66,7 @@ module _ {V : Type 0} (p : Program V) (tree : ℕ → Bool) (early : ℕ → Boo
   in_born number view e = ap (λ t. if t then share_by p early (newborn number view) else 0) e
 
   -- steps besides the turn raise nothing
-  pub owed_tree : (cs ds : List (Coroutine V)) (k l : ℕ) → Evolves p tree cs k ds l → weigh share_in ds ≤ weigh share_in cs
+  pub owed_tree : (cs ds : List (Coroutine V)) (k l : ℕ) → EvolvesCalm p tree cs k ds l → weigh share_in ds ≤ weigh share_in cs
   owed_tree cs ds k l e = evolves_total p tree share_in in_moved in_born cs ds k l e
 
   suits_lowers : (c : Coroutine V) (mode : Mode) → Suits p tree c mode → LowersAt (with_mode mode c)
@@ -76,8 +76,8 @@ module _ {V : Type 0} (p : Program V) (tree : ℕ → Bool) (early : ℕ → Boo
   suits_lowers c (modes.Answered word answer) s t e = absurd s
   suits_lowers c (modes.Ending outcome) s t e = tt
 
-  pub lowers_tree : (cs ds : List (Coroutine V)) (k l : ℕ) → Evolves p tree cs k ds l → AllByRecursion LowersAt cs → AllByRecursion LowersAt ds
-  lowers_tree cs ds k l e a = evolves_all p tree LowersAt suits_lowers (λ number view b q t. unlike (tree number) q t) cs ds k l e a
+  pub lowers_tree : (cs ds : List (Coroutine V)) (k l : ℕ) → EvolvesCalm p tree cs k ds l → AllByRecursion LowersAt cs → AllByRecursion LowersAt ds
+  lowers_tree cs ds k l e a = evolves_calm p tree LowersAt suits_lowers (λ number view b q t. unlike (tree number) q t) cs ds k l e a
 
 -- ---- the world in which a bundle is closing
 

@@ -9,7 +9,7 @@ use Rattle.dill_rules.specs.declared.coroutine.Closing.{Closing}
 use Rattle.dill_rules.specs.Owning.{is_closing_of}
 use Rattle.laws_queue.specs.Well.{bit, occurs}
 use Rattle.laws_debt.specs.Flags.{Ranked, IsFlagged}
-use Rattle.laws_debt.proofs.Lists.{all_to, equal_number, number_of}
+use Rattle.laws_queue.proofs.Lists.{all_to, equal_number, number_of}
 
 -- where the test holds of what is changed
 pub all_picked : {X : Type 0} (P Q : X → Type 0) (pick : X → Bool) (g : X → X) (xs : List X) → ((x : X) → pick x ≡ true → P x → Q (g x)) → ((x : X) → P x → Q x) → AllByRecursion P xs → AllByRecursion Q (change pick g xs)

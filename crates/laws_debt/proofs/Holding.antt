@@ -40,7 +40,7 @@ use Rattle.laws_queue.proofs.Crew.{give_all_crew}
 use Rattle.dill_scope.proofs.Carrying.{inside_lives}
 use Rattle.laws_queue.proofs.Walking.{none_behind, or_false}
 use Rattle.laws_debt.proofs.Flagging.{all_picked}
-use Rattle.laws_debt.proofs.Lists.{all_append, all_without, all_found, all_to, found_passes, number_of, equal_number, some_same}
+use Rattle.laws_queue.proofs.Lists.{all_append, all_without, all_found, all_to, found_passes, number_of, equal_number, some_same}
 use Rattle.laws_debt.proofs.Tracking.{NotOf, OwnerOk, BundleOk, HomeOk, Tracks}
 use Rattle.laws_debt.proofs.Walking.{unlike}
 

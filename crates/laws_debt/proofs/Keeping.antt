@@ -35,11 +35,10 @@ use Rattle.laws_debt.specs.Says.{SaysIn, Says, AllSay}
 use Rattle.laws_debt.proofs.Entering.{start_only}
 use Rattle.laws_debt.proofs.Flagging.{all_picked, ranked_change}
 use Rattle.laws_queue.proofs.Lining.{lined_pending, numbered_lined}
-use Rattle.laws_debt.proofs.Lists.{all_map, all_to, number_of}
-use Rattle.laws_debt.proofs.Settling.{Sits, AllSit, leads_sits, leads_numbered, settle_leads, expire_leads}
+use Rattle.laws_queue.proofs.Lists.{all_map, all_to, number_of}
+use Rattle.laws_debt.proofs.Walking.{Sits, AllSit, leads_sits, numbered_calm, settle_calm, expire_calm, Leads}
 use Rattle.laws_debt.proofs.Shutting.{AllHold, Lasts, settle_shut, expire_one_shut, go_on_shut}
 use Rattle.laws_debt.proofs.Turning.{sits_resumed, go_on_went, went_leads}
-use Rattle.laws_debt.proofs.Walking.{Leads}
 use Rattle.laws_queue.proofs.Numbers.{numbered_change}
 
 -- nobody is among the calm
@@ -65,22 +64,22 @@ module _ {V : Type 0} (p : Program V) where
     pub holds : AllHold AnyBundle 0 w
 
   pub settles : (w : World V) → AllSit p w.coroutines → Numbered 0 w.coroutines w.last_coroutine → Leads p nobody_calm w (settle w)
-  settles w a n = settle_leads p nobody_calm (λ v. Unit {0}) (λ v who c i e f. cc) (λ v i. tt) w tt a n
+  settles w a n = settle_calm p nobody_calm (λ v. Unit {0}) (λ v who c i e f. cc) (λ v i. tt) w tt a n
 
   pub good_settle : (w : World V) → IsGood w → IsGood (settle w)
   good_settle w g =
       let e = settles w g.sits g.numbered in
       record {
-        numbered = leads_numbered p nobody_calm w (settle w) e g.numbered;
+        numbered = numbered_calm p nobody_calm w (settle w) e g.numbered;
         sits = leads_sits p nobody_calm w (settle w) e g.sits;
         holds = settle_shut AnyBundle 0 any_lasts w g.holds;
       }
 
   pub good_expire : (w : World V) (who : ℕ) → IsGood w → IsGood (expire_one w who)
   good_expire w who g =
-      let e = expire_leads p nobody_calm w who g.sits (λ call i c. cc) in
+      let e = expire_calm p nobody_calm w who g.sits (λ call i c. cc) in
       record {
-        numbered = leads_numbered p nobody_calm w (expire_one w who) e g.numbered;
+        numbered = numbered_calm p nobody_calm w (expire_one w who) e g.numbered;
         sits = leads_sits p nobody_calm w (expire_one w who) e g.sits;
         holds = expire_one_shut AnyBundle 0 any_lasts w who g.holds;
       }
@@ -140,7 +139,7 @@ module _ {V : Type 0} (p : Program V) (law : IsLawful p) (unlinked : MakesLinkle
       let before = resume b who view in
       let sits = sits_resumed p b who view one found g.sits in
       let numbered = numbered_change (is_coroutine who) (as_running view) w.coroutines 0 w.last_coroutine (λ d. refl) g.numbered in
-      let numbered_then = leads_numbered p nobody_calm before moved from.1 numbered in
+      let numbered_then = numbered_calm p nobody_calm before moved from.1 numbered in
       record {
         numbered = numbered_then;
         sits = leads_sits p nobody_calm before moved from.1 sits;

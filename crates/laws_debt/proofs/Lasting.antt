@@ -53,7 +53,7 @@ use Rattle.dill_rules.specs.World.{World, call_of, reply, pend, note, from_start
 use Rattle.laws_sound.specs.Linkless.{may_wait, IsLinkless}
 use Rattle.laws_sound.proofs.Steps.{first_waits}
 use Rattle.laws_queue.proofs.Besides.{Besides, on_named_besides, ask_stack_besides, heat_besides, queue_besides, dropped_besides, look_besides, pass_all_besides}
-use Rattle.laws_debt.proofs.Lists.{all_found, all_filter, found_passes, number_of}
+use Rattle.laws_queue.proofs.Lists.{all_found, all_filter, found_passes, number_of}
 
 -- bundles, handles and closings of a world
 pub record Parts : Type 0 where

@@ -1,10 +1,8 @@
-pub mod Lists
 pub mod Lasting
 pub mod Lining
 pub mod Evolving
 pub mod Entering
 pub mod Walking
-pub mod Settling
 pub mod Unmet
 pub mod Flagging
 pub mod Shutting

@@ -15,7 +15,7 @@ use Rattle.dill_rules.specs.World.{is_coroutine, with_mode, is_ending, is_answer
 use Rattle.laws_queue.specs.Well.{Numbered, bit, occurs}
 use Rattle.laws_debt.specs.Owed.{share_by}
 use Rattle.laws_debt.specs.Says.{SaysIn, LowersIn, IsLowering, AllLower}
-use Rattle.laws_debt.proofs.Evolving.{Evolves, Suits, evolves_all, evolves_total}
+use Rattle.laws_debt.proofs.Evolving.{EvolvesCalm, Suits, evolves_calm, evolves_total}
 use Rattle.laws_sound.proofs.Leaving.{lined_ends}
 use Rattle.laws_debt.proofs.Lining.{lowers_lined}
 use Rattle.laws_debt.proofs.Turning.{total_resumed}
@@ -51,7 +51,7 @@ module _ {V : Type 0} (p : Program V) (early : ℕ → Bool) where
   share_moved c mode e = less_at (is_ending mode) (is_ending c.mode) (if early c.number then 1 + p.most c.body else p.left c.body) e
 
   -- steps besides the turn raise nothing
-  pub owed_evolves : (cs ds : List (Coroutine V)) (k l : ℕ) → Evolves p all_calm cs k ds l → weigh (share_by p early) ds ≤ weigh (share_by p early) cs
+  pub owed_evolves : (cs ds : List (Coroutine V)) (k l : ℕ) → EvolvesCalm p all_calm cs k ds l → weigh (share_by p early) ds ≤ weigh (share_by p early) cs
   owed_evolves cs ds k l e = evolves_total p all_calm (share_by p early) share_moved (λ number view q. cc) cs ds k l e
 
   suits_lowers : (c : Coroutine V) (mode : Mode) → Suits p all_calm c mode → IsLowering early (with_mode mode c)
@@ -62,8 +62,8 @@ module _ {V : Type 0} (p : Program V) (early : ℕ → Bool) where
   suits_lowers c (modes.Ending outcome) s e = tt
 
   -- and leave answers that lower
-  pub lowers_evolves : (cs ds : List (Coroutine V)) (k l : ℕ) → Evolves p all_calm cs k ds l → AllLower early cs → AllLower early ds
-  lowers_evolves cs ds k l e a = evolves_all p all_calm (IsLowering early) suits_lowers (λ number view b q. cc) cs ds k l e a
+  pub lowers_evolves : (cs ds : List (Coroutine V)) (k l : ℕ) → EvolvesCalm p all_calm cs k ds l → AllLower early cs → AllLower early ds
+  lowers_evolves cs ds k l e a = evolves_calm p all_calm (IsLowering early) suits_lowers (λ number view b q. cc) cs ds k l e a
 
   -- a place in the queue changes nothing of it
   pub owed_lined : (cs : List (Coroutine V)) → weigh (share_by p early) (map lined cs) ≡ weigh (share_by p early) cs

@@ -30,19 +30,18 @@ use Rattle.laws_debt.specs.Steady.{HasStamps, LowersInside}
 use Rattle.laws_debt.proofs.Beginning.{OldFlag, NoAnswer, Begun, same, none, old_flags, settle_flags, go_on_begun}
 use Rattle.laws_debt.proofs.Bounded.{each_found, queued_early}
 use Rattle.laws_debt.proofs.Ending.{KeepsWithin}
-use Rattle.laws_debt.proofs.Evolving.{Suits, evolves_all}
+use Rattle.laws_debt.proofs.Evolving.{Suits, evolves_calm}
 use Rattle.laws_debt.proofs.Falling.{LowersAt, closing_shut, ranked_bound, turn_falls}
 use Rattle.laws_debt.proofs.Flagging.{both_all}
 use Rattle.laws_debt.proofs.Keeping.{nobody_calm, AnyBundle, IsGood, good_stable, good_moved, settles, turn_is}
-use Rattle.laws_debt.proofs.Lists.{all_found, all_to, all_without, found_passes, number_of, equal_number}
-use Rattle.laws_debt.proofs.Settling.{AllSit, leads_sits, leads_numbered, settle_one_leads, settle_within_leads, pass_nothing}
+use Rattle.laws_queue.proofs.Lists.{all_found, all_to, all_without, found_passes, number_of, equal_number}
+use Rattle.laws_debt.proofs.Walking.{AllSit, leads_sits, numbered_calm, settle_one_calm, unlike}
 use Rattle.laws_debt.proofs.Shutting.{settle_shut, AllHold, go_on_shut}
 use Rattle.laws_debt.proofs.Stamping.{others_stay, taken_gone}
 use Rattle.laws_debt.proofs.Stepwise.{LowersFresh, StampOk, stamp_lasts, stamps_self, all_there, Stepped, less_early}
 use Rattle.laws_debt.proofs.Tracking.{tracks_self}
 use Rattle.laws_debt.proofs.Tree.{InTree, tree_same, tree_leads, settled_tree, closing_found}
 use Rattle.laws_debt.proofs.Turning.{go_on_went, went_leads, all_resumed}
-use Rattle.laws_debt.proofs.Walking.{unlike}
 
 pub flag_was : (s : Scopes) (t : Scopes) (b : ℕ) → AllByRecursion (OldFlag s) t.bundles → is_closing t b ≡ true → is_closing s b ≡ true
 flag_was s t b a c =
@@ -100,7 +99,7 @@ module _ {V : Type 0} (p : Program V) where
       let leads = tree_leads p moved.scopes b forest moved self in
       let after = settled_tree p moved.scopes b forest moved self in
       let start = all_to NoAnswer (AnswersIn tree) moved.coroutines (λ c e t. no_fresh c.mode e) unanswered in
-      let done = evolves_all p tree (AnswersIn tree) (λ c mode s t. suits_answers tree c mode s t) (λ number view g q t. unlike (tree number) q t) moved.coroutines v.coroutines moved.last_coroutine v.last_coroutine leads start in
+      let done = evolves_calm p tree (AnswersIn tree) (λ c mode s t. suits_answers tree c mode s t) (λ number view g q t. unlike (tree number) q t) moved.coroutines v.coroutines moved.last_coroutine v.last_coroutine leads start in
       both_all (λ (c : Coroutine V). IsThere v.scopes c.number) (AnswersIn tree) (λ c. is_inside v.scopes b c.number ≡ true → LowersFresh c.mode) v.coroutines (λ c there h i. h (sym (tree_same p moved.scopes b forest v c.number after.order.order after.tracks there) ∙ i)) (all_there v after.order.order) done
 
 -- ---- the turn
@@ -140,8 +139,8 @@ module _ {V : Type 0} (p : Program V) (law : IsLawful p) (unlinked : MakesLinkle
       let found = each_found w.coroutines 0 w.last_coroutine s.well.numbered in
       let before = all_to (λ d. find (is_coroutine d.number) w.coroutines ≡ Some d) (λ d. is_answered d.mode ≡ true → list_any (λ m. m == d.number) k.ready ≡ true) w.coroutines (λ d e a. queued_early k.ready w.coroutines s.well.queue d e a) found in
       let resumed = all_resumed who from.0 (λ d. is_answered d.mode ≡ true → list_any (λ m. m == d.number) k.ready ≡ true) (HadAnswer who k.ready) w.coroutines 0 w.last_coroutine s.well.numbered (λ x i h a. (i, h a)) (λ x i a. cc) before in
-      let after = evolves_all p nobody_calm (HadAnswer who k.ready) (λ d mode q a. absurd (suits_unanswered nobody_calm d mode q a)) (λ number view q r a. cc) (resume b who from.0).coroutines moved.coroutines w.last_coroutine moved.last_coroutine from.1 resumed in
-      let done = evolves_all p nobody_calm (HadAnswer who k.ready) (λ d mode q a. absurd (suits_unanswered nobody_calm d mode q a)) (λ number view q r a. cc) moved.coroutines (settle moved).coroutines moved.last_coroutine (settle moved).last_coroutine (settles p moved good.sits good.numbered) after in
+      let after = evolves_calm p nobody_calm (HadAnswer who k.ready) (λ d mode q a. absurd (suits_unanswered nobody_calm d mode q a)) (λ number view q r a. cc) (resume b who from.0).coroutines moved.coroutines w.last_coroutine moved.last_coroutine from.1 resumed in
+      let done = evolves_calm p nobody_calm (HadAnswer who k.ready) (λ d mode q a. absurd (suits_unanswered nobody_calm d mode q a)) (λ number view q r a. cc) moved.coroutines (settle moved).coroutines moved.last_coroutine (settle moved).last_coroutine (settles p moved good.sits good.numbered) after in
       subst (λ (v : World V). AllByRecursion (HadAnswer who k.ready) v.coroutines) (sym (turn_is p law unlinked lack w who c may.found)) done
 
   turned_begun : (k : Kept V) (lack : Option LackPlace) (who : ℕ) (rest : List ℕ) (b : ℕ) → (s : IsStable p k) → k.ready ≡ who ∷ rest → MayTurn p k.world who → is_closing k.world.scopes b ≡ false → is_closing (turn p lack k.world who).scopes b ≡ true → AllByRecursion (λ c. is_inside (turn p lack k.world who).scopes b c.number ≡ true → LowersFresh c.mode) (turn p lack k.world who).coroutines

@@ -31,20 +31,19 @@ use Rattle.laws_debt.specs.Steady.{HasStamps, LowersInside}
 use Rattle.laws_debt.proofs.Beginning.{OldFlag, old_flags, settle_flags}
 use Rattle.laws_debt.proofs.Bounded.{each_found, queued_early}
 use Rattle.laws_debt.proofs.Ending.{IsShutAs}
-use Rattle.laws_debt.proofs.Evolving.{Suits, evolves_all}
+use Rattle.laws_debt.proofs.Evolving.{Suits, evolves_calm}
 use Rattle.laws_debt.proofs.Falling.{LowersAt, owed_tree, lowers_tree, tree_self, settle_falls}
 use Rattle.laws_debt.proofs.Flagging.{all_picked}
 use Rattle.laws_debt.proofs.Holding.{tracks_close}
 use Rattle.laws_debt.proofs.Keeping.{nobody_calm, AnyBundle, good_stable, root_flags, settles}
 use Rattle.laws_queue.proofs.Lining.{lined_pending}
-use Rattle.laws_debt.proofs.Lists.{all_to}
+use Rattle.laws_queue.proofs.Lists.{all_to}
 use Rattle.laws_debt.proofs.Moving.{unfresh_all as all_unfresh_of, begun_settles, flag_was}
-use Rattle.laws_debt.proofs.Settling.{AllSit, call_pends, pending_runs, expire_leads, change_calls}
+use Rattle.laws_debt.proofs.Walking.{AllSit, call_pends, pending_waits, expire_calm, change_calls, Leads, unlike}
 use Rattle.laws_debt.proofs.Unmet.{cancels_some, unanswered}
 use Rattle.laws_debt.proofs.Shutting.{settle_shut, AllHold, Lasts, expire_one_shut}
 use Rattle.laws_debt.proofs.Stepwise.{StampOk, stamp_lasts, stamps_self, Stepped, less_early}
 use Rattle.laws_debt.proofs.Tree.{InTree, tree_off}
-use Rattle.laws_debt.proofs.Walking.{Leads, unlike}
 use Rattle.laws_sound.proofs.Stepping.{order_root_closed}
 
 -- nobody's answer is taken
@@ -68,7 +67,7 @@ module _ {V : Type 0} (p : Program V) (law : IsLawful p) (unlinked : MakesLinkle
       let w = k.world in
       let found = each_found w.coroutines 0 w.last_coroutine s.well.numbered in
       let before = all_to (λ d. find (is_coroutine d.number) w.coroutines ≡ Some d) (HadBefore k.ready) w.coroutines (λ d f a. (refl, queued_early k.ready w.coroutines s.well.queue d f a)) found in
-      evolves_all p nobody_calm (HadBefore k.ready) (λ c mode q. suits_before k.ready c mode q) (λ number view q r a. cc) w.coroutines v.coroutines w.last_coroutine v.last_coroutine e before
+      evolves_calm p nobody_calm (HadBefore k.ready) (λ c mode q. suits_before k.ready c mode q) (λ number view q r a. cc) w.coroutines v.coroutines w.last_coroutine v.last_coroutine e before
 
   here_low : (k : Kept V) (s : State V) → StandsFor k s → HasStamps s → AllByRecursion {X = Stamp} (λ x. (x.of ≤ k.world.last_bundle) × (x.at < s.next)) s.closings
   here_low k s stands stamps = subst (λ (w : World V). AllByRecursion {X = Stamp} (λ x. (x.of ≤ w.last_bundle) × (x.at < s.next)) s.closings) (sym stands.world) stamps.low
@@ -163,8 +162,7 @@ module _ {V : Type 0} (p : Program V) (law : IsLawful p) (unlinked : MakesLinkle
       let w = k.world in
       let good = good_stable p k stable in
       let d = call_pends p w n call e in
-      let r = pending_runs p w n call good.sits d in
-      hushes w n call r.1 c (unanswered w n call settled d)
+      hushes w n call (pending_waits p w n call good.sits d) c (unanswered w n call settled d)
 
   -- what is given up at its deadline leaves the bundles, and the calls of others
   pub record Leaves (w v : World V) : Type 0 where
@@ -185,7 +183,7 @@ module _ {V : Type 0} (p : Program V) (law : IsLawful p) (unlinked : MakesLinkle
     where
       at : (o : Option Call) → call_of w x ≡ o → if_some o true (λ call. is_some (due_of call)) ≡ true → Leaves w (if_some o w (λ call. give w x call (late_answer call)))
       at None e f = record { scopes_same = refl; calls_were = λ n call g. g }
-      at (Some call) e f = give_leaves w x call (late_answer call) (pending_runs p w x call a (call_pends p w x call e)).1 f
+      at (Some call) e f = give_leaves w x call (late_answer call) (pending_waits p w x call a (call_pends p w x call e)) f
 
   pub hushed_expire : (w : World V) (x : ℕ) → AllSit p w.coroutines → is_timed w x ≡ true → Hushed w → Hushed (expire_one w x)
   hushed_expire w x a t h n call c e =
@@ -222,14 +220,14 @@ module _ {V : Type 0} (p : Program V) (law : IsLawful p) (unlinked : MakesLinkle
         falls = λ b c.
             let tree = is_inside w.scopes b in
             let less = less_early p law unlinked s b none_gone in
-            let leads = expire_leads p tree w x good.sits (λ call e t. absurd (untimed k x call hushed timed e (tree_off p w.scopes b stable.order.order.fits.forest.forest w x (call_pends p w x call e).one (tree_self p law unlinked k b stable c) (call_pends p w x call e).found t))) in
+            let leads = expire_calm p tree w x good.sits (λ call e t. absurd (untimed k x call hushed timed e (tree_off p w.scopes b stable.order.order.fits.forest.forest w x (call_pends p w x call e).one (tree_self p law unlinked k b stable c) (call_pends p w x call e).found t))) in
             record {
               places = λ n there. ap (λ (t : Scopes). is_inside t b n) leaves.scopes_same;
               lowers = lowers_tree p tree less w.coroutines v.coroutines w.last_coroutine v.last_coroutine leads (here_lowers k s b stands lowers c);
               owes = owed_tree p tree less w.coroutines v.coroutines w.last_coroutine v.last_coroutine leads;
             };
         begun = λ b c d. unlike (is_closing w.scopes b) c (subst (λ (t : Scopes). is_closing t b ≡ true) leaves.scopes_same d);
-        answered = had_before k v stable (expire_leads p nobody_calm w x good.sits (λ call e c. cc));
+        answered = had_before k v stable (expire_calm p nobody_calm w x good.sits (λ call e c. cc));
         left = λ n g. refl;
         lost = λ n g. cc;
       }

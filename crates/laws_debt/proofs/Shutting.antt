@@ -13,7 +13,7 @@ use Rattle.dill_rules.specs.World.{World}
 use Rattle.laws_debt.specs.Flags.{IsFlagged, AreNoted}
 use Rattle.laws_debt.proofs.Flagging.{flagged_closed, flagged_freed, ranked_change, ranked_without, ranked_append}
 use Rattle.laws_debt.proofs.Lasting.{Parts, parts, Lasting, settle_one_lasts, settle_lasts, expire_lasts, go_on_lasts}
-use Rattle.laws_debt.proofs.Lists.{all_append, all_without}
+use Rattle.laws_queue.proofs.Lists.{all_append, all_without}
 
 -- Something holds of each bundle.
 pub record HoldIn (P : Bundle → Type 0) (low : ℕ) (p : Parts) : Type 0 where

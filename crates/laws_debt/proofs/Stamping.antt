@@ -6,7 +6,7 @@ use Rattle.dill_scope.specs.declared.forest.Bundle.{Bundle}
 use Rattle.dill_base.specs.Maps.{if_some}
 use Rattle.dill_rules.specs.State.{Stamp, is_stamp_of, stamp_of, stamped}
 use Rattle.laws_queue.specs.Stands.{Rise}
-use Rattle.laws_debt.proofs.Lists.{all_found, some_same}
+use Rattle.laws_queue.proofs.Lists.{all_found, some_same}
 use Rattle.laws_queue.proofs.Numbers.{find_append}
 
 -- ---- answers

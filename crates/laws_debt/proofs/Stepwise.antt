@@ -30,7 +30,7 @@ use Rattle.laws_debt.proofs.Falling.{share_in, LowersAt, Falls, ranked_bound}
 use Rattle.laws_debt.proofs.Flagging.{both_all}
 use Rattle.laws_sound.proofs.Leaving.{lined_ends}
 use Rattle.laws_debt.proofs.Lining.{lowers_lined}
-use Rattle.laws_debt.proofs.Lists.{is_total, all_found, all_append, all_to, found_passes, number_of, some_same}
+use Rattle.laws_queue.proofs.Lists.{all_found, all_append, all_to, found_passes, number_of, some_same}
 use Rattle.laws_debt.proofs.Shutting.{AllHold, Lasts}
 use Rattle.laws_debt.proofs.Stamping.{stamped_from, find_behind, is_less, came, came_before, queued_stamp, unqueued, new_closings, closing_stamped, open_unstamped, stamps_low}
 use Rattle.laws_debt.proofs.Tracking.{all_by_key}
@@ -38,7 +38,7 @@ use Rattle.laws_debt.proofs.Tree.{closing_found}
 use Rattle.laws_debt.proofs.Walking.{unlike}
 use Rattle.laws_queue.proofs.Numbers.{find_append}
 use Rattle.laws_sound.specs.Orderly.{weigh}
-use Rattle.laws_sound.proofs.Counting.{weigh_alike}
+use Rattle.laws_sound.proofs.Counting.{weigh_alike, is_total}
 
 -- an answer that was given in this step lowers
 abbrev pub LowersFresh : Mode → Type 0

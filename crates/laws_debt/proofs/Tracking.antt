@@ -10,7 +10,7 @@ use Rattle.dill_scope.specs.Forest.{Inside, lives, under, Rooted, at_root, below
 use Rattle.dill_scope.specs.Keeping.{IsThere, IsOrderedForest}
 use Rattle.dill_scope.proofs.Carrying.{parent_told, parent_is}
 use Rattle.dill_scope.proofs.Chains.{search_is_inside}
-use Rattle.laws_debt.proofs.Lists.{all_found, found_passes, number_of, equal_number, above_of, some_same, all_to}
+use Rattle.laws_queue.proofs.Lists.{all_found, found_passes, number_of, equal_number, above_of, some_same, all_to}
 
 -- the owner of a bundle isn't inside that one
 abbrev pub NotOf : Scopes → ℕ → ℕ → Type 0

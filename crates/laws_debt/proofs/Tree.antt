@@ -37,7 +37,7 @@ use Rattle.dill_rules.specs.Turning.{is_build, is_entry, may_lack_build, resume,
 use Rattle.laws_sound.specs.Linkless.{MovesLinkless, may_wait, IsLinkless}
 use Rattle.laws_queue.specs.Well.{Numbered, bit, occurs}
 use Rattle.laws_sound.proofs.Lists.{all_found}
-use Rattle.laws_sound.proofs.Steps.{settle_one_linkless}
+use Rattle.laws_sound.proofs.Steps.{settle_one_linkless, pass_linkless}
 use Rattle.laws_sound.specs.Laws.{is_closing}
 use Rattle.laws_sound.specs.Order.{is_there, is_held, has_bundle, IsInOrder}
 use Rattle.laws_sound.specs.Orderly.{IsOrderly}
@@ -52,12 +52,11 @@ use Rattle.laws_sound.proofs.Turns.{entered_linkless}
 use Rattle.laws_debt.proofs.Flagging.{closed_names}
 use Rattle.laws_debt.proofs.Holding.{Facts, TracksIn, tracks_clear, enter_tracks, end_tracks}
 use Rattle.laws_debt.proofs.Lasting.{settle_one_quiet}
-use Rattle.laws_debt.proofs.Lists as lists
-use Rattle.laws_debt.proofs.Lists.{equal_number, number_of, all_to}
-use Rattle.laws_debt.proofs.Settling.{AllSit, leads_sits, settle_one_leads, settle_leads, pass_nothing, pending_runs}
+use Rattle.laws_queue.proofs.Lists as lists
+use Rattle.laws_queue.proofs.Lists.{equal_number, number_of, all_to}
+use Rattle.laws_debt.proofs.Walking.{AllSit, leads_sits, settle_one_calm, settle_calm, Leads}
 use Rattle.laws_debt.proofs.Shutting.{AllHold, settle_one_shut}
 use Rattle.laws_debt.proofs.Tracking.{Tracks, inside_same}
-use Rattle.laws_debt.proofs.Walking.{Leads}
 use Rattle.laws_queue.proofs.Stepping.{due_first}
 
 -- ---- what is known of a world in order
@@ -214,7 +213,7 @@ module _ {V : Type 0} (p : Program V) (s : Scopes) (b : ℕ) (forest : IsForest 
       inside_cancelled w.scopes b who i.order.order.fits.forest.forest closing inside
 
   one_leads : (w : World V) → InTree w → Leads p in_tree w (settle_one w)
-  one_leads w i = settle_one_leads p in_tree InTree tree_off w i i.sits i.order.order.fits.numbered
+  one_leads w i = settle_one_calm p in_tree InTree tree_off w i i.sits i.order.order.fits.numbered
 
   tree_settles : (w : World V) → InTree w → InTree (settle_one w)
   tree_settles w i = record {
@@ -226,7 +225,7 @@ module _ {V : Type 0} (p : Program V) (s : Scopes) (b : ℕ) (forest : IsForest 
   }
 
   pub tree_leads : (w : World V) → InTree w → Leads p in_tree w (settle w)
-  tree_leads w i = settle_leads p in_tree InTree tree_off tree_settles w i i.sits i.order.order.fits.numbered
+  tree_leads w i = settle_calm p in_tree InTree tree_off tree_settles w i i.sits i.order.order.fits.numbered
 
   within_tree : (k : ℕ) (w : World V) → InTree w → InTree (settle_within k w)
   within_tree zero w i = i
@@ -236,4 +235,4 @@ module _ {V : Type 0} (p : Program V) (s : Scopes) (b : ℕ) (forest : IsForest 
   settled_tree w i =
       let done = settle_within (length w.coroutines) w in
       let there = within_tree (length w.coroutines) w i in
-      subst InTree (sym (pass_nothing p done there.sits)) there
+      subst InTree (sym (pass_linkless done there.linkless)) there

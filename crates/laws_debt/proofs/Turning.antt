@@ -9,7 +9,7 @@ use Rattle.dill_calls.specs.declared.ran.LackPlace.{LackPlace}
 use Rattle.dill_calls.specs.declared.word.Word.{Word}
 use Rattle.dill_calls.specs.declared.word.Word.TheVariants.{Start}
 use Rattle.dill_calls.specs.CallTable.{word_of, build_takes_memory}
-use Rattle.dill_calls.specs.Program.{Program, Move, Calls, Ends, IsLawful, Lowers, Moves, GoesOn}
+use Rattle.dill_calls.specs.Program.{Program, Move, Calls, Ends, IsLawful, Lowers, PassesWell, Moves, GoesOn}
 use Rattle.dill_base.specs.Maps.{if_some, change}
 use Rattle.dill_rules.specs.declared.coroutine.Coroutine.{Coroutine}
 use Rattle.dill_rules.specs.declared.coroutine.Mode.TheVariants as modes
@@ -22,17 +22,16 @@ use Rattle.laws_sound.specs.Linkless.{MovesLinkless, MakesLinkless}
 use Rattle.laws_queue.specs.Well.{Numbered}
 use Rattle.laws_queue.proofs.Crew.{close_all_crew}
 use Rattle.laws_sound.proofs.Turns.{entered_linkless}
-use Rattle.laws_debt.proofs.Entering.{linkless_waits, word_entered, entered_passes, lack_lowers}
-use Rattle.laws_debt.proofs.Evolving.{Evolves, turns}
-use Rattle.laws_debt.proofs.Settling.{Sits, AllSit, call_pends, pending_runs, change_calls}
-use Rattle.laws_debt.proofs.Lists.{all_change, found_passes, number_of, some_same, above_other}
-use Rattle.laws_debt.proofs.Walking.{Leads, Runs, Enters, reply_leads, enter_leads}
+use Rattle.laws_debt.proofs.Entering.{linkless_waits, bare_waits, word_entered, entered_passes, lack_lowers, refusal_lowers, unrefused_lowers, starts_nobody}
+use Rattle.laws_debt.proofs.Evolving.{EvolvesCalm}
+use Rattle.laws_queue.proofs.Evolving.{turns}
+use Rattle.laws_debt.proofs.Walking.{Sits, AllSit, MaySay, change_calls, Leads, Enters, reply_calm, enter_calm}
+use Rattle.laws_queue.proofs.Stepping.{Runs}
+use Rattle.dill_rules.specs.Naming.{bears}
+use Rattle.dill_rules.specs.Refusals.{refuse}
+use Rattle.laws_queue.proofs.Lists.{all_change, found_passes, number_of, some_same, above_other}
 use Rattle.laws_queue.proofs.Numbers.{found_changed}
 use Rattle.laws_sound.specs.Orderly.{weigh}
-
--- where a coroutine is found by its number, it has it
-pub found_number : {V : Type 0} (who : ℕ) (cs : List (Coroutine V)) (c : Coroutine V) → find (is_coroutine who) cs ≡ Some c → c.number ≡ who
-found_number who cs c e = number_of c.number who (found_passes (is_coroutine who) cs c e)
 
 -- the answer that is given is that of who has the turn
 pub given_is : {V : Type 0} (w : World V) (who : ℕ) (c : Coroutine V) → coroutine_of w who ≡ Some c → answer_given (begin w) who ≡ given_of c.mode
@@ -62,32 +61,46 @@ module _ {V : Type 0} (p : Program V) (law : IsLawful p) (calm : ℕ → Bool) w
   resumed : (w : World V) (who : ℕ) (view : V) (c : Coroutine V) → coroutine_of w who ≡ Some c → coroutine_of (resume w who view) who ≡ Some (as_running view c)
   resumed w who view c e = found_changed (is_coroutine who) (as_running view) c w.coroutines (λ d. refl) e
 
-  runs_resumed : (w : World V) (who : ℕ) (view : V) (word : Word) (c : Coroutine V) → coroutine_of w who ≡ Some c → p.said view ≡ word → Runs p (resume w who view) who word
-  runs_resumed w who view word c e s = record { one = as_running view c; found = resumed w who view c e; going = refl; number = found_number who w.coroutines c e; said = s }
+  runs_resumed : (w : World V) (who : ℕ) (view : V) (word : Word) (c : Coroutine V) → coroutine_of w who ≡ Some c → p.said view ≡ word → Runs (MaySay p) (resume w who view) who word
+  runs_resumed w who view word c e s = record { one = as_running view c; found = resumed w who view c e; may = (refl, s) }
 
   from_move : (lack : Option LackPlace) (w : World V) (who : ℕ) (c : Coroutine V) (answer : Answer) (next : V × Move) → MayGo w who c → Moves p c.body answer next → MovesLinkless next → Went w who c answer (if is_build lack && may_lack_build next.1 then lack_move (resume w who (p.short c.body answer)) who next.1 else make_move p (is_entry lack) (resume w who next.0) who next.0 next.1)
   from_move lack w who c answer (new, Calls call) g m linkless = at (is_build lack && build_takes_memory (word_of call))
     where
-      enters : Enters p law calm (resume w who new) who new (entered w.moment call)
+      here : World V
+      here = resume w who new
+
+      now : Call
+      now = entered w.moment call
+
+      passes : PassesWell now
+      passes = entered_passes w.moment call m.0
+
+      uncalm : (b : Bool) → calm who ≡ b → bears (word_of now) ≡ true → refuse p here who new now ≡ None → calm (here.last_coroutine + 1) ≡ false
+      uncalm true q e f = absurd (starts_nobody p here who new now (g.cancelled q) e f)
+      uncalm false q e f = g.born q
+
+      enters : Enters p calm here who new now
       enters = record {
-        runs = runs_resumed w who new (word_of (entered w.moment call)) c g.found (m.1.said ∙ sym (word_entered w.moment call));
+        runs = runs_resumed w who new (word_of now) c g.found (m.1.said ∙ sym (word_entered w.moment call));
         idle = ap (λ o. if_some o None (λ d. pending_call d.mode)) (resumed w who new c g.found);
         real = m.1.real;
-        passes = entered_passes w.moment call m.0;
-        cancelled = g.cancelled;
-        born = g.born;
-        waits = linkless_waits (entered w.moment call) (entered_linkless w.moment call linkless);
-        others = λ other its e. let here = resume w who new in (pending_runs p here other its (sits_resumed p w who new c g.found g.sits) (call_pends p here other its e)).0;
-        met = λ other its answer e. g.met other its answer (change_calls other who (λ d. new) modes.Running its w.coroutines refl e);
+        refused = λ e f q. refusal_lowers p here who new now (g.cancelled q) passes e f;
+        low = λ f a q. unrefused_lowers p here who new now (g.cancelled q) passes f a;
+        births = λ f e. uncalm (calm who) refl e f;
+        waiting = linkless_waits now (entered_linkless w.moment call linkless);
+        waiting_bare = bare_waits now;
+        each = sits_resumed p w who new c g.found g.sits;
+        met = λ other its a e. g.met other its a (change_calls other who (λ d. new) modes.Running its w.coroutines refl e);
       }
 
       at : (b : Bool) → Went w who c answer (if b then reply (resume w who (p.short c.body answer)) who (word_of call) (Fault (lack_fault (resume w who (p.short c.body answer)) who (word_of call))) else make_move p (is_entry lack) (resume w who new) who new (Calls call))
       at true =
           called (word_of call) (p.short c.body answer) m.2
-          (reply_leads p calm (resume w who (p.short c.body answer)) who (word_of call) (Fault (lack_fault (resume w who (p.short c.body answer)) who (word_of call))) (runs_resumed w who (p.short c.body answer) (word_of call) c g.found m.2.said) (λ e. lack_lowers p (resume w who (p.short c.body answer)) who (p.short c.body answer) call (g.cancelled e) m.0))
+          (reply_calm p calm (resume w who (p.short c.body answer)) who (word_of call) (Fault (lack_fault (resume w who (p.short c.body answer)) who (word_of call))) (runs_resumed w who (p.short c.body answer) (word_of call) c g.found m.2.said) (λ e. lack_lowers p (resume w who (p.short c.body answer)) who (p.short c.body answer) call (g.cancelled e) m.0))
       at false =
           called (word_of call) new m.1
-          (enter_leads p law calm (is_entry lack) (resume w who new) who new (entered w.moment call) enters)
+          (enter_calm p calm law (is_entry lack) (resume w who new) who new (entered w.moment call) enters)
   from_move lack w who c answer (new, Ends outcome) g m linkless = at (is_build lack)
     where
       over : Went w who c answer (end (resume w who new) who outcome)
@@ -110,8 +123,8 @@ module _ {V : Type 0} (p : Program V) (law : IsLawful p) (calm : ℕ → Bool) w
   went_leads w who c answer v e (ended view outcome f g) =
       let over = change (is_coroutine who) (with_mode (modes.Ending outcome)) (resume w who view).coroutines in
       let here = resumed w who view c e in
-      let moved : Evolves p calm (resume w who view).coroutines w.last_coroutine over w.last_coroutine = turns who (modes.Ending outcome) (as_running view c) here refl tt in
-      let same : Evolves p calm (resume w who view).coroutines w.last_coroutine v.coroutines v.last_coroutine = subst (λ cs. Evolves p calm (resume w who view).coroutines w.last_coroutine cs v.last_coroutine) (sym f) (subst (λ n. Evolves p calm (resume w who view).coroutines w.last_coroutine over n) (sym g) moved) in
+      let moved : EvolvesCalm p calm (resume w who view).coroutines w.last_coroutine over w.last_coroutine = turns who (modes.Ending outcome) (as_running view c) here (refl, tt) in
+      let same : EvolvesCalm p calm (resume w who view).coroutines w.last_coroutine v.coroutines v.last_coroutine = subst (λ cs. EvolvesCalm p calm (resume w who view).coroutines w.last_coroutine cs v.last_coroutine) (sym f) (subst (λ n. EvolvesCalm p calm (resume w who view).coroutines w.last_coroutine over n) (sym g) moved) in
       (view, same)
 
 module _ {V : Type 0} (who : ℕ) (view : V) where

@@ -14,8 +14,8 @@ use Rattle.dill_rules.specs.Settling.{answer_due, IsSettled}
 use Rattle.dill_rules.specs.Taking.{is_cancelled}
 use Rattle.dill_rules.specs.World.{World, is_coroutine, coroutine_of, call_of, pending_call}
 use Rattle.laws_sound.specs.Linkless.{may_wait}
-use Rattle.laws_debt.proofs.Lists.{all_found, found_passes, number_of}
-use Rattle.laws_debt.proofs.Settling.{AllSit, PendsIn, call_pends, pending_runs}
+use Rattle.laws_queue.proofs.Lists.{all_found, found_passes, number_of}
+use Rattle.laws_debt.proofs.Walking.{AllSit, PendsIn, call_pends, pending_waits}
 
 pub cancels_some : (c : Bool) (x : Answer) (rest : Option Answer) → c ≡ true → option_or (if c then Some x else None) rest ≡ None → ⊥
 cancels_some true x rest e f = let it : ◌≡◌ {A = Option Answer} (Some x) None = f in cc
@@ -56,4 +56,4 @@ module _ {V : Type 0} where
   pub unmet : (p : Program V) (w : World V) → AllSit p w.coroutines → IsSettled w → (n : ℕ) (call : Call) (answer : Answer) → call_of w n ≡ Some call → ((c : Coroutine V) → coroutine_of w n ≡ Some c → is_cancelled w n ≡ true) → Lowers (word_of call) answer
   unmet p w sits settled n call answer e cancelled =
       let d = call_pends p w n call e in
-      lowers_unmet w n call answer (pending_runs p w n call sits d).1 (cancelled d.one d.found) (unanswered w n call settled d)
+      lowers_unmet w n call answer (pending_waits p w n call sits d) (cancelled d.one d.found) (unanswered w n call settled d)

@@ -10,16 +10,8 @@ use Rattle.dill_rules.specs.declared.coroutine.Mode.{Mode}
 use Rattle.dill_rules.specs.declared.coroutine.Mode.TheVariants as modes
 use Rattle.dill_rules.specs.World.{is_coroutine, with_mode, is_answered}
 use Rattle.laws_queue.specs.Well.{has_more, IsAlive, Lives, Numbered, bit, is_at, counts}
-use Rattle.laws_queue.proofs.Evolving.{Evolves, stays, turns, leaves, begins, goes_on, evolves_numbered}
-
-pub some_same : {X : Type 0} (x y : X) → ◌≡◌ {A = Option X} (Some x) (Some y) → x ≡ y
-some_same x y e = cc
-
-pub number_of : (a b : ℕ) → (a == b) ≡ true → a ≡ b
-number_of a b e = grind (arith, nat_tests)
-
-above_other : (a b n : ℕ) → a < b → n ≤ a → (b == n) ≡ false
-above_other a b n h g = grind (arith, nat_tests)
+use Rattle.laws_queue.proofs.Evolving.{Evolves, newborn, stays, turns, leaves, begins, goes_on, evolves_numbered}
+use Rattle.laws_queue.proofs.Lists.{some_same, number_of, above_other}
 
 module _ {V : Type 0} where
   -- nobody has a number that is too low
@@ -29,37 +21,19 @@ module _ {V : Type 0} where
       let other : (c.number == n) ≡ false = above_other low c.number n h.0 l in
       rw other (none_below cs c.number high n h.1 (omega (arith, h.0, l)))
 
-module _ {V : Type 0} (p : Program V) where
-  alive_with : (c : Coroutine V) (mode : Mode) → (has_more mode ≡ true → 1 ≤ p.left c.body) → IsAlive p c → IsAlive p (with_mode mode c)
-  alive_with c mode some a = record { real = a.real; some = some }
+-- how a coroutine without an answer in the queue may stand next: it still has none there, and who will have a turn may be given an answer
+abbrev pub Moved : {V : Type 0} → Program V → Coroutine V → Mode → Type 0
+Moved p c mode = (is_answered c.mode ≡ false) × (is_answered mode ≡ false) × (has_more mode ≡ true → 1 ≤ p.left c.body)
 
-  lives_change : (who : ℕ) (mode : Mode) (c : Coroutine V) (cs : List (Coroutine V)) → find (is_coroutine who) cs ≡ Some c → (has_more mode ≡ true → 1 ≤ p.left c.body) → Lives p cs → Lives p (change (is_coroutine who) (with_mode mode) cs)
-  lives_change who mode c [] e some l = tt
-  lives_change who mode c (x ∷ cs) e some l = at (is_coroutine who x) e (λ f. lives_change who mode c cs f some l.1)
-    where
-      at : (found : Bool) → cond found (Some x) (find (is_coroutine who) cs) ≡ Some c → (find (is_coroutine who) cs ≡ Some c → Lives p (change (is_coroutine who) (with_mode mode) cs)) → Lives p (cond found (with_mode mode x ∷ cs) (x ∷ change (is_coroutine who) (with_mode mode) cs))
-      at true f rest = (subst (λ y. IsAlive p (with_mode mode y)) (sym (some_same x c f)) (alive_with c mode some (subst (IsAlive p) (some_same x c f) l.0)), l.1)
-      at false f rest = (l.0, rest f)
+-- one that has no answer in the queue
+abbrev pub Unqueued : {V : Type 0} → Coroutine V → Type 0
+Unqueued c = is_answered c.mode ≡ false
 
-  lives_without : (pick : Coroutine V → Bool) (cs : List (Coroutine V)) → Lives p cs → Lives p (without pick cs)
-  lives_without pick [] l = tt
-  lives_without pick (x ∷ cs) l = at (pick x) (lives_without pick cs l.1)
-    where
-      at : (found : Bool) → Lives p (without pick cs) → Lives p (cond found cs (x ∷ without pick cs))
-      at true rest = l.1
-      at false rest = (l.0, rest)
+abbrev pub AnyNumber : ℕ → Type 0
+AnyNumber number = Unit {0}
 
-  lives_append : (cs : List (Coroutine V)) (c : Coroutine V) → IsAlive p c → Lives p cs → Lives p (cs ++ c ∷ [])
-  lives_append [] c a l = (a, tt)
-  lives_append (x ∷ cs) c a l = (l.0, lives_append cs c a l.1)
-
-  -- who may go on still may
-  pub evolves_lives : (cs ds : List (Coroutine V)) (k l : ℕ) → Evolves p cs k ds l → Lives p cs → Lives p ds
-  evolves_lives cs _ k _ stays h = h
-  evolves_lives cs _ k _ (turns who mode c e f g a) h = lives_change who mode c cs e a h
-  evolves_lives cs _ k _ (leaves who c e f) h = lives_without (is_coroutine who) cs h
-  evolves_lives cs _ k _ (begins view b) h = lives_append cs (record { number = k + 1; body = view; mode = modes.Fresh Start (Number 0) }) (record { real = b.real; some = λ e. b.some }) h
-  evolves_lives cs es k m (goes_on {ds = ds} {l = l} e f) h = evolves_lives ds es l m f (evolves_lives cs ds k l e h)
+abbrev pub EvolvesUnqueued : {V : Type 0} → Program V → List (Coroutine V) → ℕ → List (Coroutine V) → ℕ → Type 0
+EvolvesUnqueued p cs k ds l = Evolves p (Moved p) Unqueued AnyNumber cs k ds l
 
 -- whether somebody of a number passes a test of modes, from where a search stands
 abbrev seen : {V : Type 0} → (Mode → Bool) → Option (Coroutine V) → Bool
@@ -139,17 +113,17 @@ module _ {V : Type 0} (test : Mode → Bool) where
 
 module _ {V : Type 0} (p : Program V) where
   -- who has an answer stays the same
-  pub evolves_at : (cs ds : List (Coroutine V)) (k l n : ℕ) → Evolves p cs k ds l → Numbered 0 cs k → is_at is_answered ds n ≡ is_at is_answered cs n
+  pub evolves_at : (cs ds : List (Coroutine V)) (k l n : ℕ) → EvolvesUnqueued p cs k ds l → Numbered 0 cs k → is_at is_answered ds n ≡ is_at is_answered cs n
   evolves_at cs _ k _ n stays h = refl
-  evolves_at cs _ k _ n (turns who mode c e f g a) h = at_change is_answered who mode c cs n e f g
-  evolves_at cs _ k _ n (leaves who c e f) h = at_without is_answered who c cs 0 k n h e f
-  evolves_at cs _ k _ n (begins view b) h = at_append is_answered (record { number = k + 1; body = view; mode = modes.Fresh Start (Number 0) }) cs n refl
-  evolves_at cs es k m n (goes_on {ds = ds} {l = l} e f) h = evolves_at ds es l m n f (evolves_numbered p cs ds k l e h) ∙ evolves_at cs ds k l n e h
+  evolves_at cs _ k _ n (turns who mode c e q) h = at_change is_answered who mode c cs n e q.0 q.1
+  evolves_at cs _ k _ n (leaves who c e g) h = at_without is_answered who c cs 0 k n h e g
+  evolves_at cs _ k _ n (begins view b m) h = at_append is_answered (newborn (k + 1) view) cs n refl
+  evolves_at cs es k m n (goes_on {ds = ds} {l = l} e f) h = evolves_at ds es l m n f (evolves_numbered p (Moved p) Unqueued AnyNumber cs ds k l e h) ∙ evolves_at cs ds k l n e h
 
   -- and how many have one
-  pub evolves_count : (cs ds : List (Coroutine V)) (k l : ℕ) → Evolves p cs k ds l → counts is_answered ds ≡ counts is_answered cs
+  pub evolves_count : (cs ds : List (Coroutine V)) (k l : ℕ) → EvolvesUnqueued p cs k ds l → counts is_answered ds ≡ counts is_answered cs
   evolves_count cs _ k _ stays = refl
-  evolves_count cs _ k _ (turns who mode c e f g a) = count_change is_answered who mode c cs e f g
-  evolves_count cs _ k _ (leaves who c e f) = count_without is_answered who c cs e f
-  evolves_count cs _ k _ (begins view b) = count_append is_answered (record { number = k + 1; body = view; mode = modes.Fresh Start (Number 0) }) cs refl
+  evolves_count cs _ k _ (turns who mode c e q) = count_change is_answered who mode c cs e q.0 q.1
+  evolves_count cs _ k _ (leaves who c e g) = count_without is_answered who c cs e g
+  evolves_count cs _ k _ (begins view b m) = count_append is_answered (newborn (k + 1) view) cs refl
   evolves_count cs es k m (goes_on {ds = ds} {l = l} e f) = evolves_count ds es l m f ∙ evolves_count cs ds k l e

@@ -2,6 +2,7 @@
 use Rattle.std.proofs.Common.{◌≡◌, ◌+◌, ◌-◌, ◌==◌, ◌≤◌, ℕ, List, [], ◌∷◌, length, fold, Bool, true, false, ◌&&◌, cond, Option, Some, None, if◌then◌else◌, refl, sym, ap, subst, lit≤}
 use Rattle.dill_calls.specs.declared.answer.Answer.{Answer}
 use Rattle.dill_calls.specs.declared.answer.Answer.TheVariants.{Number, Fault}
+use Rattle.dill_calls.specs.declared.word.Word.{Word}
 use Rattle.dill_calls.specs.declared.word.Word.TheVariants.{Start}
 use Rattle.dill_calls.specs.declared.ran.LackPlace.{LackPlace}
 use Rattle.dill_calls.specs.CallTable.{word_of, build_takes_memory}
@@ -11,7 +12,7 @@ use Rattle.dill_base.specs.Maps.{if_some}
 use Rattle.dill_rules.specs.declared.coroutine.Coroutine.{Coroutine}
 use Rattle.dill_rules.specs.declared.coroutine.Mode.{Mode}
 use Rattle.dill_rules.specs.declared.coroutine.Mode.TheVariants as modes
-use Rattle.dill_rules.specs.World.{World, is_coroutine, coroutine_of, begin, reply, is_answered}
+use Rattle.dill_rules.specs.World.{World, is_coroutine, coroutine_of, begin, reply, pending_call, is_answered}
 use Rattle.dill_rules.specs.Entering.{entered, lack_fault}
 use Rattle.dill_rules.specs.Expiring.{expire_one, passed}
 use Rattle.dill_rules.specs.Hearing.{heard}
@@ -21,12 +22,13 @@ use Rattle.dill_rules.specs.Settling.{settle}
 use Rattle.dill_rules.specs.Turning.{is_build, is_entry, as_running, may_lack_build, resume, answer_given, make_move, lack_move, go_on, turn}
 use Rattle.laws_queue.specs.Kept.{Kept, opening_kept, queued, turn_first, kept_turn, kept_expire_next, kept_late, kept_expired, root_closed, kept_shut, kept_hear, kept_woke}
 use Rattle.laws_queue.specs.Laws.{MayTurn, HasPlaces, StepsKeepWell}
-use Rattle.laws_queue.specs.Well.{has_more, Lives, Numbered, bit, IsQueue, IsWell}
+use Rattle.laws_queue.specs.Well.{has_more, IsAlive, Lives, Numbered, bit, IsQueue, IsWell}
 use Rattle.laws_queue.proofs.Besides.{besides_crew, heat_all_besides}
 use Rattle.laws_queue.proofs.Lining.{well_queued, room_queued}
 use Rattle.laws_queue.proofs.Resuming.{lives_running, first_there, queue_rest}
-use Rattle.laws_queue.proofs.Stepping.{lives_found, enter_leads, end_leads, heard_leads, expire_leads, settle_leads, lives_leads, numbered_leads}
-use Rattle.laws_queue.proofs.Walking.{Leads, leads_then, Runs, reply_leads}
+use Rattle.laws_queue.proofs.Answered.{Moved, Unqueued, AnyNumber}
+use Rattle.laws_queue.proofs.Lists.{all_found}
+use Rattle.laws_queue.proofs.Stepping.{Runs, leads_then, Leads, MayMove, reply_unqueued, enter_unqueued, end_unqueued, heard_leads, expire_unqueued, settle_unqueued, lives_leads, numbered_leads}
 use Rattle.laws_queue.proofs.Numbers.{found_changed, numbered_change}
 
 answered_more : (mode : Mode) → is_answered mode ≡ true → has_more mode ≡ true
@@ -40,7 +42,7 @@ module _ {V : Type 0} (p : Program V) (law : IsLawful p) where
   first : (k : Kept V) (who : ℕ) (rest : List ℕ) → IsWell p k → k.ready ≡ who ∷ rest → MayTurn p k.world who
   first k who rest well e =
       let there = first_there who rest k.world.coroutines (subst (λ r. IsQueue r k.world.coroutines) e well.queue) in
-      let alive = lives_found p (is_coroutine who) k.world.coroutines there.0 well.lives there.1 in
+      let alive = all_found (IsAlive p) (is_coroutine who) there.0 k.world.coroutines there.1 well.lives in
       record { one = there.0; found = there.1; answered = there.2; real = alive.real; some = alive.some (answered_more there.0.mode there.2) }
 
   -- its program goes on from the answer that it is given
@@ -49,8 +51,11 @@ module _ {V : Type 0} (p : Program V) (law : IsLawful p) where
     real : p.real view ≡ true
     leads : Leads p (resume w who view) v
 
-  runs_resumed : (w : World V) (who : ℕ) (view : V) (c : Coroutine V) → coroutine_of w who ≡ Some c → 1 ≤ p.left view → Runs p (resume w who view) who
-  runs_resumed w who view c e l = record { one = as_running view c; found = found_changed (is_coroutine who) (as_running view) c w.coroutines (λ d. refl) e; mode = refl; some = l }
+  resumed : (w : World V) (who : ℕ) (view : V) (c : Coroutine V) → coroutine_of w who ≡ Some c → coroutine_of (resume w who view) who ≡ Some (as_running view c)
+  resumed w who view c e = found_changed (is_coroutine who) (as_running view) c w.coroutines (λ d. refl) e
+
+  runs_resumed : (w : World V) (who : ℕ) (view : V) (word : Word) (c : Coroutine V) → coroutine_of w who ≡ Some c → 1 ≤ p.left view → Runs (MayMove p) (resume w who view) who word
+  runs_resumed w who view word c e l = record { one = as_running view c; found = resumed w who view c e; may = (refl, l) }
 
   from_move : (lack : Option LackPlace) (w : World V) (who : ℕ) (c : Coroutine V) (answer : Answer) (next : V × Move) → coroutine_of w who ≡ Some c → Lives p w.coroutines → Moves p c.body answer next → TurnFrom w who (if is_build lack && may_lack_build next.1 then lack_move (resume w who (p.short c.body answer)) who next.1 else make_move p (is_entry lack) (resume w who next.0) who next.0 next.1)
   from_move lack w who c answer (new, Calls call) e l m = at (is_build lack && build_takes_memory (word_of call))
@@ -59,17 +64,17 @@ module _ {V : Type 0} (p : Program V) (law : IsLawful p) where
       at true = record {
         view = p.short c.body answer;
         real = m.2.real;
-        leads = reply_leads p (resume w who (p.short c.body answer)) who (word_of call) (Fault (lack_fault (resume w who (p.short c.body answer)) who (word_of call))) (runs_resumed w who (p.short c.body answer) c e m.2.some);
+        leads = reply_unqueued p (resume w who (p.short c.body answer)) who (word_of call) (Fault (lack_fault (resume w who (p.short c.body answer)) who (word_of call))) (runs_resumed w who (p.short c.body answer) (word_of call) c e m.2.some);
       }
       at false = record {
         view = new;
         real = m.1.real;
-        leads = enter_leads p law (is_entry lack) (resume w who new) who new (entered w.moment call) m.1.real (lives_running new p who w.coroutines m.1.real l) (runs_resumed w who new c e m.1.some);
+        leads = enter_unqueued p law (is_entry lack) (resume w who new) who new (entered w.moment call) m.1.real (lives_running new p who w.coroutines m.1.real l) (runs_resumed w who new (word_of (entered w.moment call)) c e m.1.some) (ap (λ o. if_some o None (λ d. pending_call d.mode)) (resumed w who new c e));
       }
   from_move lack w who c answer (new, Ends outcome) e l m = at (is_build lack)
     where
       ended : TurnFrom w who (make_move p (is_entry lack) (resume w who new) who new (Ends outcome))
-      ended = record { view = new; real = m; leads = end_leads p (resume w who new) who outcome (as_running new c) (found_changed (is_coroutine who) (as_running new) c w.coroutines (λ d. refl) e) refl }
+      ended = record { view = new; real = m; leads = end_unqueued p (resume w who new) who outcome (as_running new c) (resumed w who new c e) refl }
 
       at : (b : Bool) → TurnFrom w who (if b && false then resume w who (p.short c.body answer) else make_move p (is_entry lack) (resume w who new) who new (Ends outcome))
       at true = ended
@@ -85,8 +90,8 @@ module _ {V : Type 0} (p : Program V) (law : IsLawful p) where
       let moved = go_on p lack b who c.body in
       let lives_r = lives_running from.view p who w.coroutines from.real l in
       let numbered_r = numbered_change (is_coroutine who) (as_running from.view) w.coroutines 0 w.last_coroutine (λ d. refl) n in
-      let settled : Leads p (resume b who from.view) (settle moved) = leads_then p (resume b who from.view) moved (settle moved) from.leads
-      (settle_leads p moved (lives_leads p (resume b who from.view) moved from.leads lives_r) (numbered_leads p (resume b who from.view) moved from.leads numbered_r)) in
+      let settled : Leads p (resume b who from.view) (settle moved) = leads_then p (Moved p) Unqueued AnyNumber (resume b who from.view) moved (settle moved) from.leads
+      (settle_unqueued p moved (lives_leads p (resume b who from.view) moved from.leads lives_r) (numbered_leads p (resume b who from.view) moved from.leads numbered_r)) in
       let is : settle moved ≡ turn p lack w who = sym (ap (λ o. if_some o w (λ d. settle (go_on p lack (begin w) who d.body))) may.found) in
       record { view = from.view; real = from.real; leads = subst (λ v. Leads p (resume w who from.view) v) is settled }
 
@@ -123,14 +128,14 @@ module _ {V : Type 0} (p : Program V) (law : IsLawful p) where
   started k well = record { lives = well.lives; numbered = well.numbered; queue = well.queue }
 
   expires : (k : Kept V) (who : ℕ) → IsWell p k → IsWell p (kept_expire_next k who)
-  expires k who well = stepped k (expire_one k.world who) k.early well (expire_leads p k.world who well.lives)
+  expires k who well = stepped k (expire_one k.world who) k.early well (expire_unqueued p k.world who well.lives)
 
   expire_all : (xs : List ℕ) (k : Kept V) → IsWell p k → IsWell p (fold kept_expire_next k xs)
   expire_all [] k well = well
   expire_all (x ∷ xs) k well = expire_all xs (kept_expire_next k x) (expires k x well)
 
   settled : (k : Kept V) → IsWell p k → IsWell p (queued (settle k.world) k.ready k.early)
-  settled k well = stepped k (settle k.world) k.early well (settle_leads p k.world well.lives well.numbered)
+  settled k well = stepped k (settle k.world) k.early well (settle_unqueued p k.world well.lives well.numbered)
 
   expired : (k : Kept V) → IsWell p k → IsWell p (kept_expired k)
   expired k well =
@@ -138,14 +143,14 @@ module _ {V : Type 0} (p : Program V) (law : IsLawful p) where
       settled (kept_late k) late
 
   shut : (k : Kept V) → IsWell p k → IsWell p (kept_shut k)
-  shut k well = stepped k (settle (root_closed k.world)) (length k.ready) well (settle_leads p (root_closed k.world) well.lives well.numbered)
+  shut k well = stepped k (settle (root_closed k.world)) (length k.ready) well (settle_unqueued p (root_closed k.world) well.lives well.numbered)
 
   -- a reply of the kernel is heard, and then the world settles
   heard_settled : (w : World V) (x : Try) (said : Option KernelReply) → Lives p w.coroutines → Numbered 0 w.coroutines w.last_coroutine → Leads p w (settle (heard (begin w) x said))
   heard_settled w x said l n =
       let v = heard (begin w) x said in
       let one : Leads p (begin w) v = heard_leads p (begin w) x said l in
-      leads_then p (begin w) v (settle v) one (settle_leads p v (lives_leads p (begin w) v one l) (numbered_leads p (begin w) v one n))
+      leads_then p (Moved p) Unqueued AnyNumber (begin w) v (settle v) one (settle_unqueued p v (lives_leads p (begin w) v one l) (numbered_leads p (begin w) v one n))
 
   hears : (k : Kept V) (said : Option KernelReply) → IsWell p k → IsWell p (kept_hear k said)
   hears k said well = at (next_try k.world)
@@ -187,9 +192,9 @@ steps_keep_well p law = record {
   hear_places = hear_places p law;
   started = started p law;
   expires = expires p law;
-  expire_places = λ k who well. places p law k (expire_one k.world who) well (expire_leads p k.world who well.lives);
+  expire_places = λ k who well. places p law k (expire_one k.world who) well (expire_unqueued p k.world who well.lives);
   settled = settled p law;
-  settle_places = λ k well. places p law k (settle k.world) well (settle_leads p k.world well.lives well.numbered);
+  settle_places = λ k well. places p law k (settle k.world) well (settle_unqueued p k.world well.lives well.numbered);
   expired = expired p law;
   shut = shut p law;
   woke = woke p law;

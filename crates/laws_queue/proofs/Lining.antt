@@ -8,10 +8,10 @@ use Rattle.dill_rules.specs.declared.coroutine.Mode.TheVariants as modes
 use Rattle.dill_rules.specs.State.{is_fresh, lined_mode, lined, fresh}
 use Rattle.dill_rules.specs.World.{World, is_coroutine, is_answered, pending_call}
 use Rattle.laws_queue.specs.Kept.{queued}
-use Rattle.laws_queue.specs.Well.{has_more, Lives, Numbered, bit, occurs, is_at, counts, IsQueue, IsWell}
-use Rattle.laws_queue.proofs.Answered.{number_of, none_below, evolves_at, evolves_count}
-use Rattle.laws_queue.proofs.Stepping.{lives_leads, numbered_leads}
-use Rattle.laws_queue.proofs.Walking.{Leads}
+use Rattle.laws_queue.specs.Well.{has_more, IsAlive, Lives, Numbered, bit, occurs, is_at, counts, IsQueue, IsWell}
+use Rattle.laws_queue.proofs.Answered.{none_below, evolves_at, evolves_count}
+use Rattle.laws_queue.proofs.Lists.{number_of, all_map}
+use Rattle.laws_queue.proofs.Stepping.{Leads, lives_leads, numbered_leads}
 
 occurs_append : (n : ℕ) (xs ys : List ℕ) → occurs n (xs ++ ys) ≡ occurs n xs + occurs n ys
 occurs_append n [] ys = omega arith
@@ -121,8 +121,7 @@ module _ {V : Type 0} where
   numbered_lined (c ∷ cs) low high h = (h.0, numbered_lined cs c.number high h.1)
 
   lives_lined : (p : Program V) (cs : List (Coroutine V)) → Lives p cs → Lives p (map lined cs)
-  lives_lined p [] l = tt
-  lives_lined p (c ∷ cs) l = (record { real = l.0.real; some = λ e. l.0.some (sym (lined_more c.mode) ∙ e) }, lives_lined p cs l.1)
+  lives_lined p cs l = all_map (IsAlive p) lined cs (λ c a. record { real = a.real; some = λ e. a.some (sym (lined_more c.mode) ∙ e) }) l
 
   -- a step without a place in the queue, and then its answers
   pub well_queued : (p : Program V) (w v : World V) (ready : List ℕ) (early : ℕ) → Lives p w.coroutines → Numbered 0 w.coroutines w.last_coroutine → IsQueue ready w.coroutines → Leads p w v → IsWell p (queued v ready early)

@@ -1,14 +1,10 @@
 -- Coroutines by number: how their numbers rise, and who is found.
-use Rattle.std.proofs.Common.{◌≡◌, ◌∙◌, ◌<◌, ◌≤◌, ◌==◌, ℕ, List, [], ◌∷◌, ◌++◌, find, Bool, true, false, cond, Option, Some, refl, sym, ap, subst, arith, eq-eqb}
+use Rattle.std.proofs.Common.{◌≡◌, ◌∙◌, ◌<◌, ◌≤◌, ◌==◌, ℕ, List, [], ◌∷◌, ◌++◌, find, Bool, true, false, cond, Option, Some, refl, sym, ap, subst, arith}
 use Rattle.dill_base.specs.Maps.{change, without}
 use Rattle.dill_rules.specs.declared.coroutine.Coroutine.{Coroutine}
+use Rattle.dill_rules.specs.World.{is_coroutine}
 use Rattle.laws_queue.specs.Well.{Numbered}
-
-pub equal_number : (a b : ℕ) → a ≡ b → (a == b) ≡ true
-equal_number a b e = eq-eqb a b e
-
-some_same : {X : Type 0} (x y : X) → ◌≡◌ {A = Option X} (Some x) (Some y) → x ≡ y
-some_same x y e = cc
+use Rattle.laws_queue.proofs.Lists.{some_same, number_of, found_passes}
 
 -- what is changed is found again
 pub found_changed : {X : Type 0} (pick : X → Bool) (f : X → X) (c : X) (xs : List X) → ((x : X) → pick (f x) ≡ pick x) → find pick xs ≡ Some c → find pick (change pick f xs) ≡ Some (f c)
@@ -63,3 +59,7 @@ module _ {V : Type 0} where
       at : (t : Bool) → cond t (Some x) (find test cs) ≡ Some c → (find test cs ≡ Some c → x.number < c.number) → low < c.number
       at true f rest = let it = some_same x c f in subst (λ d. low < d.number) it h.0
       at false f rest = let r = rest f in let l = h.0 in omega (arith, l, r)
+
+-- where a coroutine is found by its number, it has it
+pub found_number : {V : Type 0} (who : ℕ) (cs : List (Coroutine V)) (c : Coroutine V) → find (is_coroutine who) cs ≡ Some c → c.number ≡ who
+found_number who cs c e = number_of c.number who (found_passes (is_coroutine who) cs c e)

@@ -7,9 +7,9 @@ use Rattle.dill_rules.specs.declared.coroutine.Coroutine.{Coroutine}
 use Rattle.dill_rules.specs.Turning.{as_running}
 use Rattle.dill_rules.specs.World.{is_coroutine, is_answered}
 use Rattle.laws_queue.specs.Well.{Lives, bit, occurs, is_at, counts, IsQueue}
-use Rattle.laws_queue.proofs.Answered.{some_same, number_of}
+use Rattle.laws_queue.proofs.Lists.{some_same, number_of, equal_number}
 use Rattle.laws_queue.proofs.Lining.{bit_one}
-use Rattle.laws_queue.proofs.Numbers.{found_changed, equal_number}
+use Rattle.laws_queue.proofs.Numbers.{found_changed}
 
 other_of : (a b n : ℕ) → (a == n) ≡ false → b ≡ n → (a == b) ≡ false
 other_of a b n e f = grind (arith, nat_tests)

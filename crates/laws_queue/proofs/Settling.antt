@@ -13,9 +13,9 @@ use Rattle.dill_rules.specs.Giving.{give}
 use Rattle.dill_rules.specs.Settling.{can_finish, is_clear, finish, answer_due, give_first, settle_one, settle_within, IsSettled}
 use Rattle.laws_queue.specs.Well.{bit, Numbered, counts}
 use Rattle.laws_queue.proofs.Acting.{give_gives}
-use Rattle.laws_queue.proofs.Answered.{some_same}
+use Rattle.laws_queue.proofs.Lists.{some_same, found_passes}
 use Rattle.laws_queue.proofs.Crew.{bare_crew, keep_end_last}
-use Rattle.laws_queue.proofs.Stepping.{by_number, passes, due_first}
+use Rattle.laws_queue.proofs.Stepping.{by_number, due_first}
 use Rattle.laws_queue.specs.Settled.{SettlesAll}
 use Rattle.laws_queue.proofs.Numbers.{numbered_change, numbered_without}
 
@@ -91,7 +91,7 @@ module _ {V : Type 0} where
           let is : settle_one w ≡ finish w c = ap (λ o. if_some o (give_first w) (finish w)) e in
           let same = bare_crew w c.number in
           let here = by_number 0 w.last_coroutine (can_finish w) w.coroutines c e n in
-          let ends = ending_waits c.mode (is_clear w c.number) (passes (can_finish w) w.coroutines c e) in
+          let ends = ending_waits c.mode (is_clear w c.number) (found_passes (can_finish w) w.coroutines c e) in
           let left : (settle_one w).coroutines ≡ without (is_coroutine c.number) w.coroutines = ap (λ (v : World V). v.coroutines) is ∙ ap (without (is_coroutine c.number)) same.coroutines in
           let last : (settle_one w).last_coroutine ≡ w.last_coroutine = ap (λ (v : World V). v.last_coroutine) is ∙ keep_end_last _ c ∙ same.last in
           fewer (ap (λ cs. counts rests cs + 1) left ∙ count_removed rests c.number c w.coroutines here ends)

@@ -1,5 +1,6 @@
 -- What holds of all that a core keeps between two steps: who may go on, how the coroutines are numbered, and who is queued.
 use Rattle.std.specs.Prelude.{◌≡◌, ℕ, ◌+◌, ◌<◌, ◌≤◌, ◌==◌, List, [], ◌∷◌, length, find, Bool, true, false, if◌then◌else◌}
+use Rattle.std.specs.List.{AllByRecursion}
 use Rattle.dill_calls.specs.Program.{Program}
 use Rattle.dill_base.specs.Maps.{if_some}
 use Rattle.dill_rules.specs.declared.coroutine.Coroutine.{Coroutine}
@@ -21,8 +22,7 @@ pub record IsAlive {V : Type 0} (p : Program V) (c : Coroutine V) : Type 0 where
   pub some : has_more c.mode ≡ true → 1 ≤ p.left c.body
 
 abbrev pub Lives : {V : Type 0} → Program V → List (Coroutine V) → Type 0
-Lives p [] = Unit {0}
-Lives p (c ∷ cs) = IsAlive p c × Lives p cs
+Lives p cs = AllByRecursion (IsAlive p) cs
 
 -- the numbers rise, each above the first bound and none above the second
 abbrev pub Numbered : {V : Type 0} → ℕ → List (Coroutine V) → ℕ → Type 0

@@ -16,7 +16,7 @@ use Rattle.dill_rules.specs.Taking.{bundle_of}
 use Rattle.laws_debt.specs.Flags.{Ranked}
 use Rattle.laws_debt.proofs.Flagging.{both_all, all_picked, closed_names, ranked_others, ranked_change, ranked_without, ranked_append}
 use Rattle.laws_debt.proofs.Lasting.{Parts, parts, made, retired, closed, freed, bundled, Lasting}
-use Rattle.laws_debt.proofs.Lists.{all_append, all_without, all_to, number_of}
+use Rattle.laws_queue.proofs.Lists.{all_append, all_without, all_to, number_of}
 use Rattle.laws_queue.specs.Well.{bit, occurs}
 
 -- how often a bundle is noted as closing

@@ -43,7 +43,7 @@ use Rattle.laws_debt.specs.Laws.{KeepsStable}
 use Rattle.laws_debt.specs.Steady.{IsSteady}
 use Rattle.laws_debt.proofs.Flagging.{all_picked, ranked_change}
 use Rattle.laws_debt.proofs.Lasting.{settle_lasts, expire_lasts, go_on_lasts}
-use Rattle.laws_debt.proofs.Lists.{all_found, equal_number, found_passes, number_of}
+use Rattle.laws_queue.proofs.Lists.{all_found, equal_number, found_passes, number_of}
 use Rattle.laws_runs.specs.Closes.{ClosesWell, RunsCloseWell, is_hclose_of, turns_waited, waits_in_close}
 use Rattle.laws_runs.proofs.Lasting.{Lasts, lasts_over}
 use Rattle.laws_runs.proofs.Marking.{IsMarked, IsTied, IsOther, IsLive, MarkedIn, Marked, lasts_marked, times_closed}

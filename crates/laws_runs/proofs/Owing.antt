@@ -25,7 +25,8 @@ use Rattle.laws_sound.proofs.Sound.{there_inside}
 use Rattle.laws_debt.specs.Closing.{IsStable}
 use Rattle.laws_debt.specs.Laws.{EndsClosing}
 use Rattle.laws_debt.specs.Owed.{is_early, owed, owed_by, share_by}
-use Rattle.laws_debt.proofs.Lists.{is_total, number_of, total_same}
+use Rattle.laws_queue.proofs.Lists.{number_of}
+use Rattle.laws_sound.proofs.Counting.{is_total, total_same}
 use Rattle.laws_debt.proofs.Tracking.{all_by_key}
 use Rattle.laws_runs.proofs.Unshut.{IsUnshut, IsUnstamped}
 

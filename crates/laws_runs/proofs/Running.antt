@@ -5,7 +5,7 @@ use Rattle.dill_scope.specs.declared.forest.Bundle.{Bundle}
 use Rattle.dill_scope.specs.Scopes.{is_bundle}
 use Rattle.dill_base.specs.Maps.{if_some}
 use Rattle.laws_sound.specs.Linkless.{MakesLinkless}
-use Rattle.laws_debt.proofs.Lists.{number_of}
+use Rattle.laws_queue.proofs.Lists.{number_of}
 use Rattle.dill_base.specs.declared.status.Status.{Status}
 use Rattle.dill_base.specs.declared.status.Status.TheVariants as status
 use Rattle.dill_calls.specs.declared.ran.LackPlace.{LackPlace}

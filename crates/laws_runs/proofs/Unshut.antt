@@ -39,7 +39,7 @@ use Rattle.laws_sound.proofs.Steps.{call_waits}
 use Rattle.laws_sound.proofs.Turns.{expire_one_linkless}
 use Rattle.laws_debt.specs.Closing.{IsStable}
 use Rattle.laws_debt.specs.Laws.{KeepsStable}
-use Rattle.laws_debt.proofs.Lists.{all_without, equal_number, number_of}
+use Rattle.laws_queue.proofs.Lists.{all_without, equal_number, number_of}
 use Rattle.laws_debt.proofs.Shutting.{AllHold, LastsOwned, settle_owned, expire_one_owned, go_on_owned}
 use Rattle.laws_debt.proofs.Tracking.{all_by_key}
 use Rattle.laws_queue.proofs.Lining.{lined_pending}

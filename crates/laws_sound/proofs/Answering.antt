@@ -43,7 +43,8 @@ use Rattle.laws_queue.specs.Well.{bit, is_at, occurs}
 use Rattle.laws_queue.proofs.Besides.{Besides, as_was, with_links, some_besides, if_besides, on_link_besides, on_named_besides, look_besides, pass_all_besides}
 use Rattle.laws_queue.proofs.Crew.{move_crew, release_crew, bare_crew, free_dead_crew}
 use Rattle.laws_sound.proofs.Lists.{all_found, all_without, all_change}
-use Rattle.laws_queue.proofs.Stepping.{by_number, passes, due_first}
+use Rattle.laws_queue.proofs.Stepping.{by_number, due_first}
+use Rattle.laws_queue.proofs.Lists.{found_passes}
 use Rattle.laws_sound.specs.Laws.{is_timed}
 use Rattle.laws_sound.specs.Order.{times_used, is_there, IsInOrder}
 use Rattle.laws_sound.specs.Orderly.{is_meeting, waits_well, dead_by, NotesOnce, is_no_bundle, is_socketed, gives_number, kept_by, weigh, IsOrderly}
@@ -442,7 +443,7 @@ module _ {V : Type 0} where
 
   finish_good : (w : World V) (c : Coroutine V) → IsOrderly w → find (can_finish w) w.coroutines ≡ Some c → Goes w (finish w c)
   finish_good w c g e =
-      let b = and_parts (is_ending c.mode) (is_clear w c.number) (passes (can_finish w) w.coroutines c e) in
+      let b = and_parts (is_ending c.mode) (is_clear w c.number) (found_passes (can_finish w) w.coroutines c e) in
       let freed = free_all w c.number in
       let bare = release_all freed c.number in
       let one = fold_handles free_bundle (highest_first (filter (is_owned_by w c.number) w.closings)) w freed_stays in

@@ -1,12 +1,14 @@
 -- Sums over lists, and what is left of them where one record is added, changed or taken away.
-use Rattle.std.proofs.Common.{◌≡◌, ◌∙◌, ℕ, ◌+◌, ◌≤◌, ◌==◌, List, [], ◌∷◌, ◌++◌, length, map, find, filter_map, Bool, true, false, not, ◌&&◌, cond, Option, Some, None, refl, sym, ap, arith}
+use Rattle.std.proofs.Common.{◌≡◌, ◌∙◌, ℕ, ◌+◌, ◌≤◌, ◌==◌, List, [], ◌∷◌, ◌++◌, length, map, find, filter_map, sum_by, Bool, true, false, not, ◌&&◌, cond, Option, Some, None, refl, sym, ap, arith}
 use Rattle.std.proofs.lemmas.Bool.{and_parts, and_from}
 use Rattle.std.specs.Prelude.{filter, nat_le}
 use Rattle.std.specs.List.{list_all}
+use Rattle.std.proofs.lemmas.List.Sums.{sum_by-cons}
 use Rattle.std.proofs.lemmas.Bool.Decides.{nat_tests}
 use Rattle.dill_base.specs.Maps.{if_some, change, without}
 use Rattle.laws_queue.specs.Well.{bit, occurs}
 use Rattle.laws_sound.specs.Orderly.{weigh}
+use Rattle.laws_queue.proofs.Lists.{found_passes}
 use Rattle.laws_queue.proofs.Numbers.{find_append}
 
 -- it is this number
@@ -168,14 +170,6 @@ module _ {X : Type 0} where
   length_push (x ∷ xs) y = let r = length_push xs y in omega (arith, r)
 
 module _ {X : Type 0} (test : X → Bool) where
-  pub found_passes : (xs : List X) (y : X) → find test xs ≡ Some y → test y ≡ true
-  found_passes [] y e = cc
-  found_passes (x ∷ xs) y e = at (test x) refl e (found_passes xs y)
-    where
-      at : (t : Bool) → test x ≡ t → cond t (Some x) (find test xs) ≡ Some y → (find test xs ≡ Some y → test y ≡ true) → test y ≡ true
-      at true f g rest = let it : x ≡ y = cc in ap test (sym it) ∙ f
-      at false f g rest = rest g
-
   pub none_weightless : (xs : List X) → find test xs ≡ None → weigh (λ x. bit (test x)) xs ≡ 0
   none_weightless [] e = refl
   none_weightless (x ∷ xs) e = at (test x) e (none_weightless xs)
@@ -192,7 +186,7 @@ module _ {X : Type 0} (test : X → Bool) where
       at None e = ap (weigh (λ x. bit (test x))) (none_without test xs e) ∙ none_weightless xs e
       at (Some y) e =
           let w = weigh_found (λ x. bit (test x)) test xs y e in
-          let one : bit (test y) ≡ 1 = ap bit (found_passes xs y e) in
+          let one : bit (test y) ≡ 1 = ap bit (found_passes test xs y e) in
           omega (arith, w, one, h)
 
   -- others weigh what they did
@@ -203,7 +197,7 @@ module _ {X : Type 0} (test : X → Bool) where
       at None e = ap (weigh (λ x. bit (other x))) (none_without test xs e)
       at (Some y) e =
           let w = weigh_found (λ x. bit (other x)) test xs y e in
-          let nought : bit (other y) ≡ 0 = ap bit (h y (found_passes xs y e)) in
+          let nought : bit (other y) ≡ 0 = ap bit (h y (found_passes test xs y e)) in
           omega (arith, w, nought)
 
 pub small_bit : (b : Bool) → bit b ≤ 1
@@ -303,3 +297,14 @@ module _ {X : Type 0} (key : X → ℕ) where
       at : (t : Bool) → map key (without (λ y. key y == n) xs) ≡ without (λ m. m == n) (map key xs) → map key (cond t xs (x ∷ without (λ y. key y == n) xs)) ≡ cond t (map key xs) (key x ∷ without (λ m. m == n) (map key xs))
       at true r = refl
       at false r = ap (λ ns. key x ∷ ns) r
+
+pub is_total : {X : Type 0} (f : X → ℕ) (xs : List X) → sum_by f xs ≡ weigh f xs
+is_total f [] = refl
+is_total f (x ∷ xs) = sum_by-cons f x xs ∙ ap (λ n. f x + n) (is_total f xs)
+
+pub total_more : {X : Type 0} (f : X → ℕ) (xs : List X) (x : X) → f x ≡ 0 → weigh f (xs ++ x ∷ []) ≤ weigh f xs
+total_more f xs x e = let r = weigh_append f xs (x ∷ []) in omega (arith, r, e)
+
+pub total_same : {X : Type 0} (f g : X → ℕ) (xs : List X) → ((x : X) → f x ≡ g x) → weigh f xs ≡ weigh g xs
+total_same f g [] h = refl
+total_same f g (x ∷ xs) h = let one = h x in let r = total_same f g xs h in omega (arith, one, r)

@@ -33,7 +33,7 @@ use Rattle.laws_sound.specs.Linkless.{may_wait, waits_linkless, IsLinkless}
 use Rattle.laws_queue.specs.Kept.{has_answer}
 use Rattle.laws_queue.specs.Well.{Numbered, bit, occurs}
 use Rattle.laws_sound.proofs.Lists.{all_found, all_follow}
-use Rattle.laws_queue.proofs.Stepping.{passes}
+use Rattle.laws_queue.proofs.Lists.{found_passes}
 use Rattle.dill_calls.specs.CallTable.{word_of, blocks}
 use Rattle.laws_sound.specs.Laws.{is_closing, is_resting, waits_long, WaitsLong, IsAtRest, HasGoing, GoesOn, RootGoesOn, BundleGoesOn}
 use Rattle.laws_sound.specs.Order.{is_there, has_bundle, has_closing, closes, FitsTogether, IsInOrder}
@@ -150,7 +150,7 @@ module _ {V : Type 0} where
   found_there w who c e = ap is_some e
 
   pub its_number : (w : World V) (who : ℕ) (c : Coroutine V) → coroutine_of w who ≡ Some c → c.number ≡ who
-  its_number w who c e = number_is c.number who (passes (is_coroutine who) w.coroutines c e)
+  its_number w who c e = number_is c.number who (found_passes (is_coroutine who) w.coroutines c e)
 
   -- somebody lives there
   record Resident (w : World V) (name : ℕ) : Type 0 where

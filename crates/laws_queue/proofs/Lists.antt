@@ -1,11 +1,8 @@
--- Coroutines by number: what holds of all of them, and sums over them, as one changes or is gone.
-use Rattle.std.proofs.Common.{◌≡◌, ◌∙◌, ◌+◌, ◌<◌, ◌≤◌, ◌==◌, ℕ, List, [], ◌∷◌, ◌++◌, map, filter, find, sum_by, Bool, true, false, cond, Option, Some, refl, sym, ap, subst, arith, eq-eqb}
+-- What holds of all of a list, as one changes or is gone, and who is found.
+use Rattle.std.proofs.Common.{◌≡◌, ◌∙◌, ◌+◌, ◌<◌, ◌≤◌, ◌==◌, ℕ, List, [], ◌∷◌, ◌++◌, map, filter, find, Bool, true, false, cond, Option, Some, refl, sym, ap, subst, arith, eq-eqb}
 use Rattle.std.specs.List.{AllByRecursion}
 use Rattle.std.proofs.lemmas.Bool.Decides.{nat_tests}
-use Rattle.std.proofs.lemmas.List.Sums.{sum_by-cons}
 use Rattle.dill_base.specs.Maps.{change, without}
-use Rattle.laws_sound.specs.Orderly.{weigh}
-use Rattle.laws_sound.proofs.Counting.{weigh_append}
 
 pub equal_number : (a b : ℕ) → a ≡ b → (a == b) ≡ true
 equal_number a b e = eq-eqb a b e
@@ -75,14 +72,3 @@ found_passes pick (x ∷ xs) c e = at (pick x) refl e (λ g. found_passes pick x
     at : (found : Bool) → pick x ≡ found → cond found (Some x) (find pick xs) ≡ Some c → (find pick xs ≡ Some c → pick c ≡ true) → pick c ≡ true
     at true i g rest = ap pick (sym (some_same x c g)) ∙ i
     at false i g rest = rest g
-
-pub is_total : {X : Type 0} (f : X → ℕ) (xs : List X) → sum_by f xs ≡ weigh f xs
-is_total f [] = refl
-is_total f (x ∷ xs) = sum_by-cons f x xs ∙ ap (λ n. f x + n) (is_total f xs)
-
-pub total_more : {X : Type 0} (f : X → ℕ) (xs : List X) (x : X) → f x ≡ 0 → weigh f (xs ++ x ∷ []) ≤ weigh f xs
-total_more f xs x e = let r = weigh_append f xs (x ∷ []) in omega (arith, r, e)
-
-pub total_same : {X : Type 0} (f g : X → ℕ) (xs : List X) → ((x : X) → f x ≡ g x) → weigh f xs ≡ weigh g xs
-total_same f g [] h = refl
-total_same f g (x ∷ xs) h = let one = h x in let r = total_same f g xs h in omega (arith, one, r)
