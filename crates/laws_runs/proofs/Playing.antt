@@ -1,18 +1,14 @@
 -- Each step of a run behind its stop keeps: what was counted and what is owed are together no more than was owed.
 use Rattle.std.proofs.Common.{◌≡◌, ◌⊎◌, inl, inr, ◌∙◌, ℕ, zero, suc, ◌+◌, ◌≤◌, List, [], ◌++◌, length, Option, Some, None, Bool, true, false, ◌||◌, if◌then◌else◌, is_some, refl, sym, ap, subst, arith}
 use Rattle.rand_core.specs.Stream.{Stream}
-use Rattle.dill_base.specs.declared.errno.Errno.{Errno}
-use Rattle.dill_base.specs.declared.status.Status.TheVariants as status
 use Rattle.dill_calls.specs.declared.ran.LackPlace.{LackPlace}
 use Rattle.dill_calls.specs.Program.{Program}
-use Rattle.dill_kernel.specs.declared.replies.KernelAsk.{KernelAsk}
-use Rattle.relay_trace.specs.Lines.{ran_bytes}
 use Rattle.dill_rules.specs.Seen.{turn_seen}
 use Rattle.dill_rules.specs.State.{State, shut}
 use Rattle.dill_drive.specs.ByRules.{machine_of}
 use Rattle.dill_drive.specs.Machine.{Machine}
-use Rattle.dill_drive.specs.Play.{Playing, advance, advance_at, asks_try, halt_within, lack_of, play, writes}
-use Rattle.dill_drive.specs.Story.{Place, Closing, Last, Closes, Writing, Over, Config, after_last, after_test, at, final, is_empty, is_sink, is_well, notes_of, one_last, showing, summary_of}
+use Rattle.dill_drive.specs.Play.{Playing, advance, play}
+use Rattle.dill_drive.specs.Story.{Place, Last, Closes, Writing, Over, Config}
 use Rattle.laws_sound.specs.LinklessLaws.{FollowsLinkless}
 use Rattle.laws_queue.specs.Kept.{Kept, kept_shut, kept_turn}
 use Rattle.laws_queue.specs.Stands.{StandsFor}
@@ -21,16 +17,14 @@ use Rattle.laws_debt.specs.Laws.{EndsClosing}
 use Rattle.laws_debt.specs.Owed.{owed}
 use Rattle.laws_runs.specs.Bound.{IsAtStop, ClosingIsBounded}
 use Rattle.laws_runs.proofs.Again.{noted, again_same}
+use Rattle.laws_runs.proofs.Lasting.{is_behind, IsClosingPlace, Steps, before, stops, out, tests, goes, counts, sums, ends, advances}
 
--- places behind the stop
-abbrev is_behind : Place → Bool
-is_behind Closing = true
-is_behind Last = true
-is_behind Closes = true
-is_behind Over = true
-is_behind (Writing Closing) = true
-is_behind (Writing Over) = true
-is_behind _ = false
+-- the summary is written, or is to be
+abbrev pub is_summed : Place → Bool
+is_summed Closes = true
+is_summed (Writing Over) = true
+is_summed Over = true
+is_summed _ = false
 
 -- A closing core stands for the state; what was counted, and what is owed of it, are together at most this total.
 pub record Holds {V : Type 0} (p : Program V) (total : ℕ) (s : State V) (count : ℕ) : Type 0 where
@@ -39,23 +33,24 @@ pub record Holds {V : Type 0} (p : Program V) (total : ℕ) (s : State V) (count
   pub closing : IsClosing p kept
   pub few : count + owed p kept ≤ total
 
--- so it is behind the stop; and `main` hasn't ended where a turn is made
-record IsWithin {V : Type 0} (p : Program V) (total : ℕ) (c : Config (State V)) : Type 0 where
+-- so it is behind the stop; and `main` hasn't ended where a turn is made, and has ended where the summary comes
+pub record IsWithin {V : Type 0} (p : Program V) (total : ℕ) (c : Config (State V)) : Type 0 where
   pub holds : Holds p total c.state c.tally.closing
   pub place : is_behind c.place ≡ true
   pub going : c.place ≡ Last → c.state.world.ended ≡ None
+  pub ended : is_summed c.place ≡ true → is_some c.state.world.ended ≡ true
 
-module _ {V : Type 0} (p : Program V) (follows : FollowsLinkless p) (ends : EndsClosing p) (total : ℕ) where
+module _ {V : Type 0} (p : Program V) (follows : FollowsLinkless p) (laws : EndsClosing p) (total : ℕ) where
   -- a turn is counted, and lowers what is owed
   pub turn_holds : (s : State V) (count : ℕ) (lack : Option LackPlace) (random : Stream) → Holds p total s count → s.world.ended ≡ None → Holds p total (turn_seen p s lack random).0 (count + 1)
   turn_holds s count lack random h going =
       let well = h.closing.stable.well in
-      let more = ends.goes_on h.kept h.closing (sym (follows.seen h.kept s well h.stands).ended ∙ going) in
-      let fewer = ends.fewer h.kept lack h.closing more in
+      let more = laws.goes_on h.kept h.closing (sym (follows.seen h.kept s well h.stands).ended ∙ going) in
+      let fewer = laws.fewer h.kept lack h.closing more in
       record {
         kept = kept_turn p lack h.kept;
         stands = follows.turned h.kept s lack random well h.closing.stable.linkless h.stands;
-        closing = ends.turned h.kept lack h.closing;
+        closing = laws.turned h.kept lack h.closing;
         few = omega (arith, fewer, h.few);
       }
 
@@ -84,7 +79,7 @@ module _ {V : Type 0} (p : Program V) (follows : FollowsLinkless p) (ends : Ends
       record {
         kept = noted k;
         stands = noted_stands k (shut s) (subst (λ x. StandsFor x (shut s)) same (follows.shut k s h.closing.stable.linkless h.stands));
-        closing = noted_closing k h.closing (subst (IsClosing p) same (ends.shut k h.closing.stable));
+        closing = noted_closing k h.closing (subst (IsClosing p) same (laws.shut k h.closing.stable));
         few = h.few;
       }
 
@@ -92,97 +87,60 @@ module _ {V : Type 0} (p : Program V) (follows : FollowsLinkless p) (ends : Ends
     abbrev m : Machine (State V)
     m = machine_of p
 
-    -- lines that are shown
-    shown_by : (b : Bool) (c : Config (State V)) (next : Place) (lines : List ℕ) → Holds p total c.state c.tally.closing → is_behind next ≡ true → is_behind (Writing next) ≡ true → (next ≡ Last → ⊥)
-        → IsWithin p total (if b then at m traced most c next else record c { place = Writing next; due = lines })
-    shown_by true c next lines h is after other = record { holds = h; place = is; going = λ e. absurd (other e) }
-    shown_by false c next lines h is after other = record { holds = h; place = after; going = λ e. cc }
+    -- where the place is none of these nothing is asked of `main`
+    elsewhere : (c : Config (State V)) → Holds p total c.state c.tally.closing → is_behind c.place ≡ true → is_summed c.place ≡ false → (c.place ≡ Last → ⊥) → IsWithin p total c
+    elsewhere c h b q l = record { holds = h; place = b; going = λ e. absurd (l e); ended = λ e. cc }
 
-    shows_within : (c : Config (State V)) (next : Place) (lines : List ℕ) → Holds p total c.state c.tally.closing → is_behind next ≡ true → is_behind (Writing next) ≡ true → (next ≡ Last → ⊥) → IsWithin p total (showing m traced most c next lines)
-    shows_within c next lines h is after other = shown_by (is_sink c.status || is_empty lines) c next lines h is after other
+    at_closing : (c : Config (State V)) → Holds p total c.state c.tally.closing → IsClosingPlace c.place → IsWithin p total c
+    at_closing c h (inl e) = elsewhere c h (ap is_behind e) (ap is_summed e) (λ f. cc)
+    at_closing c h (inr e) = elsewhere c h (ap is_behind e) (ap is_summed e) (λ f. cc)
 
-    -- whether `main` has ended
-    test_within : (c : Config (State V)) → Holds p total c.state c.tally.closing → IsWithin p total (after_test m traced most c Closing)
-    test_within c h = by c.state.world.ended refl
-      where
-        by : (o : Option (Option Errno)) → c.state.world.ended ≡ o → IsWithin p total (if is_some o then at m traced most c Closes else at m traced most c Last)
-        by None e = record { holds = h; place = refl; going = λ _. e }
-        by (Some outcome) e = record { holds = h; place = refl; going = λ f. cc }
+    at_sum : (c : Config (State V)) → Holds p total c.state c.tally.closing → is_some c.state.world.ended ≡ true → (c.place ≡ Over) ⊎ (c.place ≡ Writing Over) → IsWithin p total c
+    at_sum c h e (inl f) = record { holds = h; place = ap is_behind f; going = λ g. cc; ended = λ g. e }
+    at_sum c h e (inr f) = record { holds = h; place = ap is_behind f; going = λ g. cc; ended = λ g. e }
 
-    -- a turn
-    last_within : (c : Config (State V)) (lack : Option LackPlace) → Holds p total c.state c.tally.closing → c.state.world.ended ≡ None → IsWithin p total (after_last m traced most c lack)
-    last_within c lack h going =
-        let after = turn_seen p c.state lack c.keys in
-        shows_within (record c { state = after.0; tally = one_last c.tally lack; keys = after.1 }) Closing (ran_bytes traced (m.ran c.state lack) ++ notes_of m traced most after.0)
-        (turn_holds c.state c.tally.closing lack c.keys h going) refl refl (λ e. cc)
+    the_same : (c d : Config (State V)) → d.state ≡ c.state → d.tally.closing ≡ c.tally.closing → Holds p total c.state c.tally.closing → Holds p total d.state d.tally.closing
+    the_same c d s n h = subst (λ t. Holds p total t d.tally.closing) (sym s) (subst (Holds p total c.state) (sym n) h)
 
-    -- the summary
-    ends_within : (c : Config (State V)) → Holds p total c.state c.tally.closing → IsWithin p total (after_test m traced most c Closes)
-    ends_within c h =
-        let end = final c.status (m.ended c.state) in
-        shows_within (record c { status = end }) Over (summary_of end (m.ended c.state) c.tally (m.made c.state) (m.gone c.state)) h refl refl (λ e. cc)
+    same_end : (c d : Config (State V)) → d.state ≡ c.state → is_some c.state.world.ended ≡ true → is_some d.state.world.ended ≡ true
+    same_end c d s e = ap (λ (t : State V). is_some t.world.ended) s ∙ e
 
-    tried_within : (run : Playing (State V)) (try : Option KernelAsk) → run.config.place ≡ Closes → try ≡ None → Holds p total run.config.state run.config.tally.closing → IsWithin p total (asks_try m traced most run try).config
-    tried_within run None is none h = subst (λ place. IsWithin p total (after_test m traced most run.config place)) (sym is) (ends_within run.config h)
-    tried_within run (Some ask) is none h = cc
+    pub step_on : (c d : Config (State V)) → Steps m c d → IsWithin p total c → IsWithin p total d
+    step_on c d (before s n q k) h = cc (h.place, q)
+    step_on c d (stops s n q at) h = cc (h.place, q)
+    step_on c d (out is at (inl s) n) h = at_closing d (the_same c d s n h.holds) (inl at)
+    step_on c d (out is at (inr s) n) h = at_closing d (subst (λ t. Holds p total t d.tally.closing) (sym s) (subst (Holds p total (shut c.state)) (sym n) (shut_holds c.state c.tally.closing h.holds))) (inl at)
+    step_on c d (tests is at s n e) h = record { holds = the_same c d s n h.holds; place = ap is_behind at; going = λ f. cc; ended = λ f. same_end c d s e }
+    step_on c d (goes is at s n e) h = record { holds = the_same c d s n h.holds; place = ap is_behind at; going = λ f. ap (λ (t : State V). t.world.ended) s ∙ e; ended = λ f. cc (ap is_summed at, f) }
+    step_on c d (counts lack random is at s n) h = at_closing d (subst (λ t. Holds p total t d.tally.closing) (sym s) (subst (Holds p total (turn_seen p c.state lack random).0) (sym n) (turn_holds c.state c.tally.closing lack random h.holds (h.going is)))) at
+    step_on c d (sums is at s n) h = at_sum d (the_same c d s n h.holds) (same_end c d s (h.ended (ap is_summed is))) at
+    step_on c d (ends (inl is) at s n) h = at_sum d (the_same c d s n h.holds) (same_end c d s (h.ended (ap is_summed is))) (inl at)
+    step_on c d (ends (inr is) at s n) h = at_sum d (the_same c d s n h.holds) (same_end c d s (h.ended (ap is_summed is))) (inl at)
 
-    -- the lines go out, or their write fails
-    halted_by : (b : Bool) (c : Config (State V)) → Holds p total c.state c.tally.closing
-        → IsWithin p total (if b then record c { state = shut c.state; place = Closing; due = []; status = status.Sink } else record c { place = Closing; due = []; status = status.Sink })
-    halted_by true c h = record { holds = shut_holds c.state c.tally.closing h; place = refl; going = λ e. cc }
-    halted_by false c h = record { holds = h; place = refl; going = λ e. cc }
-
-    closing_written : (run : Playing (State V)) (halt : Option ℕ) → Holds p total run.config.state run.config.tally.closing → IsWithin p total (writes m traced most run Closing halt).config
-    closing_written run None h = record { holds = h; place = refl; going = λ e. cc }
-    closing_written run (Some count) h = halted_by (is_well run.config.status) run.config h
-
-    over_written : (run : Playing (State V)) (halt : Option ℕ) → Holds p total run.config.state run.config.tally.closing → IsWithin p total (writes m traced most run Over halt).config
-    over_written run None h = record { holds = h; place = refl; going = λ e. cc }
-    over_written run (Some count) h = record { holds = h; place = refl; going = λ e. cc }
-
-    pub next_none : (s : State V) (count : ℕ) → Holds p total s count → m.next_try s ≡ None
-    next_none s count h = follows.next_try h.kept s h.closing.stable.linkless h.stands
-
-    step_at : (run : Playing (State V)) (place : Place) → run.config.place ≡ place → IsWithin p total run.config → IsWithin p total (advance_at m traced most run place).config
-    step_at run Closing is within = test_within run.config within.holds
-    step_at run Last is within = last_within run.config (lack_of m traced most run) within.holds (within.going is)
-    step_at run Closes is within = tried_within run (m.next_try run.config.state) is (next_none run.config.state run.config.tally.closing within.holds) within.holds
-    step_at run Over is within = within
-    step_at run (Writing Closing) is within = closing_written run (halt_within run.halt (length run.bytes) (length run.config.due)) within.holds
-    step_at run (Writing Over) is within = over_written run (halt_within run.halt (length run.bytes) (length run.config.due)) within.holds
-    step_at run (Writing _) is within = cc (ap is_behind is, within.place)
-    step_at run _ is within = cc (ap is_behind is, within.place)
+    pub goes_on_by : (run : Playing (State V)) → IsWithin p total run.config → Steps m run.config (advance m traced most run).config
+    goes_on_by run within = advances m traced most run (follows.next_try within.holds.kept run.config.state within.holds.closing.stable.linkless within.holds.stands)
 
     step_within : (run : Playing (State V)) → IsWithin p total run.config → IsWithin p total (advance m traced most run).config
-    step_within run within = step_at run run.config.place refl within
+    step_within run within = step_on run.config (advance m traced most run).config (goes_on_by run within) within
 
     play_within : (n : ℕ) (run : Playing (State V)) → IsWithin p total run.config → IsWithin p total (play m traced most n run).config
     play_within zero run within = within
     play_within (suc n) run within = play_within n (advance m traced most run) (step_within run within)
 
     -- at the stop nothing is counted yet
-    stop_place : (c : Config (State V)) → (c.place ≡ Closing) ⊎ (c.place ≡ Writing Closing) → (is_behind c.place ≡ true) × (c.place ≡ Last → ⊥)
-    stop_place c (inl is) = (ap is_behind is, λ e. cc (e, is))
-    stop_place c (inr is) = (ap is_behind is, λ e. cc (e, is))
-
-    stop_within : (k : Kept V) (s : State V) (run : Playing (State V)) → StandsFor k s → IsStable p k → IsAtStop s run.config → owed p (kept_shut k) ≤ total → IsWithin p total run.config
-    stop_within k s run stands stable stop few =
-        let place = stop_place run.config stop.place in
-        record {
-          holds = record {
-            kept = kept_shut k;
-            stands = subst (λ x. StandsFor (kept_shut k) x) (sym stop.state) (follows.shut k s stable.linkless stands);
-            closing = ends.shut k stable;
-            few = omega (arith, stop.none, few);
-          };
-          place = place.0;
-          going = λ e. absurd (place.1 e);
-        }
+    pub stop_within : (k : Kept V) (s : State V) (c : Config (State V)) → StandsFor k s → IsStable p k → IsAtStop s c → owed p (kept_shut k) ≤ total → IsWithin p total c
+    stop_within k s c stands stable stop few =
+        at_closing c (record {
+          kept = kept_shut k;
+          stands = subst (λ x. StandsFor (kept_shut k) x) (sym stop.state) (follows.shut k s stable.linkless stands);
+          closing = laws.shut k stable;
+          few = omega (arith, stop.none, few);
+        }) stop.place
 
 module _ {V : Type 0} (p : Program V) (follows : FollowsLinkless p) (ends : EndsClosing p) where
   pub closing_is_bounded : ClosingIsBounded p
   closing_is_bounded k s traced most run stands stable stop n =
       let total = owed p (kept_shut k) in
-      let within = play_within p follows ends total traced most n run (stop_within p follows ends total traced most k s run stands stable stop (omega arith)) in
+      let within = play_within p follows ends total traced most n run (stop_within p follows ends total traced most k s run.config stands stable stop (omega arith)) in
       let few = within.holds.few in
       omega (arith, few)
