@@ -47,7 +47,7 @@ use Rattle.laws_debt.specs.Laws.{KeepsStable, EndsClosing}
 use Rattle.laws_debt.specs.Owed.{share_by, is_early as early_in, owed}
 use Rattle.laws_debt.specs.Says.{IsLowering}
 use Rattle.laws_debt.specs.Steady.{LowersInside, IsEven, IsSteady}
-use Rattle.laws_debt.proofs.Ending.{KeepsWithin, take_all}
+use Rattle.laws_debt.proofs.Ending.{home_inside, take_all}
 use Rattle.laws_debt.proofs.Falling.{share_in, LowersAt, turn_falls}
 use Rattle.laws_debt.proofs.Keeping.{good_stable, good_settle, good_moved, good_turn, turn_is, good_closed}
 use Rattle.laws_queue.proofs.Lists.{all_to, equal_number}
@@ -57,11 +57,7 @@ use Rattle.laws_debt.proofs.Rooting.{steps_keep_stable, root_debt_falls}
 use Rattle.laws_debt.proofs.Shifting.{none_gone, Hushed, hushed_settled, hushed_expire, hushed_queued, expire_leaves, calls_lined, settle_steps, shut_steps, expire_steps}
 use Rattle.laws_debt.proofs.Walking.{AllSit, unlike}
 use Rattle.laws_debt.proofs.Stepwise.{Stepped, less_early, debt_total, total_all, all_there, early_queued, even_after, debt_after, places_after}
-use Rattle.laws_debt.proofs.Within.{keeps_within}
-
--- who lives somewhere is inside the root
-home_inside : {V : Type 0} (w : World V) (n : ℕ) → IsInOrder w → IsThere w.scopes n → Inside w.scopes 0 n
-home_inside w n o e = let h = some_told (home_of w.scopes n) e in rooted_inside w.scopes n (o.fits.forest.forest.rooted n h.0 h.1)
+use Rattle.laws_debt.proofs.Within.{KeepsWithin, keeps_within}
 
 module _ {V : Type 0} (p : Program V) (law : IsLawful p) (unlinked : MakesLinkless p) where
   keeps : KeepsWell p

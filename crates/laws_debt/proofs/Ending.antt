@@ -1,8 +1,7 @@
--- From the closing of the root on, each turn lowers what is owed, and somebody has an answer until `main` has ended.
+-- From the closing of the root on, each turn lowers what is owed, and somebody has an answer until `main` has ended: it is a bundle that everybody is inside of.
 use Rattle.std.proofs.Common.{◌≡◌, ◌∙◌, ◌+◌, ◌-◌, ◌^◌, ◌≤◌, ◌<◌, ◌==◌, ℕ, zero, suc, List, [], ◌∷◌, ◌++◌, length, map, take, fold, find, Bool, true, false, ◌&&◌, cond, Option, Some, None, is_some, if◌then◌else◌, refl, sym, ap, subst, arith}
 use Rattle.std.specs.List.{AllByRecursion, list_any}
 use Rattle.std.specs.List.Sorted.{IsStrictlyIncreasing}
-use Rattle.std.proofs.lemmas.Bool.Decides.{nat_tests}
 use Rattle.dill_base.specs.declared.errno.Errno.{Errno}
 use Rattle.dill_calls.specs.declared.answer.Answer.{Answer}
 use Rattle.dill_calls.specs.declared.call.Call.{Call}
@@ -12,53 +11,49 @@ use Rattle.dill_scope.specs.declared.forest.Bundle.{Bundle}
 use Rattle.dill_scope.specs.Scopes as scopes
 use Rattle.dill_base.specs.Maps.{if_some, first_some, change}
 use Rattle.dill_rules.specs.declared.coroutine.Coroutine.{Coroutine}
-use Rattle.dill_rules.specs.World.{World, is_coroutine, coroutine_of, begin, pending_call, is_answered}
 use Rattle.dill_rules.specs.Taking.{is_cancelled}
-use Rattle.dill_rules.specs.Settling.{is_clear, can_finish, answer_due, settle_one, settle, IsSettled}
 use Rattle.dill_rules.specs.State.{lined, fresh}
-use Rattle.dill_rules.specs.Turning.{as_running, resume, given_of, answer_given, go_on, turn}
 use Rattle.laws_queue.specs.Kept.{Kept, has_answer, queued, turn_first, kept_turn, kept_shut, root_closed}
-use Rattle.laws_queue.specs.Laws.{MayTurn, KeepsWell}
 use Rattle.laws_sound.specs.Linkless.{MakesLinkless, may_wait, IsLinkless}
 use Rattle.laws_queue.specs.Well.{Numbered, bit, occurs, IsQueue, IsWell}
-use Rattle.laws_sound.specs.Laws.{KeepsSettled, is_closing, CancelsAll, RootGoesOn}
 use Rattle.laws_sound.specs.Order.{IsInOrder}
 use Rattle.laws_sound.specs.Orderly.{IsOrderly, weigh}
 use Rattle.laws_debt.specs.Closing.{IsStable, IsClosing}
-use Rattle.laws_debt.specs.Laws.{KeepsStable, EndsClosing, turn_until}
 use Rattle.laws_debt.specs.Owed.{share_by, is_early, owed}
 use Rattle.laws_debt.specs.Says.{Says, SaysIn, IsLowering, AllLower}
-use Rattle.laws_sound.proofs.Linkless.{begin_linkless}
-use Rattle.laws_sound.proofs.Steps.{settle_one_linkless}
-use Rattle.laws_sound.proofs.Turns.{closed_linkless, go_on_linkless}
-use Rattle.laws_debt.proofs.Bounded.{owes_few, all_early}
-use Rattle.laws_debt.proofs.Keeping.{root_flags, good_stable, turn_is}
-use Rattle.laws_queue.proofs.Lists.{all_found, all_to, found_passes, equal_number}
-use Rattle.laws_sound.proofs.Counting.{is_total}
-use Rattle.laws_debt.proofs.Lowering.{all_calm, owed_evolves, lowers_evolves, owed_lined, all_lower_lined, others_lower, share_falls, answered_owes, called_falls, ended_falls, first_gone, others_same}
-use Rattle.laws_debt.proofs.Walking.{AllSit, leads_sits, settle_one_calm, settle_calm, Leads, unlike}
-use Rattle.laws_debt.proofs.Shutting.{settle_shut, AllHold, Lasts, settle_one_shut, go_on_shut}
-use Rattle.laws_debt.proofs.Unmet.{unmet}
-use Rattle.laws_debt.proofs.Turning.{sits_resumed, given_is, Went, called, ended, go_on_went, went_leads, all_resumed}
-use Rattle.laws_queue.proofs.Numbers.{found_changed, found_number}
 use Rattle.laws_sound.proofs.Going.{linkless_long}
-
--- steps within a step keep a world in order
-pub record KeepsWithin {V : Type 0} (p : Program V) : Type 0 where
-  pub moved : (k : Kept V) (lack : Option LackPlace) (who : ℕ) (rest : List ℕ) (c : Coroutine V) → IsWell p k → IsOrderly k.world → k.ready ≡ who ∷ rest → coroutine_of k.world who ≡ Some c → IsOrderly (go_on p lack (begin k.world) who c.body)
-  pub one : (w : World V) → IsOrderly w → IsOrderly (settle_one w)
-  pub closed : (w : World V) → IsOrderly w → IsOrderly (root_closed w)
+use Rattle.dill_scope.specs.Scopes.{home_of, is_inside}
+use Rattle.dill_scope.specs.Forest.{Inside}
+use Rattle.dill_scope.specs.Keeping.{IsThere}
+use Rattle.dill_scope.proofs.Carrying.{some_told}
+use Rattle.dill_scope.proofs.Chains.{search_is_inside}
+use Rattle.std.proofs.lemmas.Bool.Decides.{nat_tests}
+use Rattle.dill_rules.specs.World.{World, is_coroutine, begin}
+use Rattle.dill_rules.specs.Settling.{settle, IsSettled}
+use Rattle.dill_rules.specs.Turning.{go_on, turn}
+use Rattle.laws_queue.specs.Laws.{MayTurn, KeepsWell}
+use Rattle.laws_sound.specs.Laws.{KeepsSettled, is_closing, RootGoesOn}
+use Rattle.laws_debt.specs.Laws.{KeepsStable, EndsClosing, turn_until}
+use Rattle.laws_sound.proofs.Leaving.{lined_ends}
+use Rattle.laws_sound.proofs.Sound.{rooted_inside}
+use Rattle.laws_sound.proofs.Turns.{closed_linkless}
+use Rattle.laws_sound.proofs.Counting.{is_total, weigh_alike}
+use Rattle.laws_debt.proofs.Bounded.{owes_few, all_early}
+use Rattle.laws_debt.proofs.Falling.{share_in, LowersAt, closing_shut, settle_falls, turn_falls}
+use Rattle.laws_debt.proofs.Flagging.{both_all}
+use Rattle.laws_debt.proofs.Keeping.{root_flags, good_stable, turn_is}
+use Rattle.laws_debt.proofs.Lining.{lowers_lined}
+use Rattle.laws_queue.proofs.Lists.{all_found, all_to, all_map, found_passes, equal_number}
+use Rattle.laws_queue.proofs.Numbers.{found_number}
+use Rattle.laws_debt.proofs.Lowering.{first_gone, others_same}
+use Rattle.laws_debt.proofs.Shutting.{AllHold, IsShutAs, shut_lasts, settle_shut, go_on_shut}
+use Rattle.laws_debt.proofs.Stepwise.{all_there, total_all}
+use Rattle.laws_debt.proofs.Tracking.{tracks_self}
+use Rattle.laws_debt.proofs.Tree.{InTree}
+use Rattle.laws_debt.proofs.Walking.{unlike}
+use Rattle.laws_debt.proofs.Within.{KeepsWithin}
 
 -- ---- the root, once it is closing
-
-abbrev pub IsShutAs : ℕ → Bundle → Type 0
-IsShutAs name x = (x.name == name) ≡ true → x.closing ≡ true
-
-new_other : (a b : ℕ) → a ≤ b → ((b + 1) == a) ≡ false
-new_other a b h = grind (arith, nat_tests)
-
-pub shut_lasts : (name : ℕ) → Lasts (IsShutAs name) name
-shut_lasts name = record { owned = λ x owner a. a; closed = λ x a e. refl; made = λ last owner l e. unlike ((last + 1) == name) (new_other name last l) e }
 
 root_found : (o : Option Bundle) → is_some o ≡ true → ((x : Bundle) → o ≡ Some x → x.closing ≡ true) → if_some o false (λ x. x.closing) ≡ true
 root_found None e h = cc
@@ -98,20 +93,6 @@ module _ {V : Type 0} where
       root_found (find (scopes.is_bundle 0) w.scopes.bundles) i.fits.forest.ordered.root
       (λ x e. all_found (IsShutAs 0) (scopes.is_bundle 0) x w.scopes.bundles e h.bundles (found_passes (scopes.is_bundle 0) w.scopes.bundles x e))
 
-  closing_only : (w : World V) (xs : List Bundle) → IsStrictlyIncreasing (map (λ y. y.name) xs) → (x : Bundle) → find (scopes.is_bundle 0) xs ≡ Some x → x.closing ≡ true → AllByRecursion (IsShutAs 0) xs
-  closing_only w [] i x e c = tt
-  closing_only w (y ∷ ys) i x e c =
-      let rest : AllByRecursion (IsShutAs 0) ys = all_to (λ z. 0 < z.name) (IsShutAs 0) ys (λ z l f. unlike (z.name == 0) (not_equal 0 z.name l) f) (others_above 0 y ys i (omega arith)) in
-      at (y.name == 0) refl e rest
-    where
-      at : (b : Bool) → (y.name == 0) ≡ b → cond b (Some y) (find (scopes.is_bundle 0) ys) ≡ Some x → AllByRecursion (IsShutAs 0) ys → AllByRecursion (IsShutAs 0) (y ∷ ys)
-      at true j f r = ((λ g. let it : y ≡ x = cc in ap (λ z. z.closing) it ∙ c), r)
-      at false j f r = ((λ g. unlike (y.name == 0) j g), r)
-
-  of_closing : (w : World V) → IsStrictlyIncreasing (map (λ y. y.name) w.scopes.bundles) → (o : Option Bundle) → find (scopes.is_bundle 0) w.scopes.bundles ≡ o → if_some o false (λ x. x.closing) ≡ true → AllByRecursion (IsShutAs 0) w.scopes.bundles
-  of_closing w i None e f = cc
-  of_closing w i (Some x) e f = closing_only w w.scopes.bundles i x e f
-
 pub take_all : (xs ys : List ℕ) → take (length xs) (xs ++ ys) ≡ xs
 take_all [] ys = refl
 take_all (x ∷ xs) ys = ap (λ zs. x ∷ zs) (take_all xs ys)
@@ -130,130 +111,35 @@ absent_rest : (who : ℕ) (rest : List ℕ) (b : Bool) → occurs who (who ∷ r
 absent_rest who rest true e = let one : bit (who == who) ≡ 1 = ap bit (equal_number who who refl) in omega (arith, e, one)
 absent_rest who rest false e = let one : bit (who == who) ≡ 1 = ap bit (equal_number who who refl) in omega (arith, e, one)
 
--- ---- worlds in which the root is closing, within a step
+-- who lives somewhere is inside the root
+pub home_inside : {V : Type 0} (w : World V) (n : ℕ) → IsInOrder w → IsThere w.scopes n → Inside w.scopes 0 n
+home_inside w n o e = let h = some_told (home_of w.scopes n) e in rooted_inside w.scopes n (o.fits.forest.forest.rooted n h.0 h.1)
 
-module _ {V : Type 0} (p : Program V) (law : IsLawful p) (unlinked : MakesLinkless p) (cancels : CancelsAll V) (within : KeepsWithin p) where
-  record InClosing (w : World V) : Type 0 where
-    linkless : IsLinkless w
-    order : IsOrderly w
-    sits : AllSit p w.coroutines
-    holds : AllHold (IsShutAs 0) 0 w
+-- ---- the root as a bundle that is closing: everybody is inside it
 
-  off : (w : World V) (who : ℕ) (c : Coroutine V) → InClosing w → coroutine_of w who ≡ Some c → all_calm who ≡ true → is_cancelled w who ≡ true
-  off w who c i e f = cancels w who i.order.order (root_shut w i.order.order i.holds) (ap (λ (o : Option (Coroutine V)). is_some o) e)
+module _ {V : Type 0} (p : Program V) (tree : ℕ → Bool) where
+  root_all : (v : World V) → IsInOrder v → ((n : ℕ) → IsThere v.scopes n → is_inside v.scopes 0 n ≡ tree n) → AllByRecursion (λ c. tree c.number ≡ true) v.coroutines
+  root_all v o places =
+      all_to (λ (c : Coroutine V). IsThere v.scopes c.number) (λ c. tree c.number ≡ true) v.coroutines
+      (λ c e. sym (places c.number e) ∙ (search_is_inside v.scopes 0 c.number o.fits.forest.forest).1 (home_inside v c.number o e)) (all_there v o)
 
-  one_leads : (w : World V) → InClosing w → Leads p all_calm w (settle_one w)
-  one_leads w i = settle_one_calm p all_calm InClosing off w i i.sits i.order.order.fits.numbered
+  shares_all : (f : ℕ → Bool) (cs : List (Coroutine V)) → AllByRecursion (λ c. tree c.number ≡ true) cs → weigh (share_in p tree f) cs ≡ weigh (share_by p f) cs
+  shares_all f cs a = total_all (share_in p tree f) (share_by p f) cs (all_to (λ c. tree c.number ≡ true) (λ c. share_in p tree f c ≡ share_by p f c) cs (λ c e. ap (λ t. if t then share_by p f c else 0) e) a)
 
-  settles : (w : World V) → InClosing w → InClosing (settle_one w)
-  settles w i = record {
-    linkless = settle_one_linkless w i.linkless;
-    order = within.one w i.order;
-    sits = leads_sits p all_calm w (settle_one w) (one_leads w i) i.sits;
-    holds = settle_one_shut (IsShutAs 0) 0 (shut_lasts 0) w i.holds;
-  }
+  -- a place in the queue changes nothing of it
+  shares_lined : (f : ℕ → Bool) (cs : List (Coroutine V)) → weigh (share_in p tree f) (map lined cs) ≡ weigh (share_in p tree f) cs
+  shares_lined f cs = weigh_alike (share_in p tree f) lined cs (λ c. ap (λ b. if tree c.number then (if b then 0 else (if f c.number then 1 + p.most c.body else p.left c.body)) else 0) (lined_ends c.mode))
 
-  settling : (w : World V) → InClosing w → Leads p all_calm w (settle w)
-  settling w i = settle_calm p all_calm InClosing off settles w i i.sits i.order.order.fits.numbered
+  lowers_queued : (v : World V) (ready : List ℕ) (early : ℕ) (less : ℕ → Bool) → IsInOrder (queued v ready early).world → ((n : ℕ) → IsThere v.scopes n → is_inside v.scopes 0 n ≡ tree n) → AllByRecursion (LowersAt p tree less) v.coroutines → AllLower less (map lined v.coroutines)
+  lowers_queued v ready early less o places a =
+      both_all (λ c. tree c.number ≡ true) (LowersAt p tree less) (IsLowering less) (map lined v.coroutines) (λ c i l. l i)
+      (root_all (queued v ready early).world o places) (all_map (LowersAt p tree less) lined v.coroutines (λ c l i e. lowers_lined c.mode (l i e)) a)
 
-  settling_holds : (w : World V) → InClosing w → AllHold (IsShutAs 0) 0 (settle w)
-  settling_holds w i = settle_shut (IsShutAs 0) 0 (shut_lasts 0) w i.holds
+-- those of a queue of whom is counted
+abbrev early_of : ℕ → List ℕ → ℕ → Bool
+early_of early ready n = list_any (λ m. m == n) (take early ready)
 
-  -- those of a queue of whom is counted
-  abbrev early_of : ℕ → List ℕ → ℕ → Bool
-  early_of early ready n = list_any (λ m. m == n) (take early ready)
-
-  -- the turn of the first of the queue, but for the places of those that it answers
-  record TurnsOff (w : World V) (early : ℕ) (who : ℕ) (rest : List ℕ) (v : World V) : Type 0 where
-    holds : AllHold (IsShutAs 0) 0 v
-    lowers : AllLower (early_of (early - 1) rest) v.coroutines
-    falls : weigh (share_by p (early_of (early - 1) rest)) v.coroutines < weigh (share_by p (early_of early (who ∷ rest))) w.coroutines
-
-  -- what a step comes to behind its settling
-  record Settles (w : World V) (v : World V) : Type 0 where
-    holds_then : AllHold (IsShutAs 0) 0 v
-    leads_then_to : Leads p all_calm w v
-
-  settles_to : (w : World V) → InClosing w → Settles w (settle w)
-  settles_to w i =
-      let e = settling w i in
-      record {
-        holds_then = settling_holds w i;
-        leads_then_to = e;
-      }
-
-  -- the part of the turn until it settles
-  record MovesOff (w : World V) (early : ℕ) (who : ℕ) (rest : List ℕ) (v : World V) : Type 0 where
-    in_closing : InClosing v
-    lowers_moved : AllLower (early_of (early - 1) rest) v.coroutines
-    falls_moved : weigh (share_by p (early_of (early - 1) rest)) v.coroutines < weigh (share_by p (early_of early (who ∷ rest))) w.coroutines
-
-  went_falls : (w : World V) (early who : ℕ) (rest : List ℕ) (c : Coroutine V) (v : World V) → coroutine_of w who ≡ Some c → is_answered c.mode ≡ true → 1 ≤ p.left c.body → SaysIn (p.said c.body) c.mode → IsLowering (early_of early (who ∷ rest)) c → Numbered 0 w.coroutines w.last_coroutine → early_of (early - 1) rest who ≡ false → Went p law all_calm (begin w) who c (given_of c.mode).1 v → weigh (share_by p (early_of (early - 1) rest)) v.coroutines < weigh (share_by p (early_of early (who ∷ rest))) w.coroutines
-  went_falls w early who rest c v found answered some says lowers numbered gone (called word view goes leads) =
-      let now = early_of early (who ∷ rest) in
-      let less = early_of (early - 1) rest in
-      let number = found_number who w.coroutines c found in
-      let share = share_falls p now less who gone (others_same who rest early) c view word number answered says lowers goes in
-      let falls = called_falls p now less who gone (others_same who rest early) c view word w.coroutines w.last_coroutine numbered found share in
-      let kept = owed_evolves p less (resume (begin w) who view).coroutines v.coroutines w.last_coroutine v.last_coroutine leads in
-      omega (arith, falls, kept)
-  went_falls w early who rest c v found answered some says lowers numbered gone (ended view outcome same last) =
-      let now = early_of early (who ∷ rest) in
-      let less = early_of (early - 1) rest in
-      let owes = answered_owes p now less who gone (others_same who rest early) c answered some in
-      let here = found_changed (is_coroutine who) (as_running view) c w.coroutines (λ d. refl) found in
-      let falls = ended_falls p now less who gone (others_same who rest early) c view outcome w.coroutines w.last_coroutine numbered found here owes in
-      subst (λ cs. weigh (share_by p less) cs < weigh (share_by p now) w.coroutines) (sym same) falls
-
-  moves_off : (k : Kept V) (lack : Option LackPlace) (who : ℕ) (rest : List ℕ) → IsClosing p k → k.ready ≡ who ∷ rest → (may : MayTurn p k.world who) → MovesOff k.world k.early who rest (go_on p lack (begin k.world) who may.one.body)
-  moves_off k lack who rest s e may =
-      let w = k.world in
-      let c = may.one in
-      let b = begin w in
-      let moved = go_on p lack b who c.body in
-      let good = good_stable p k s.stable in
-      let sits = good.sits in
-      let shut : AllHold (IsShutAs 0) 0 w = record { given = omega arith; bundles = of_closing w s.stable.order.order.fits.forest.ordered.bundles (find (scopes.is_bundle 0) w.scopes.bundles) refl s.closing; flags = s.stable.flags } in
-      let before : InClosing w = record { linkless = s.stable.linkless; order = s.stable.order; sits = sits; holds = shut } in
-      let once = (subst (λ q. IsQueue q w.coroutines) e s.stable.well.queue).once who in
-      let gone = first_gone who rest k.early (absent_rest who rest _ once) in
-      let lowers : AllLower (early_of k.early (who ∷ rest)) w.coroutines = subst (λ q. AllLower (λ n. list_any (λ m. m == n) (take k.early q)) w.coroutines) e s.lowers in
-      let says = all_found (Says p) (is_coroutine who) c w.coroutines may.found s.stable.says in
-      let lowering = all_found (IsLowering (early_of k.early (who ∷ rest))) (is_coroutine who) c w.coroutines may.found lowers in
-      let linkless_move = unlinked c.body (answer_given b who).1 may.real may.some in
-      let went : Went p law all_calm b who c (answer_given b who).1 moved = go_on_went p law all_calm lack b who c unlinked may.some (record { found = may.found; real = may.real; cancelled = λ q. off w who c before may.found q; born = λ q. cc; sits = sits; met = λ other its answer g q. unmet p w sits s.settled other its answer g (λ d h. off w other d before h q) }) in
-      let from = went_leads p law all_calm b who c (answer_given b who).1 moved may.found went in
-      let view = from.0 in
-      let sits_moved = leads_sits p all_calm (resume b who view) moved from.1 (sits_resumed p b who view c may.found sits) in
-      let resumed = all_resumed who view (IsLowering (early_of k.early (who ∷ rest))) (IsLowering (early_of (k.early - 1) rest)) w.coroutines 0 w.last_coroutine s.stable.well.numbered
-      (others_lower p (early_of k.early (who ∷ rest)) (early_of (k.early - 1) rest) who gone (others_same who rest k.early)) (λ x i f. tt) lowers in
-      record {
-        in_closing = record {
-          linkless = go_on_linkless p lack b who c.body linkless_move (begin_linkless w s.stable.linkless);
-          order = within.moved k lack who rest c s.stable.well s.stable.order e may.found;
-          sits = sits_moved;
-          holds = go_on_shut (IsShutAs 0) 0 (shut_lasts 0) p lack b who c.body (record { given = shut.given; bundles = shut.bundles; flags = shut.flags });
-        };
-        lowers_moved = lowers_evolves p (early_of (k.early - 1) rest) (resume b who view).coroutines moved.coroutines w.last_coroutine moved.last_coroutine from.1 resumed;
-        falls_moved = went_falls w k.early who rest c moved may.found may.answered may.some says lowering s.stable.well.numbered gone (subst (λ a. Went p law all_calm b who c a.1 moved) (given_is w who c may.found) went);
-      }
-
-  turns_off : (k : Kept V) (lack : Option LackPlace) (who : ℕ) (rest : List ℕ) → IsClosing p k → k.ready ≡ who ∷ rest → MayTurn p k.world who → TurnsOff k.world k.early who rest (turn p lack k.world who)
-  turns_off k lack who rest s e may =
-      let w = k.world in
-      let less = early_of (k.early - 1) rest in
-      let moved = go_on p lack (begin w) who may.one.body in
-      let m = moves_off k lack who rest s e may in
-      let over = settles_to moved m.in_closing in
-      let kept = owed_evolves p less moved.coroutines (settle moved).coroutines moved.last_coroutine (settle moved).last_coroutine over.leads_then_to in
-      let before = m.falls_moved in
-      let done : TurnsOff w k.early who rest (settle moved) = record {
-        holds = over.holds_then;
-        lowers = lowers_evolves p less moved.coroutines (settle moved).coroutines moved.last_coroutine (settle moved).last_coroutine over.leads_then_to m.lowers_moved;
-        falls = omega (arith, before, kept);
-      } in
-      subst (TurnsOff w k.early who rest) (sym (turn_is p law unlinked lack w who may.one may.found)) done
-
+module _ {V : Type 0} (p : Program V) (law : IsLawful p) (unlinked : MakesLinkless p) (within : KeepsWithin p) where
   module _ (calm : KeepsSettled p) (stable : KeepsStable p) (goes : RootGoesOn p) where
     few : (k : Kept V) → IsClosing p k → owed p k ≤ 2 ^ 48
     few k s = subst (λ n. n ≤ 2 ^ 48) (sym (is_total (share_by p (is_early k)) k.world.coroutines)) (owes_few p law (is_early k) k.world.coroutines s.stable.well.lives s.stable.order.order.fits.few)
@@ -261,51 +147,69 @@ module _ {V : Type 0} (p : Program V) (law : IsLawful p) (unlinked : MakesLinkle
     shut : (k : Kept V) → IsStable p k → IsClosing p (kept_shut k)
     shut k s =
         let w = root_closed k.world in
-        let good = good_stable p k s in
-        let before : InClosing w = record {
-          linkless = closed_linkless k.world s.linkless;
-          order = within.closed k.world s.order;
-          sits = good.sits;
-          holds = record { given = omega arith; bundles = root_shuts k.world.scopes.bundles s.order.order.fits.forest.ordered.bundles; flags = root_flags k.world s.flags };
-        } in
-        let over = settles_to w before in
+        let order = within.closed k.world s.order in
+        let forest = order.order.fits.forest in
+        let holds : AllHold (IsShutAs 0) 0 w = record { given = omega arith; bundles = root_shuts k.world.scopes.bundles s.order.order.fits.forest.ordered.bundles; flags = root_flags k.world s.flags } in
+        let self : InTree p w.scopes 0 forest.forest w = record { linkless = closed_linkless k.world s.linkless; order = order; sits = (good_stable p k s).sits; holds = holds; tracks = tracks_self w.scopes 0 forest } in
+        let tree = is_inside w.scopes 0 in
         let all : ℕ → Bool = λ n. list_any (λ m. m == n) k.ready in
-        let lowers = all_early k.ready k.world.coroutines 0 k.world.last_coroutine s.well.numbered s.well.queue s.rest in
-        let lined_lower = all_lower_lined all (settle w).coroutines (lowers_evolves p all w.coroutines (settle w).coroutines w.last_coroutine (settle w).last_coroutine over.leads_then_to lowers) in
+        let lowers = all_to (IsLowering all) (LowersAt p tree all) k.world.coroutines (λ c l i. l) (all_early k.ready k.world.coroutines 0 k.world.last_coroutine s.well.numbered s.well.queue s.rest) in
+        let over = settle_falls p law unlinked w w 0 forest.forest all all self lowers (omega arith) in
+        let holds_then = settle_shut (IsShutAs 0) 0 (shut_lasts 0) w holds in
         let after = kept_shut k in
         let kept = stable.shut k s in
+        let lower = lowers_queued p tree (settle w) k.ready (length k.ready) all kept.order.order over.places over.lowers in
         record {
           stable = kept;
-          closing = root_shut after.world kept.order.order (record { given = over.holds_then.given; bundles = over.holds_then.bundles; flags = kept.flags });
+          closing = root_shut after.world kept.order.order (record { given = holds_then.given; bundles = holds_then.bundles; flags = kept.flags });
           settled = calm.shut k s.well s.linkless;
           early = length_more k.ready (fresh (settle w));
-          lowers = subst (λ q. AllLower (λ n. list_any (λ m. m == n) q) after.world.coroutines) (sym (take_all k.ready (fresh (settle w)))) lined_lower;
+          lowers = subst (λ q. AllLower (λ n. list_any (λ m. m == n) q) after.world.coroutines) (sym (take_all k.ready (fresh (settle w)))) lower;
         }
+
+    -- the root stays closing over a turn
+    turned_shut : (k : Kept V) (lack : Option LackPlace) (who : ℕ) → IsClosing p k → (may : MayTurn p k.world who) → AllHold (IsShutAs 0) 0 (turn p lack k.world who)
+    turned_shut k lack who s may =
+        let w = k.world in
+        let moved = go_on p lack (begin w) who may.one.body in
+        let holds = go_on_shut (IsShutAs 0) 0 (shut_lasts 0) p lack (begin w) who may.one.body (record { given = omega arith; bundles = closing_shut w 0 s.stable.order.order s.closing; flags = s.stable.flags }) in
+        subst (AllHold (IsShutAs 0) 0) (sym (turn_is p law unlinked lack w who may.one may.found)) (settle_shut (IsShutAs 0) 0 (shut_lasts 0) moved holds)
 
     -- the turn of the first of a queue leaves the root closing, and lowers what is owed
     turned_first : (k : Kept V) (lack : Option LackPlace) (who : ℕ) (rest : List ℕ) → KeepsWell p → IsClosing p k → k.ready ≡ who ∷ rest → IsClosing p (kept_turn p lack k) × (owed p (kept_turn p lack k) < owed p k)
     turned_first k lack who rest keeps s e =
+        let w = k.world in
+        let tree = is_inside w.scopes 0 in
+        let now = early_of k.early (who ∷ rest) in
+        let less = early_of (k.early - 1) rest in
         let may = keeps.first k who rest s.stable.well e in
-        let off = turns_off k lack who rest s e may in
-        let v = turn p lack k.world who in
+        let once = (subst (λ q. IsQueue q w.coroutines) e s.stable.well.queue).once who in
+        let gone = first_gone who rest k.early (absent_rest who rest _ once) in
+        let lowers : AllLower now w.coroutines = subst (λ q. AllLower (λ n. list_any (λ m. m == n) (take k.early q)) w.coroutines) e s.lowers in
+        let t = turn_falls p law unlinked keeps within k lack who rest 0 now less s.stable s.settled e s.closing gone (others_same who rest k.early) (all_to (IsLowering now) (LowersAt p tree now) w.coroutines (λ c l i. l) lowers) in
+        let v = turn p lack w who in
         let after = queued v rest (k.early - 1) in
         let is : kept_turn p lack k ≡ after = ap (turn_first p lack k) e in
         let kept : IsStable p after = subst (IsStable p) is (stable.turned k lack s.stable) in
         let early : k.early ≤ length (who ∷ rest) = subst (λ q. k.early ≤ length q) e s.early in
-        let less : k.early - 1 ≤ length rest = omega (arith, early) in
-        let front = take_front (k.early - 1) rest (fresh v) less in
-        let same : is_early after ≡ early_of (k.early - 1) rest = ap (λ q. λ n. list_any (λ m. m == n) q) front in
+        let fewer_left : k.early - 1 ≤ length rest = omega (arith, early) in
+        let front = take_front (k.early - 1) rest (fresh v) fewer_left in
+        let same : is_early after ≡ less = ap (λ q. λ n. list_any (λ m. m == n) q) front in
+        let holds = turned_shut k lack who s may in
         let closing : IsClosing p after = record {
           stable = kept;
-          closing = root_shut after.world kept.order.order (record { given = off.holds.given; bundles = off.holds.bundles; flags = kept.flags });
+          closing = root_shut after.world kept.order.order (record { given = holds.given; bundles = holds.bundles; flags = kept.flags });
           settled = subst (λ (l : Kept V). IsSettled l.world) is (calm.turned k lack s.stable.well s.stable.linkless s.stable.order s.settled);
-          early = let m = length_more rest (fresh v) in omega (arith, less, m);
-          lowers = subst (λ f. AllLower f after.world.coroutines) (sym same) (all_lower_lined (early_of (k.early - 1) rest) v.coroutines off.lowers);
+          early = let m = length_more rest (fresh v) in omega (arith, fewer_left, m);
+          lowers = subst (λ f. AllLower f after.world.coroutines) (sym same) (lowers_queued p tree v rest (k.early - 1) less kept.order.order t.falling.places t.falling.lowers);
         } in
-        let now : owed p after ≡ weigh (share_by p (early_of (k.early - 1) rest)) v.coroutines = is_total (share_by p (is_early after)) after.world.coroutines ∙ ap (λ f. weigh (share_by p f) after.world.coroutines) same ∙ owed_lined p (early_of (k.early - 1) rest) v.coroutines in
-        let was : owed p k ≡ weigh (share_by p (early_of k.early (who ∷ rest))) k.world.coroutines = is_total (share_by p (is_early k)) k.world.coroutines ∙ ap (λ q. weigh (share_by p (λ n. list_any (λ m. m == n) (take k.early q))) k.world.coroutines) e in
-        let falls = off.falls in
-        let lower : owed p after < owed p k = omega (arith, now, was, falls) in
+        let here = root_all p tree after.world kept.order.order t.falling.places in
+        let before = root_all p tree w s.stable.order.order (λ n i. refl) in
+        let inside : tree who ≡ true = ap tree (sym (found_number who w.coroutines may.one may.found)) ∙ all_found (λ c. tree c.number ≡ true) (is_coroutine who) may.one w.coroutines may.found before in
+        let owes : owed p after ≡ weigh (share_in p tree less) v.coroutines = is_total (share_by p (is_early after)) after.world.coroutines ∙ ap (λ f. weigh (share_by p f) after.world.coroutines) same ∙ sym (shares_all p tree less after.world.coroutines here) ∙ shares_lined p tree less v.coroutines in
+        let was : owed p k ≡ weigh (share_in p tree now) w.coroutines = is_total (share_by p (is_early k)) w.coroutines ∙ ap (λ q. weigh (share_by p (λ n. list_any (λ m. m == n) (take k.early q))) w.coroutines) e ∙ sym (shares_all p tree now w.coroutines before) in
+        let falls = t.strictly inside in
+        let lower : owed p after < owed p k = omega (arith, owes, was, falls) in
         subst (λ (l : Kept V). IsClosing p l × (owed p l < owed p k)) (sym is) (closing, lower)
 
     turned : (k : Kept V) (lack : Option LackPlace) → KeepsWell p → IsClosing p k → IsClosing p (kept_turn p lack k)

@@ -27,7 +27,7 @@ use Rattle.laws_debt.specs.Owed.{share_by}
 use Rattle.laws_debt.specs.Says.{Says, SaysIn, IsLowering}
 use Rattle.laws_sound.proofs.Linkless.{begin_linkless}
 use Rattle.laws_sound.proofs.Turns.{go_on_linkless}
-use Rattle.laws_debt.proofs.Ending.{KeepsWithin, IsShutAs, shut_lasts}
+use Rattle.laws_debt.proofs.Within.{KeepsWithin}
 use Rattle.laws_debt.proofs.Evolving.{EvolvesCalm, Suits, evolves_calm, evolves_total}
 use Rattle.laws_queue.proofs.Evolving.{newborn}
 use Rattle.laws_debt.proofs.Holding.{new_outside as new_outside_of}
@@ -35,7 +35,7 @@ use Rattle.laws_debt.proofs.Keeping.{good_stable, turn_is}
 use Rattle.laws_queue.proofs.Lists.{all_found, all_to, found_passes, number_of, some_same}
 use Rattle.laws_debt.proofs.Lowering.{less_at, others_lower, others_share, share_falls, answered_owes}
 use Rattle.laws_debt.proofs.Walking.{leads_sits, unlike}
-use Rattle.laws_debt.proofs.Shutting.{go_on_shut}
+use Rattle.laws_debt.proofs.Shutting.{go_on_shut, IsShutAs, shut_lasts}
 use Rattle.laws_debt.proofs.Tracking.{tracks_self, all_by_key}
 use Rattle.laws_debt.proofs.Tree.{InTree, tree_same, tree_off, tree_leads, settled_tree, facts_of, closing_found, go_on_tracks}
 use Rattle.laws_debt.proofs.Unmet.{unmet}

@@ -22,10 +22,6 @@ use Rattle.laws_debt.proofs.Turning.{total_resumed}
 use Rattle.laws_sound.specs.Orderly.{weigh}
 use Rattle.laws_sound.proofs.Counting.{weigh_alike, weigh_change}
 
--- everybody is among the calm
-abbrev pub all_calm : ℕ → Bool
-all_calm who = true
-
 pub less_at : (b e : Bool) (x : ℕ) → e ≡ false → (if b then 0 else x) ≤ (if e then 0 else x)
 less_at true false x f = omega arith
 less_at false false x f = omega arith
@@ -45,34 +41,6 @@ answer_lowers said (modes.Pending call) e s l = cc
 answer_lowers said modes.Running e s l = cc
 answer_lowers said (modes.Fresh word answer) e s l = cc
 answer_lowers said (modes.Ending outcome) e s l = cc
-
-module _ {V : Type 0} (p : Program V) (early : ℕ → Bool) where
-  share_moved : (c : Coroutine V) (mode : Mode) → is_ending c.mode ≡ false → share_by p early (with_mode mode c) ≤ share_by p early c
-  share_moved c mode e = less_at (is_ending mode) (is_ending c.mode) (if early c.number then 1 + p.most c.body else p.left c.body) e
-
-  -- steps besides the turn raise nothing
-  pub owed_evolves : (cs ds : List (Coroutine V)) (k l : ℕ) → EvolvesCalm p all_calm cs k ds l → weigh (share_by p early) ds ≤ weigh (share_by p early) cs
-  owed_evolves cs ds k l e = evolves_total p all_calm (share_by p early) share_moved (λ number view q. cc) cs ds k l e
-
-  suits_lowers : (c : Coroutine V) (mode : Mode) → Suits p all_calm c mode → IsLowering early (with_mode mode c)
-  suits_lowers c (modes.Pending call) s e = tt
-  suits_lowers c modes.Running s e = absurd s
-  suits_lowers c (modes.Fresh word answer) s e = s.1 refl
-  suits_lowers c (modes.Answered word answer) s e = absurd s
-  suits_lowers c (modes.Ending outcome) s e = tt
-
-  -- and leave answers that lower
-  pub lowers_evolves : (cs ds : List (Coroutine V)) (k l : ℕ) → EvolvesCalm p all_calm cs k ds l → AllLower early cs → AllLower early ds
-  lowers_evolves cs ds k l e a = evolves_calm p all_calm (IsLowering early) suits_lowers (λ number view b q. cc) cs ds k l e a
-
-  -- a place in the queue changes nothing of it
-  pub owed_lined : (cs : List (Coroutine V)) → weigh (share_by p early) (map lined cs) ≡ weigh (share_by p early) cs
-  owed_lined cs = weigh_alike (share_by p early) lined cs (λ c. ap (λ b. if b then 0 else (if early c.number then 1 + p.most c.body else p.left c.body)) (lined_ends c.mode))
-
-module _ {V : Type 0} (early : ℕ → Bool) where
-  pub all_lower_lined : (cs : List (Coroutine V)) → AllLower early cs → AllLower early (map lined cs)
-  all_lower_lined [] a = tt
-  all_lower_lined (c ∷ cs) a = ((λ e. lowers_lined c.mode (a.0 e)), all_lower_lined cs a.1)
 
 -- The first of the queue is given its answer. Of the others the same ones are early.
 module _ {V : Type 0} (p : Program V) (early less : ℕ → Bool) (who : ℕ) (gone : less who ≡ false) (same : (n : ℕ) → (n == who) ≡ false → less n ≡ early n) where
@@ -108,19 +76,6 @@ module _ {V : Type 0} (p : Program V) (early less : ℕ → Bool) (who : ℕ) (g
   -- who has an answer owes something
   pub answered_owes : (c : Coroutine V) → is_answered c.mode ≡ true → 1 ≤ p.left c.body → 1 ≤ share_by p early c
   answered_owes c e l = subst (λ n. 1 ≤ n) (sym (answered_share c e)) (some_share c (early c.number) l)
-
-  -- a call behind its answer lowers the sum
-  pub called_falls : (c : Coroutine V) (view : V) (word : Word) (cs : List (Coroutine V)) (high : ℕ) → Numbered 0 cs high → find (is_coroutine who) cs ≡ Some c → share_by p less (as_running view c) < share_by p early c → weigh (share_by p less) (change (is_coroutine who) (as_running view) cs) < weigh (share_by p early) cs
-  called_falls c view word cs high n e f =
-      let both = total_resumed who view (share_by p early) (share_by p less) c cs 0 high n e others_share in
-      omega (arith, both, f)
-
-  -- and so does an ending
-  pub ended_falls : (c : Coroutine V) (view : V) (outcome : Option Errno) (cs : List (Coroutine V)) (high : ℕ) → Numbered 0 cs high → find (is_coroutine who) cs ≡ Some c → find (is_coroutine who) (change (is_coroutine who) (as_running view) cs) ≡ Some (as_running view c) → 1 ≤ share_by p early c → weigh (share_by p less) (change (is_coroutine who) (with_mode (modes.Ending outcome)) (change (is_coroutine who) (as_running view) cs)) < weigh (share_by p early) cs
-  ended_falls c view outcome cs high n e h f =
-      let one = total_resumed who view (share_by p early) (share_by p less) c cs 0 high n e others_share in
-      let two = weigh_change (share_by p less) (is_coroutine who) (with_mode (modes.Ending outcome)) (change (is_coroutine who) (as_running view) cs) (as_running view c) h in
-      omega (arith, one, two, f)
 
 differ : (a b : ℕ) → (b == a) ≡ false → (a == b) ≡ false
 differ a b e = grind (arith, nat_tests)

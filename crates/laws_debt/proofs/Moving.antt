@@ -29,7 +29,7 @@ use Rattle.laws_debt.specs.Says.{IsLowering}
 use Rattle.laws_debt.specs.Steady.{HasStamps, LowersInside}
 use Rattle.laws_debt.proofs.Beginning.{OldFlag, NoAnswer, Begun, same, none, old_flags, settle_flags, go_on_begun}
 use Rattle.laws_debt.proofs.Bounded.{each_found, queued_early}
-use Rattle.laws_debt.proofs.Ending.{KeepsWithin}
+use Rattle.laws_debt.proofs.Within.{KeepsWithin}
 use Rattle.laws_debt.proofs.Evolving.{Suits, evolves_calm}
 use Rattle.laws_debt.proofs.Falling.{LowersAt, closing_shut, ranked_bound, turn_falls}
 use Rattle.laws_debt.proofs.Flagging.{both_all}

@@ -30,7 +30,6 @@ use Rattle.laws_debt.specs.Says.{IsLowering}
 use Rattle.laws_debt.specs.Steady.{HasStamps, LowersInside}
 use Rattle.laws_debt.proofs.Beginning.{OldFlag, old_flags, settle_flags}
 use Rattle.laws_debt.proofs.Bounded.{each_found, queued_early}
-use Rattle.laws_debt.proofs.Ending.{IsShutAs}
 use Rattle.laws_debt.proofs.Evolving.{Suits, evolves_calm}
 use Rattle.laws_debt.proofs.Falling.{LowersAt, owed_tree, lowers_tree, tree_self, settle_falls}
 use Rattle.laws_debt.proofs.Flagging.{all_picked}
@@ -41,7 +40,7 @@ use Rattle.laws_queue.proofs.Lists.{all_to}
 use Rattle.laws_debt.proofs.Moving.{unfresh_all as all_unfresh_of, begun_settles, flag_was}
 use Rattle.laws_debt.proofs.Walking.{AllSit, call_pends, pending_waits, expire_calm, change_calls, Leads, unlike}
 use Rattle.laws_debt.proofs.Unmet.{cancels_some, unanswered}
-use Rattle.laws_debt.proofs.Shutting.{settle_shut, AllHold, Lasts, expire_one_shut}
+use Rattle.laws_debt.proofs.Shutting.{settle_shut, AllHold, Lasts, expire_one_shut, IsShutAs}
 use Rattle.laws_debt.proofs.Stepwise.{StampOk, stamp_lasts, stamps_self, Stepped, less_early}
 use Rattle.laws_debt.proofs.Tree.{InTree, tree_off}
 use Rattle.laws_sound.proofs.Stepping.{order_root_closed}

@@ -1,5 +1,5 @@
 -- What holds of each bundle under every owner stays so, whatever is called, and so do the notes of closings.
-use Rattle.std.proofs.Common.{◌≡◌, ◌∙◌, ◌+◌, ◌≤◌, ℕ, List, [], ◌∷◌, Bool, true, false, cond, Option, Some, refl, arith}
+use Rattle.std.proofs.Common.{◌≡◌, ◌∙◌, ◌+◌, ◌≤◌, ℕ, List, [], ◌∷◌, Bool, true, false, cond, Option, Some, refl, arith, ◌==◌, ap, sym}
 use Rattle.std.specs.List.{AllByRecursion}
 use Rattle.dill_base.specs.Maps.{change}
 use Rattle.dill_calls.specs.declared.ran.LackPlace.{LackPlace}
@@ -12,6 +12,8 @@ use Rattle.dill_rules.specs.Turning.{go_on}
 use Rattle.dill_rules.specs.World.{World}
 use Rattle.laws_debt.specs.Flags.{IsFlagged, AreNoted}
 use Rattle.laws_debt.proofs.Flagging.{flagged_closed, flagged_freed, ranked_change, ranked_without, ranked_append}
+use Rattle.std.proofs.lemmas.Bool.Decides.{nat_tests}
+use Rattle.laws_debt.proofs.Walking.{unlike}
 use Rattle.laws_debt.proofs.Lasting.{Parts, parts, Lasting, settle_one_lasts, settle_lasts, expire_lasts, go_on_lasts}
 use Rattle.laws_queue.proofs.Lists.{all_append, all_without}
 
@@ -38,6 +40,16 @@ pub record LastsOwned (P : Bundle → Type 0) (low : ℕ) : Type 0 where
 
 lasts_owned : (P : Bundle → Type 0) (low : ℕ) → Lasts P low → LastsOwned P low
 lasts_owned P low lasts = record { owned = lasts.owned; closed = λ x owner a. lasts.closed (scopes.with_owner owner x) (lasts.owned x owner a); made = lasts.made }
+
+-- a bundle of this name is closing
+abbrev pub IsShutAs : ℕ → Bundle → Type 0
+IsShutAs name x = (x.name == name) ≡ true → x.closing ≡ true
+
+new_other : (a b : ℕ) → a ≤ b → ((b + 1) == a) ≡ false
+new_other a b h = grind (arith, nat_tests)
+
+pub shut_lasts : (name : ℕ) → Lasts (IsShutAs name) name
+shut_lasts name = record { owned = λ x owner a. a; closed = λ x a e. refl; made = λ last owner l e. unlike ((last + 1) == name) (new_other name last l) e }
 
 module _ {X : Type 0} (P : X → Type 0) where
   all_changed : (pick : X → Bool) (g : X → X) (xs : List X) → ((x : X) → P x → P (g x)) → AllByRecursion P xs → AllByRecursion P (change pick g xs)

@@ -47,7 +47,6 @@ use Rattle.laws_sound.proofs.Answering.{settle_one_good}
 use Rattle.laws_sound.proofs.Owners.{owned_no_root}
 use Rattle.laws_sound.proofs.Sound.{owner_is, inside_cancelled}
 use Rattle.laws_debt.specs.Flags.{IsFlagged, HasFlags}
-use Rattle.laws_debt.proofs.Ending.{IsShutAs, shut_lasts}
 use Rattle.laws_sound.proofs.Turns.{entered_linkless}
 use Rattle.laws_debt.proofs.Flagging.{closed_names}
 use Rattle.laws_debt.proofs.Holding.{Facts, TracksIn, tracks_clear, enter_tracks, end_tracks}
@@ -55,7 +54,7 @@ use Rattle.laws_debt.proofs.Lasting.{settle_one_quiet}
 use Rattle.laws_queue.proofs.Lists as lists
 use Rattle.laws_queue.proofs.Lists.{equal_number, number_of, all_to}
 use Rattle.laws_debt.proofs.Walking.{AllSit, leads_sits, settle_one_calm, settle_calm, Leads}
-use Rattle.laws_debt.proofs.Shutting.{AllHold, settle_one_shut}
+use Rattle.laws_debt.proofs.Shutting.{AllHold, settle_one_shut, IsShutAs, shut_lasts}
 use Rattle.laws_debt.proofs.Tracking.{Tracks, inside_same}
 use Rattle.laws_queue.proofs.Stepping.{due_first}
 
