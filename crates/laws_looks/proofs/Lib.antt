@@ -1,0 +1,10 @@
+pub mod Lists
+pub mod Stays
+pub mod Fewer
+pub mod Twice
+pub mod Spent
+pub mod Quieted
+pub mod Enters
+pub mod Hears
+pub mod Restful
+pub mod Steps

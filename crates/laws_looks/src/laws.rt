@@ -1,0 +1,26 @@
+ghost use Rattle.laws_looks.specs.Calm.{DrawsNothing};
+ghost use Rattle.laws_looks.specs.Readers.{KeepsApart, LooksSettle};
+
+use dill_calls::Body;
+use dill_stack::again_laws;
+
+/// Where nothing is due and one pending call at most looks at each stack, nothing is due behind these looks either, and a
+/// second round of looks changes nothing.
+pub fn looks_settle<B: Body>()
+    ensures { LooksSettle B }
+{
+    again_laws();
+}
+
+/// Each step keeps it so that one pending call at most looks at each stack, and that one number at most names each link.
+pub fn steps_keep_apart<B: Body>()
+    ensures { KeepsApart B.means }
+{}
+
+/// Behind a whole settling nothing is due and no look finds anything; and where that is so, what settles, what expires
+/// and the closing of the root draw no random number.
+pub fn draws_nothing<B: Body>()
+    ensures { DrawsNothing B }
+{
+    again_laws();
+}

@@ -1,0 +1,7 @@
+//! That one pending call at most looks at a stack, and that nothing is due behind its look. Definitions and laws; it holds
+//! no code.
+#![tactic(auto)]
+
+mod laws;
+
+pub use laws::{draws_nothing, looks_settle, steps_keep_apart};
