@@ -8,3 +8,4 @@ pub mod Enters
 pub mod Hears
 pub mod Restful
 pub mod Steps
+pub mod Between

@@ -20,7 +20,8 @@ use Rattle.dill_stack.specs.Interface.{Held, has_ended, is_sent}
 use Rattle.dill_stack.specs.declared.direction.Direction.{Direction}
 use Rattle.dill_stack.specs.Again.{LooksAgain}
 use Rattle.dill_rules.specs.declared.coroutine.Coroutine.{Coroutine}
-use Rattle.dill_rules.specs.World.{World, is_coroutine, pending_call}
+use Rattle.dill_calls.specs.declared.ran.Note.{Note}
+use Rattle.dill_rules.specs.World.{Place, World, is_coroutine, pending_call}
 use Rattle.dill_rules.specs.Links.{Link, Links, look, is_link, change_link, with_stack}
 use Rattle.dill_rules.specs.Sockets.{link_number, link_named, stack_of, on_link}
 use Rattle.dill_rules.specs.Naming.{end_of_clause}
@@ -146,7 +147,7 @@ answer_stays call u v x t k h e =
     at false false i false (inr y) g = ap answer_said y
 
 -- what it answers doesn't hang on the random numbers
-answer_blind : (call : Call) (u v : Stream) (x : Link) → stack_answer call u x ≡ stack_answer call v x
+pub answer_blind : (call : Call) (u v : Stream) (x : Link) → stack_answer call u x ≡ stack_answer call v x
 answer_blind call u v x = ap (λ r. if is_broken_for (word_of call) x.stack then Some (Fault Econnreset) else (if is_tcp_done (word_of call) then zero_when x.shut else (if is_send (word_of call) then zero_when (is_sent x.stack) else (if is_tcp_close (word_of call) then zero_when (x.shut && has_ended x.stack) else answer_said r)))) (said_blind call u v x.stack)
 
 module _ {V : Type 0} where
@@ -154,24 +155,29 @@ module _ {V : Type 0} where
   abbrev pub with_look : World V → Links → Stream → World V
   with_look w l u = record w { links = l; random = u }
 
-  choice_same : (w : World V) (l : Links) (u : Stream) (index : ℕ) (all : List Clause) → choice_fault (with_look w l u) index all ≡ choice_fault w index all
-  choice_same w l u index [] = refl
-  choice_same w l u index (x ∷ xs) = ap (λ o. if_some (clause_fault w (end_of_clause x) (want_of x)) o (λ e. Some (Chosen index (Some e) None))) (choice_same w l u (index + 1) xs)
+  -- a world but for its coroutines, its links and what no answer looks at
+  abbrev pub aside : World V → List (Coroutine V) → Links → Stream → Place → List ℕ → ℕ → List Note → World V
+  aside w cs l u place wrote moment notes = record w { coroutines = cs; links = l; random = u; place = place; wrote = wrote; moment = moment; notes = notes }
 
-  own_stays : (w : World V) (l : Links) (u : Stream) (call : Call) → (link_answer w call ≡ None → link_answer (with_look w l u) call ≡ None) → own_answer w call ≡ None → own_answer (with_look w l u) call ≡ None
-  own_stays w l u (calls.BundleWait number deadline) h e = e
-  own_stays w l u (calls.Hclose number) h e = e
-  own_stays w l u (calls.Chsend number bytes deadline) h e = e
-  own_stays w l u (calls.Chrecv number size deadline) h e = e
-  own_stays w l u (calls.Choose deadline all) h e = choice_same w l u 0 all ∙ e
-  own_stays w l u call h e = h e
+  module _ (w : World V) (cs : List (Coroutine V)) (l : Links) (u : Stream) (place : Place) (wrote : List ℕ) (moment : ℕ) (notes : List Note) where
+    choice_same : (index : ℕ) (all : List Clause) → choice_fault (aside w cs l u place wrote moment notes) index all ≡ choice_fault w index all
+    choice_same index [] = refl
+    choice_same index (x ∷ xs) = ap (λ o. if_some (clause_fault w (end_of_clause x) (want_of x)) o (λ e. Some (Chosen index (Some e) None))) (choice_same (index + 1) xs)
 
-  of_stays : (w : World V) (l : Links) (u : Stream) (who : ℕ) (call : Call) → (link_answer w call ≡ None → link_answer (with_look w l u) call ≡ None) → answer_of w who call ≡ None → answer_of (with_look w l u) who call ≡ None
-  of_stays w l u who call h e =
-      let a = or_none (when (blocks (word_of call) && is_cancelled w who) (Fault Ecanceled)) (option_or (when (lost_its_number w call) (Fault Ebadf)) (own_answer w call)) e in
-      let b = or_none (when (lost_its_number w call) (Fault Ebadf)) (own_answer w call) a.1 in
-      none_or (when (blocks (word_of call) && is_cancelled w who) (Fault Ecanceled)) (option_or (when (lost_its_number w call) (Fault Ebadf)) (own_answer (with_look w l u) call)) a.0
-      (none_or (when (lost_its_number w call) (Fault Ebadf)) (own_answer (with_look w l u) call) b.0 (own_stays w l u call h b.1))
+    own_aside : (call : Call) → (link_answer w call ≡ None → link_answer (aside w cs l u place wrote moment notes) call ≡ None) → own_answer w call ≡ None → own_answer (aside w cs l u place wrote moment notes) call ≡ None
+    own_aside (calls.BundleWait number deadline) h e = e
+    own_aside (calls.Hclose number) h e = e
+    own_aside (calls.Chsend number bytes deadline) h e = e
+    own_aside (calls.Chrecv number size deadline) h e = e
+    own_aside (calls.Choose deadline all) h e = choice_same 0 all ∙ e
+    own_aside call h e = h e
+
+    pub of_aside : (who : ℕ) (call : Call) → (link_answer w call ≡ None → link_answer (aside w cs l u place wrote moment notes) call ≡ None) → answer_of w who call ≡ None → answer_of (aside w cs l u place wrote moment notes) who call ≡ None
+    of_aside who call h e =
+        let a = or_none (when (blocks (word_of call) && is_cancelled w who) (Fault Ecanceled)) (option_or (when (lost_its_number w call) (Fault Ebadf)) (own_answer w call)) e in
+        let b = or_none (when (lost_its_number w call) (Fault Ebadf)) (own_answer w call) a.1 in
+        none_or (when (blocks (word_of call) && is_cancelled w who) (Fault Ecanceled)) (option_or (when (lost_its_number w call) (Fault Ebadf)) (own_answer (aside w cs l u place wrote moment notes) call)) a.0
+        (none_or (when (lost_its_number w call) (Fault Ebadf)) (own_answer (aside w cs l u place wrote moment notes) call) b.0 (own_aside call h b.1))
 
   -- the answer of the link, where nothing else is due
   own_is : (w : World V) (call : Call) → is_on_stack (word_of call) ≡ true → own_answer w call ≡ None → link_answer w call ≡ None
@@ -426,7 +432,7 @@ module _ {V : Type 0} where
               links = (behind w call f).links;
               random = (behind w call f).random;
               same = refl;
-              waits = λ d j more g. of_stays w (behind w call f).links (behind w call f).random d.number more (link_stays laws w call f more need (alone_at w cs r c d call more i j e g rc f)) (waits d j more g);
+              waits = λ d j more g. of_aside w w.coroutines (behind w call f).links (behind w call f).random w.place w.wrote w.moment w.notes d.number more (link_stays laws w call f more need (alone_at w cs r c d call more i j e g rc f)) (waits d j more g);
               calm = kept need;
             })
           where

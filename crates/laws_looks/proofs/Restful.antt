@@ -43,7 +43,7 @@ use Rattle.dill_rules.specs.Entering.{late_answer}
 use Rattle.dill_rules.specs.Expiring.{expire_one}
 use Rattle.dill_rules.specs.Settling.{IsSettled, highest_first, is_owned_by, can_finish, free_all, release_all, outcome_of, leave, finish, answer_due, give_first, settle_one, settle_within, settle, pass_all}
 use Rattle.dill_stack.specs.Again.{LooksAgain}
-use Rattle.laws_queue.specs.Well.{bit}
+use Rattle.laws_queue.specs.Well.{bit, Numbered}
 use Rattle.laws_queue.proofs.Besides.{pass_all_besides}
 use Rattle.laws_queue.proofs.Settling.{settles_all}
 use Rattle.laws_sound.specs.Order.{IsInOrder}
@@ -160,19 +160,19 @@ module _ {V : Type 0} where
     stacks = λ l y i. (y, i, refl);
   }
 
-  calmly_mark : (w : World V) (l : ℕ) → Calmly w (on_link w l as_closing)
-  calmly_mark w l = record {
+  pub calmly_mark : (w : World V) (l : ℕ) (mark : Link → Link) → ((x : Link) → (mark x).number ≡ x.number) → ((x : Link) → (mark x).stack ≡ x.stack) → Calmly w (on_link w l mark)
+  calmly_mark w l mark number stack = record {
     random = refl;
     pends = λ who call p. record { one = p.one; there = p.there; number = p.number; mode = p.mode };
     names = λ n m p. record { entry = p.entry; there = p.there; number = p.number; link = p.link };
-    stacks = λ m y i. marked as_closing (λ x. refl) (λ x. refl) l m w.links.all y i;
+    stacks = λ m y i. marked mark number stack l m w.links.all y i;
   }
 
   calmly_drop : (w : World V) (thing : Thing) → Calmly w (drop w thing)
   calmly_drop w (things.Bundle name) = calmly_same w w refl refl refl refl
   calmly_drop w (things.End end) = calmly_same w _ refl refl refl refl
-  calmly_drop w (things.Listener l) = calmly_mark w l
-  calmly_drop w (things.Socket l) = calmly_mark w l
+  calmly_drop w (things.Listener l) = calmly_mark w l as_closing (λ x. refl) (λ x. refl)
+  calmly_drop w (things.Socket l) = calmly_mark w l as_closing (λ x. refl) (λ x. refl)
   calmly_drop w (things.Value kind value) = calmly_same w w refl refl refl refl
 
   calmly_retire : (w : World V) (number : ℕ) → Calmly w (record w { handles = handles.retire w.handles number })
@@ -210,7 +210,7 @@ module _ {V : Type 0} where
     where
       at : (less : World V) (o : Option Link) → Calmly less (if_some o (record less { links = link.unkeep less.links }) (λ x. on_link less x.number as_closing))
       at less None = record { random = refl; pends = λ who call p. record { one = p.one; there = p.there; number = p.number; mode = p.mode }; names = λ n l p. record { entry = p.entry; there = p.there; number = p.number; link = p.link }; stacks = λ l y i. (y, i, refl) }
-      at less (Some x) = calmly_mark less x.number
+      at less (Some x) = calmly_mark less x.number as_closing (λ y. refl) (λ y. refl)
 
   calmly_free : (w : World V) (x : Closing) → Calmly w (free_bundle w x)
   calmly_free w x = calmly_same w (free_bundle w x) refl refl refl refl
@@ -470,7 +470,7 @@ module _ {V : Type 0} where
   -- ---- whole steps
 
   -- answers that get their place
-  calmly_lined : (w : World V) → Calmly w (record w { coroutines = map lined w.coroutines })
+  pub calmly_lined : (w : World V) → Calmly w (record w { coroutines = map lined w.coroutines })
   calmly_lined w = record {
     random = refl;
     pends = (fewer_lined w).calls;
@@ -550,14 +550,18 @@ module _ {V : Type 0} where
       let v = pass_all w in
       subst IsInOrder (ap (λ (x : World V). record x { links = w.links; random = w.random }) b.same) (order_anyway v v.channels w.links v.place v.wrote w.random v.moment v.notes o)
 
-  settles : LooksAgain → (w : World V) → IsOrderly w → LooksApart w → IsSettled (settle w) × Restful (settle w)
-  settles laws w g a =
+  -- where the numbers of coroutines rise, and the world behind the settling is in order
+  pub settles_from : LooksAgain → (w : World V) → Numbered 0 w.coroutines w.last_coroutine → IsInOrder (settle w) → LooksApart w → IsSettled (settle w) × Restful (settle w)
+  settles_from laws w numbered order a =
       let n = length w.coroutines in
       let v = settle_within n w in
-      let o = before_looks v (settle_goes w g).good.order in
+      let o = before_looks v order in
       let apart = fewer_apart w v (fewer_within n w) a in
-      let s = settles_all V w g.order.fits.numbered in
+      let s = settles_all V w numbered in
       (passed_settled laws v o.fits.numbered apart s, rested laws v o apart s)
+
+  settles : LooksAgain → (w : World V) → IsOrderly w → LooksApart w → IsSettled (settle w) × Restful (settle w)
+  settles laws w g a = settles_from laws w g.order.fits.numbered (settle_goes w g).good.order a
 
 pub draws_nothing : {V : Type 0} → LooksAgain → DrawsNothing V
 draws_nothing laws = record {

@@ -52,24 +52,25 @@ rising_change f number n (x ∷ xs) low high r = at (is_link n x) (rising_change
     at true rest = subst (λ m. (low < m) × Rising m xs high) (sym (number x)) r
     at false rest = (r.0, rest)
 
-sorts_change : (f : Link → Link) → ((x : Link) → (f x).number ≡ x.number) → ((x : Link) → (f x).sort ≡ x.sort) → (n k : ℕ) (xs : List Link) → if_some (find (is_link k) (change (is_link n) f xs)) true is_open ≡ if_some (find (is_link k) xs) true is_open
-sorts_change f number sort n k [] = refl
-sorts_change f number sort n k (y ∷ ys) = at (is_link n y) (sorts_change f number sort n k ys)
+-- what a change leaves of each link is so of the one that is found
+pub found_alike : {A : Type 0} (f : Link → Link) (d : A) (g : Link → A) → ((x : Link) → (f x).number ≡ x.number) → ((x : Link) → g (f x) ≡ g x) → (n k : ℕ) (xs : List Link) → if_some (find (is_link k) (change (is_link n) f xs)) d g ≡ if_some (find (is_link k) xs) d g
+found_alike f d g number same n k [] = refl
+found_alike f d g number same n k (y ∷ ys) = at (is_link n y) (found_alike f d g number same n k ys)
   where
-    here : (b : Bool) → if_some (cond b (Some (f y)) (find (is_link k) ys)) true is_open ≡ if_some (cond b (Some y) (find (is_link k) ys)) true is_open
-    here true = ap (λ s. is_none (connector s)) (sort y)
+    here : (b : Bool) → if_some (cond b (Some (f y)) (find (is_link k) ys)) d g ≡ if_some (cond b (Some y) (find (is_link k) ys)) d g
+    here true = same y
     here false = refl
 
-    there : (b : Bool) → if_some (find (is_link k) (change (is_link n) f ys)) true is_open ≡ if_some (find (is_link k) ys) true is_open → if_some (cond b (Some y) (find (is_link k) (change (is_link n) f ys))) true is_open ≡ if_some (cond b (Some y) (find (is_link k) ys)) true is_open
+    there : (b : Bool) → if_some (find (is_link k) (change (is_link n) f ys)) d g ≡ if_some (find (is_link k) ys) d g → if_some (cond b (Some y) (find (is_link k) (change (is_link n) f ys))) d g ≡ if_some (cond b (Some y) (find (is_link k) ys)) d g
     there true e = refl
     there false e = e
 
-    at : (b : Bool) → if_some (find (is_link k) (change (is_link n) f ys)) true is_open ≡ if_some (find (is_link k) ys) true is_open → if_some (find (is_link k) (cond b (f y ∷ ys) (y ∷ change (is_link n) f ys))) true is_open ≡ if_some (cond (is_link k y) (Some y) (find (is_link k) ys)) true is_open
-    at true e = ap (λ m. if_some (cond (m == k) (Some (f y)) (find (is_link k) ys)) true is_open) (number y) ∙ here (is_link k y)
+    at : (b : Bool) → if_some (find (is_link k) (change (is_link n) f ys)) d g ≡ if_some (find (is_link k) ys) d g → if_some (find (is_link k) (cond b (f y ∷ ys) (y ∷ change (is_link n) f ys))) d g ≡ if_some (cond (is_link k y) (Some y) (find (is_link k) ys)) d g
+    at true e = ap (λ m. if_some (cond (m == k) (Some (f y)) (find (is_link k) ys)) d g) (number y) ∙ here (is_link k y)
     at false e = there (is_link k y) e
 
 pub stays_change : (l : Links) (n : ℕ) (f : Link → Link) → ((x : Link) → (f x).number ≡ x.number) → ((x : Link) → (f x).sort ≡ x.sort) → Stays l (change_link l n f)
-stays_change l n f number sort = record { rising = rising_change f number n l.all 0 l.last; names = λ k. ap (λ b. nat_le k l.last && b) (sorts_change f number sort n k l.all) }
+stays_change l n f number sort = record { rising = rising_change f number n l.all 0 l.last; names = λ k. ap (λ b. nat_le k l.last && b) (found_alike f true is_open number (λ x. ap (λ s. is_none (connector s)) (sort x)) n k l.all) }
 
 pub stays_kept : (l : Links) (kept : ℕ) → Stays l (record l { kept = kept })
 stays_kept l kept = record { rising = λ r. r; names = λ n. refl }

@@ -1,4 +1,4 @@
-ghost use Rattle.laws_looks.specs.Calm.{DrawsNothing};
+ghost use Rattle.laws_looks.specs.Calm.{DrawsNothing, KeepsCalm};
 ghost use Rattle.laws_looks.specs.Readers.{KeepsApart, LooksSettle};
 
 use dill_calls::Body;
@@ -21,6 +21,13 @@ pub fn steps_keep_apart<B: Body>()
 /// and the closing of the root draw no random number.
 pub fn draws_nothing<B: Body>()
     ensures { DrawsNothing B }
+{
+    again_laws();
+}
+
+/// Between any two steps nothing is due and no look finds anything, whatever is called and whatever the kernel replies.
+pub fn steps_keep_calm<B: Body>()
+    ensures { KeepsCalm B.means }
 {
     again_laws();
 }

@@ -4,4 +4,4 @@
 
 mod laws;
 
-pub use laws::{draws_nothing, looks_settle, steps_keep_apart};
+pub use laws::{draws_nothing, looks_settle, steps_keep_apart, steps_keep_calm};
