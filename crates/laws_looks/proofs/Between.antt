@@ -45,7 +45,7 @@ use Rattle.laws_sound.proofs.Stepping.{order_queued, order_root_closed, passed_t
 use Rattle.laws_looks.specs.Readers.{In, LooksApart}
 use Rattle.laws_looks.specs.Calm.{Restful, IsCalm, StepsKeepCalm}
 use Rattle.laws_looks.proofs.Lists.{none_first, find_none, in_map}
-use Rattle.laws_looks.proofs.Stays.{found_alike, on_link_stays}
+use Rattle.laws_looks.proofs.Stays.{found_alike, stays_change}
 use Rattle.laws_looks.proofs.Fewer.{fewer_parts, fewer_same, fewer_lined, fewer_expire, fewer_settle, fewer_apart}
 use Rattle.laws_looks.proofs.Quieted.{aside, of_aside, due_as, due_waits, answer_blind}
 use Rattle.laws_looks.proofs.Enters.{go_on_apart}
@@ -165,7 +165,7 @@ module _ {V : Type 0} where
       let f = heated x.read x.write in
       let v = on_link w x.link f in
       calm_heated xs v (record {
-        apart = fewer_apart w v (fewer_parts w v refl refl (on_link_stays w x.link f (λ y. refl) (λ y. refl))) c.apart;
+        apart = fewer_apart w v (fewer_parts w v refl refl (stays_change w.links x.link f (λ y. refl) (λ y. refl))) c.apart;
         settled = settled_beside w v.links w.random w.place w.wrote w.moment w.notes (heat_answers w x.link x.read x.write) c.settled;
         restful = calmly_rests w v (calmly_mark w x.link f (λ y. refl) (λ y. refl)) c.restful;
       })

@@ -44,7 +44,7 @@ use Rattle.laws_sound.proofs.Counting.{small_bit, holds, weigh_filter, weigh_pus
 use Rattle.laws_sound.proofs.Noting.{drop_handles, take_handles}
 use Rattle.laws_looks.specs.Readers.{In, Pends, NamedOnce, times_linked, may_name, LooksApart}
 use Rattle.laws_looks.proofs.Lists.{itself, equal_is, unequal_is, in_without, in_change, in_map}
-use Rattle.laws_looks.proofs.Stays.{Stays, stays_same, stays_then, stays_kept, on_link_stays, on_named_stays, look_stays, pass_all_stays, drop_stays}
+use Rattle.laws_looks.proofs.Stays.{Stays, LinksStay, stays_same, stays_then, stays_kept, stays_change, on_named_stays, look_stays, pass_all_stays, drop_stays}
 
 -- a handle of the link
 abbrev pub links_to : ℕ → Entry Thing → ℕ
@@ -86,8 +86,8 @@ module _ {V : Type 0} where
     stays = stays_then w.links v.links u.links a.stays b.stays;
   }
 
-  pub fewer_besides : (w v : World V) → Besides w v → Stays w.links v.links → Fewer w v
-  fewer_besides w v b s = fewer_parts w v (ap (λ (x : World V). x.coroutines) b.same) (ap (λ (x : World V). x.handles.entries) b.same) s
+  pub fewer_besides : (w v : World V) → Besides w v → LinksStay w v → Fewer w v
+  fewer_besides w v b s = fewer_parts w v (ap (λ (x : World V). x.coroutines) b.same) (ap (λ (x : World V). x.handles.entries) b.same) s.stays
 
   pub fewer_some : {A : Type 0} (o : Option A) (w : World V) (f : A → World V) → ((a : A) → Fewer w (f a)) → Fewer w (if_some o w f)
   fewer_some None w f h = fewer_not w
@@ -182,7 +182,7 @@ module _ {V : Type 0} where
       let up = if_some (named_by call) v (λ number. release less number) in
       replied w up who (word_of call) (Fault e) (fewer_then w v up f (fewer_some (named_by call) v (λ number. release less number) (λ number. fewer_then v less (release less number) (fewer_kept v kept) (fewer_release less number))))
 
-  fewer_looked : (w : World V) (call : Call) → Fewer w (look_on w call)
+  pub fewer_looked : (w : World V) (call : Call) → Fewer w (look_on w call)
   fewer_looked w call = fewer_besides w (look_on w call) (look_besides w call) (look_stays w call)
 
   fewer_attached : (w : World V) (who : ℕ) (call : Call) (answer : Answer) → Fewer w (give_attached w who call answer)
@@ -206,7 +206,7 @@ module _ {V : Type 0} where
     where
       at : (less : World V) (o : Option link.Link) → Fewer less (if_some o (record less { links = link.unkeep less.links }) (λ x. on_link less x.number as_closing))
       at less None = fewer_parts less (record less { links = link.unkeep less.links }) refl refl (stays_kept less.links (link.unkeep less.links).kept)
-      at less (Some x) = fewer_parts less (on_link less x.number as_closing) refl refl (on_link_stays less x.number as_closing (λ y. refl) (λ y. refl))
+      at less (Some x) = fewer_parts less (on_link less x.number as_closing) refl refl (stays_change less.links x.number as_closing (λ y. refl) (λ y. refl))
 
   fewer_class : (w : World V) (who : ℕ) (call : Call) (answer : Answer) → Fewer w (give_class w who call answer)
   fewer_class w who call answer =
@@ -214,7 +214,7 @@ module _ {V : Type 0} where
       let sent = if_some (named_by call) w (λ number. on_named w number (with_stack (after_send word answer))) in
       let read = if is_read answer then look_on w call else w in
       fewer_if (is_send word) w (give_send w who call answer) _
-      (replied w sent who word answer (fewer_some (named_by call) w (λ number. on_named w number (with_stack (after_send word answer))) (λ number. fewer_besides w (on_named w number (with_stack (after_send word answer))) (on_named_besides w number (with_stack (after_send word answer))) (on_named_stays w number (with_stack (after_send word answer)) (λ x. refl) (λ x. refl)))))
+      (replied w sent who word answer (fewer_some (named_by call) w (λ number. on_named w number (with_stack (after_send word answer))) (λ number. fewer_besides w (on_named w number (with_stack (after_send word answer))) (on_named_besides w number (with_stack (after_send word answer))) (on_named_stays w number (with_stack (after_send word answer)) (λ x. refl) (λ x. refl) (λ x. refl)))))
       (fewer_if (is_receive word) w (give_receive w who call answer) _ (replied w read who word answer (fewer_if (is_read answer) w (look_on w call) w (fewer_looked w call) (fewer_not w)))
       (fewer_if (is_tcp_close word) w (give_closed w who call answer) _ (fewer_closed w who call answer)
       (fewer_if (is_handshake word || gives_up word) w (give_attached w who call answer) _ (fewer_attached w who call answer)
@@ -244,7 +244,7 @@ module _ {V : Type 0} where
           gone : (who : ℕ) (call : Call) → Pends (record w { coroutines = without (is_coroutine c.number) w.coroutines; scopes = (leave w c).scopes }) who call → Pends w who call
           gone who call p = record { one = p.one; there = in_without (is_coroutine c.number) w.coroutines p.one p.there; number = p.number; mode = p.mode }
 
-  fewer_finish : (w : World V) (c : Coroutine V) → Fewer w (finish w c)
+  pub fewer_finish : (w : World V) (c : Coroutine V) → Fewer w (finish w c)
   fewer_finish w c =
       let freed = free_all w c.number in
       let bare = release_all freed c.number in

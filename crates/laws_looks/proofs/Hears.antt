@@ -30,7 +30,7 @@ use Rattle.laws_queue.proofs.Besides.{heat_all_besides}
 use Rattle.laws_sound.proofs.Counting.{holds, weigh_push}
 use Rattle.laws_looks.specs.Readers.{times_linked, may_name, LooksApart}
 use Rattle.laws_looks.proofs.Lists.{equal_is}
-use Rattle.laws_looks.proofs.Stays.{Opens, opens_add, opens_gone, opens_stream, on_link_stays, heat_all_stays}
+use Rattle.laws_looks.proofs.Stays.{Opens, opens_add, opens_gone, opens_stream, stays_change, heat_all_stays}
 use Rattle.laws_looks.proofs.Fewer.{links_to, weigh_linked, pends_same, fewer_parts, fewer_same, fewer_besides, fewer_reply, fewer_give, fewer_apart}
 
 bits_follow : (b c : Bool) → (b ≡ true → c ≡ true) → bit b ≤ bit c
@@ -108,7 +108,7 @@ module _ {V : Type 0} where
   some_apart (Some x) w f a h = h x refl
 
   changed : (w : World V) (n : ℕ) (f : Link → Link) → ((x : Link) → (f x).number ≡ x.number) → ((x : Link) → (f x).sort ≡ x.sort) → LooksApart w → LooksApart (on_link w n f)
-  changed w n f number sort a = fewer_apart w (on_link w n f) (fewer_parts w (on_link w n f) refl refl (on_link_stays w n f number sort)) a
+  changed w n f number sort a = fewer_apart w (on_link w n f) (fewer_parts w (on_link w n f) refl refl (stays_change w.links n f number sort)) a
 
   listened : (w : World V) (who : ℕ) (said : KernelReply) → LooksApart w → LooksApart (heard_listen w who said)
   listened w who (replies.Failed fault) a = failed w (listen_fault fault) who a

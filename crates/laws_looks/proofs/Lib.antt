@@ -9,3 +9,5 @@ pub mod Hears
 pub mod Restful
 pub mod Steps
 pub mod Between
+pub mod Counted
+pub mod Asked

@@ -1,11 +1,11 @@
 -- Numbers, tests and members of lists, as the laws of looks use them.
-use Rattle.std.proofs.Common.{◌≡◌, ◌∙◌, ◌⊎◌, inl, inr, ℕ, ◌==◌, ◌<◌, List, [], ◌∷◌, ◌++◌, find, cond, Bool, true, false, not, ◌&&◌, Option, Some, None, refl, sym, ap, arith}
-use Rattle.std.specs.Prelude.{map}
+use Rattle.std.proofs.Common.{◌≡◌, ◌∙◌, ◌⊎◌, inl, inr, ℕ, ◌==◌, ◌<◌, List, [], ◌∷◌, ◌++◌, find, cond, Bool, true, false, not, ◌&&◌, Option, Some, None, refl, sym, ap, subst, arith}
+use Rattle.std.specs.Prelude.{map, filter, filter_map}
 use Rattle.std.specs.Option.{option_or}
 use Rattle.std.specs.List.{list_any}
 use Rattle.std.proofs.lemmas.Bool.{or_parts}
 use Rattle.std.proofs.lemmas.Bool.Decides.{nat_tests}
-use Rattle.dill_base.specs.Maps.{change, without, first_some}
+use Rattle.dill_base.specs.Maps.{if_some, change, without, first_some}
 use Rattle.laws_looks.specs.Readers.{In}
 
 pub itself : (n : ℕ) → (n == n) ≡ true
@@ -96,7 +96,7 @@ in_push (z ∷ zs) y x (inr i) = at (in_push zs y x i)
     at (inl j) = inl (inr j)
     at (inr same) = inr same
 
-pub in_map : {X : Type 0} (f : X → X) (xs : List X) (x : X) → In x (map f xs) → (y : X) × In y xs × (x ≡ f y)
+pub in_map : {X Y : Type 0} (f : X → Y) (xs : List X) (x : Y) → In x (map f xs) → (y : X) × In y xs × (x ≡ f y)
 in_map f [] x i = absurd i
 in_map f (y ∷ ys) x (inl same) = (y, inl refl, same)
 in_map f (y ∷ ys) x (inr i) = let r = in_map f ys x i in (r.0, inr r.1, r.2)
@@ -130,3 +130,37 @@ find_none f (y ∷ ys) e x i = at (f y) refl e i (find_none f ys)
     at true g h j rest = cc
     at false g h (inl same) rest = ap f same ∙ g
     at false g h (inr j) rest = rest h x j
+
+pub in_append : {X : Type 0} (xs ys : List X) (x : X) → In x (xs ++ ys) → In x xs ⊎ In x ys
+in_append [] ys x i = inr i
+in_append (z ∷ zs) ys x (inl same) = inl (inl same)
+in_append (z ∷ zs) ys x (inr i) = at (in_append zs ys x i)
+  where
+    at : In x zs ⊎ In x ys → ((x ≡ z) ⊎ In x zs) ⊎ In x ys
+    at (inl j) = inl (inr j)
+    at (inr j) = inr j
+
+pub in_filter : {X : Type 0} (test : X → Bool) (xs : List X) (x : X) → In x (filter test xs) → In x xs × (test x ≡ true)
+in_filter test [] x i = absurd i
+in_filter test (y ∷ ys) x i = at (test y) refl i (in_filter test ys x)
+  where
+    at : (b : Bool) → test y ≡ b → In x (cond b (y ∷ filter test ys) (filter test ys)) → (In x (filter test ys) → In x ys × (test x ≡ true)) → ((x ≡ y) ⊎ In x ys) × (test x ≡ true)
+    at true e (inl same) rest = (inl same, ap test same ∙ e)
+    at true e (inr j) rest = let r = rest j in (inr r.0, r.1)
+    at false e j rest = let r = rest j in (inr r.0, r.1)
+
+picked : {X Y : Type 0} (f : X → Option Y) (x : X) (xs : List X) → filter_map f (x ∷ xs) ≡ if_some (f x) (filter_map f xs) (λ y. y ∷ filter_map f xs)
+picked f x xs = at (f x) refl
+  where
+    at : (o : Option _) → f x ≡ o → filter_map f (x ∷ xs) ≡ if_some o (filter_map f xs) (λ y. y ∷ filter_map f xs)
+    at None e = rw e refl
+    at (Some y) e = rw e refl
+
+pub in_picked : {X Y : Type 0} (f : X → Option Y) (xs : List X) (y : Y) → In y (filter_map f xs) → (x : X) × In x xs × (f x ≡ Some y)
+in_picked f [] y i = absurd i
+in_picked f (x ∷ xs) y i = at (f x) refl (subst (In y) (picked f x xs) i) (in_picked f xs y)
+  where
+    at : (o : Option _) → f x ≡ o → In y (if_some o (filter_map f xs) (λ z. z ∷ filter_map f xs)) → (In y (filter_map f xs) → (z : _) × In z xs × (f z ≡ Some y)) → (z : _) × ((z ≡ x) ⊎ In z xs) × (f z ≡ Some y)
+    at None e j rest = let r = rest j in (r.0, inr r.1, r.2)
+    at (Some z) e (inl same) rest = (x, inl refl, e ∙ ap Some (sym same))
+    at (Some z) e (inr j) rest = let r = rest j in (r.0, inr r.1, r.2)

@@ -16,7 +16,7 @@ use Rattle.dill_rules.specs.declared.coroutine.Coroutine.{Coroutine}
 use Rattle.dill_rules.specs.declared.thing.Thing.{Thing}
 use Rattle.dill_rules.specs.declared.thing.Thing.TheVariants as things
 use Rattle.dill_rules.specs.Directions.{is_send, is_first, is_end, message_of, line_said, parting_of}
-use Rattle.dill_rules.specs.Giving.{look_on}
+use Rattle.dill_rules.specs.Giving.{is_connecting_for, look_on}
 use Rattle.dill_rules.specs.Hearing.{heat_ready}
 use Rattle.dill_rules.specs.LinkAnswers.{is_on_stack, look_of}
 use Rattle.dill_rules.specs.Linking.{if_ok, with_random, put, ask_stack, heat, queue, queue_end, queue_line, queue_message, dropped_for}
@@ -26,7 +26,10 @@ use Rattle.dill_rules.specs.Owning.{drop}
 use Rattle.dill_rules.specs.Settling.{pass_one, pass_all}
 use Rattle.dill_rules.specs.Sockets.{link_number, stack_of, on_link, on_named}
 use Rattle.dill_rules.specs.World.{World, pending_call}
+use Rattle.laws_queue.specs.Well.{bit}
+use Rattle.laws_sound.specs.Orderly.{weigh}
 use Rattle.laws_looks.specs.Readers.{Rising, may_name}
+use Rattle.laws_looks.specs.Kept.{connects_for}
 use Rattle.laws_queue.proofs.Numbers.{found_changed}
 use Rattle.laws_looks.proofs.Lists.{equal_is, less_unequal, itself, some_none}
 
@@ -72,13 +75,40 @@ found_alike f d g number same n k (y ∷ ys) = at (is_link n y) (found_alike f d
 pub stays_change : (l : Links) (n : ℕ) (f : Link → Link) → ((x : Link) → (f x).number ≡ x.number) → ((x : Link) → (f x).sort ≡ x.sort) → Stays l (change_link l n f)
 stays_change l n f number sort = record { rising = rising_change f number n l.all 0 l.last; names = λ k. ap (λ b. nat_le k l.last && b) (found_alike f true is_open number (λ x. ap (λ s. is_none (connector s)) (sort x)) n k l.all) }
 
+weigh_same : (g : Link → ℕ) (f : Link → Link) → ((x : Link) → g (f x) ≡ g x) → (test : Link → Bool) (xs : List Link) → weigh g (change test f xs) ≡ weigh g xs
+weigh_same g f same test [] = refl
+weigh_same g f same test (x ∷ xs) = at (test x) (weigh_same g f same test xs)
+  where
+    at : (b : Bool) → weigh g (change test f xs) ≡ weigh g xs → weigh g (cond b (f x ∷ xs) (x ∷ change test f xs)) ≡ g x + weigh g xs
+    at true e = ap (λ k. k + weigh g xs) (same x)
+    at false e = ap (λ k. g x + k) e
+
+-- and no link begins to close, and as many are kept
+pub record Soft (l m : Links) : Type 0 where
+  pub stays : Stays l m
+  pub kept : m.kept ≡ l.kept
+  pub connects : (who : ℕ) → connects_for m who ≡ connects_for l who
+
+pub soft_same : (l : Links) → Soft l l
+soft_same l = record { stays = stays_same l; kept = refl; connects = λ who. refl }
+
+pub soft_then : (l m k : Links) → Soft l m → Soft m k → Soft l k
+soft_then l m k a b = record { stays = stays_then l m k a.stays b.stays; kept = b.kept ∙ a.kept; connects = λ who. b.connects who ∙ a.connects who }
+
+pub soft_change : (l : Links) (n : ℕ) (f : Link → Link) → ((x : Link) → (f x).number ≡ x.number) → ((x : Link) → (f x).sort ≡ x.sort) → ((x : Link) → (f x).closing ≡ x.closing) → Soft l (change_link l n f)
+soft_change l n f number sort closing = record {
+  stays = stays_change l n f number sort;
+  kept = refl;
+  connects = λ who. weigh_same (λ x. bit (is_connecting_for who x)) f (λ x. ap (λ b. bit (not b && if_some (connector (f x).sort) false (λ m. m == who))) (closing x) ∙ ap (λ t. bit (not x.closing && if_some (connector t) false (λ m. m == who))) (sort x)) (is_link n) l.all;
+}
+
 pub stays_kept : (l : Links) (kept : ℕ) → Stays l (record l { kept = kept })
 stays_kept l kept = record { rising = λ r. r; names = λ n. refl }
 
 module _ {V : Type 0} where
   -- so it is of the links of two worlds
   abbrev pub LinksStay : World V → World V → Type 0
-  LinksStay w v = Stays w.links v.links
+  LinksStay w v = Soft w.links v.links
 
   pub some_stays : {A : Type 0} (o : Option A) (w v : World V) (f : A → World V) → LinksStay w v → ((a : A) → LinksStay w (f a)) → LinksStay w (if_some o v f)
   some_stays None w v f e h = e
@@ -89,65 +119,65 @@ module _ {V : Type 0} where
   if_stays false w v u e f = f
 
   pub fold_stays : {A : Type 0} (f : World V → A → World V) (xs : List A) (w : World V) → ((v : World V) (a : A) → LinksStay v (f v a)) → LinksStay w (fold f w xs)
-  fold_stays f [] w h = stays_same w.links
-  fold_stays f (x ∷ xs) w h = stays_then w.links (f w x).links (fold f (f w x) xs).links (h w x) (fold_stays f xs (f w x) h)
+  fold_stays f [] w h = soft_same w.links
+  fold_stays f (x ∷ xs) w h = soft_then w.links (f w x).links (fold f (f w x) xs).links (h w x) (fold_stays f xs (f w x) h)
 
-  pub on_link_stays : (w : World V) (n : ℕ) (f : Link → Link) → ((x : Link) → (f x).number ≡ x.number) → ((x : Link) → (f x).sort ≡ x.sort) → LinksStay w (on_link w n f)
-  on_link_stays w n f number sort = stays_change w.links n f number sort
+  pub on_link_stays : (w : World V) (n : ℕ) (f : Link → Link) → ((x : Link) → (f x).number ≡ x.number) → ((x : Link) → (f x).sort ≡ x.sort) → ((x : Link) → (f x).closing ≡ x.closing) → LinksStay w (on_link w n f)
+  on_link_stays w n f number sort closing = soft_change w.links n f number sort closing
 
-  pub on_named_stays : (w : World V) (number : ℕ) (f : Link → Link) → ((x : Link) → (f x).number ≡ x.number) → ((x : Link) → (f x).sort ≡ x.sort) → LinksStay w (on_named w number f)
-  on_named_stays w number f same sort = some_stays (link_number w number) w w (λ l. on_link w l f) (stays_same w.links) (λ l. on_link_stays w l f same sort)
+  pub on_named_stays : (w : World V) (number : ℕ) (f : Link → Link) → ((x : Link) → (f x).number ≡ x.number) → ((x : Link) → (f x).sort ≡ x.sort) → ((x : Link) → (f x).closing ≡ x.closing) → LinksStay w (on_named w number f)
+  on_named_stays w number f same sort closing = some_stays (link_number w number) w w (λ l. on_link w l f) (soft_same w.links) (λ l. on_link_stays w l f same sort closing)
 
   put_stays : (w : World V) (number : ℕ) (now : Held × Stream) → LinksStay w (put w number now)
-  put_stays w number now = on_named_stays w number (with_stack (λ old. now.0)) (λ x. refl) (λ x. refl)
+  put_stays w number now = on_named_stays w number (with_stack (λ old. now.0)) (λ x. refl) (λ x. refl) (λ x. refl)
 
   ok_stays : (r : Result (Held × Stream) Errno) (w : World V) (f : Held × Stream → World V) → ((x : Held × Stream) → LinksStay w (f x)) → LinksStay w (if_ok r w f)
   ok_stays (Ok x) w f h = h x
-  ok_stays (Err e) w f h = stays_same w.links
+  ok_stays (Err e) w f h = soft_same w.links
 
   pub ask_stays : (w : World V) (call : Call) (f : Stream → Held → Result (Held × Stream) Errno) → LinksStay w (ask_stack w call f)
   ask_stays w call f =
-      some_stays (named_by call) w w (λ number. if_some (stack_of w call) w (λ s. if_ok (f w.random s) w (put w number))) (stays_same w.links)
-      (λ number. some_stays (stack_of w call) w w (λ s. if_ok (f w.random s) w (put w number)) (stays_same w.links) (λ s. ok_stays (f w.random s) w (put w number) (put_stays w number)))
+      some_stays (named_by call) w w (λ number. if_some (stack_of w call) w (λ s. if_ok (f w.random s) w (put w number))) (soft_same w.links)
+      (λ number. some_stays (stack_of w call) w w (λ s. if_ok (f w.random s) w (put w number)) (soft_same w.links) (λ s. ok_stays (f w.random s) w (put w number) (put_stays w number)))
 
   pub heat_stays : (w : World V) (call : Call) (read write : Bool) → LinksStay w (heat w call read write)
-  heat_stays w call read write = some_stays (named_by call) w w (λ number. on_named w number (heated read write)) (stays_same w.links) (λ number. on_named_stays w number (heated read write) (λ x. refl) (λ x. refl))
+  heat_stays w call read write = some_stays (named_by call) w w (λ number. on_named w number (heated read write)) (soft_same w.links) (λ number. on_named_stays w number (heated read write) (λ x. refl) (λ x. refl) (λ x. refl))
 
   pub queue_stays : (w : World V) (call : Call) → LinksStay w (queue w call)
   queue_stays w call =
       some_stays (message_of call) w (if_some (line_said call) (if is_end (word_of call) then queue_end w call else w) (queue_line w call)) (queue_message w call)
       (some_stays (line_said call) w (if is_end (word_of call) then queue_end w call else w) (queue_line w call)
-      (if_stays (is_end (word_of call)) w (queue_end w call) w (ask_stays w call done) (stays_same w.links))
+      (if_stays (is_end (word_of call)) w (queue_end w call) w (ask_stays w call done) (soft_same w.links))
       (λ said. ask_stays w call (λ random s. with_random random (line (is_first said) (line_of said ++ crlf) s))))
       (λ m. ask_stays w call (λ random s. frame m random s))
 
   pub dropped_stays : (w : World V) (call : Call) → LinksStay w (dropped_for w call)
   dropped_stays w call =
       some_stays (parting_of call) w (if_some (named_by call) w (λ number. on_named w number (with_stack drop_unread))) (λ parting. w)
-      (some_stays (named_by call) w w (λ number. on_named w number (with_stack drop_unread)) (stays_same w.links) (λ number. on_named_stays w number (with_stack drop_unread) (λ x. refl) (λ x. refl)))
-      (λ parting. stays_same w.links)
+      (some_stays (named_by call) w w (λ number. on_named w number (with_stack drop_unread)) (soft_same w.links) (λ number. on_named_stays w number (with_stack drop_unread) (λ x. refl) (λ x. refl) (λ x. refl)))
+      (λ parting. soft_same w.links)
 
   pub look_stays : (w : World V) (call : Call) → LinksStay w (look_on w call)
   look_stays w call =
-      some_stays (named_by call) w w (λ number. if_some (stack_of w call) w (λ s. put w number ((look_of call w.random s).stack, (look_of call w.random s).random))) (stays_same w.links)
-      (λ number. some_stays (stack_of w call) w w (λ s. put w number ((look_of call w.random s).stack, (look_of call w.random s).random)) (stays_same w.links) (λ s. put_stays w number ((look_of call w.random s).stack, (look_of call w.random s).random)))
+      some_stays (named_by call) w w (λ number. if_some (stack_of w call) w (λ s. put w number ((look_of call w.random s).stack, (look_of call w.random s).random))) (soft_same w.links)
+      (λ number. some_stays (stack_of w call) w w (λ s. put w number ((look_of call w.random s).stack, (look_of call w.random s).random)) (soft_same w.links) (λ s. put_stays w number ((look_of call w.random s).stack, (look_of call w.random s).random)))
 
   pass_one_stays : (w : World V) (c : Coroutine V) → LinksStay w (pass_one w c)
   pass_one_stays w c =
-      some_stays (pending_call c.mode) w w (λ call. if is_on_stack (word_of call) && not (is_send (word_of call)) then look_on w call else w) (stays_same w.links)
-      (λ call. if_stays (is_on_stack (word_of call) && not (is_send (word_of call))) w (look_on w call) w (look_stays w call) (stays_same w.links))
+      some_stays (pending_call c.mode) w w (λ call. if is_on_stack (word_of call) && not (is_send (word_of call)) then look_on w call else w) (soft_same w.links)
+      (λ call. if_stays (is_on_stack (word_of call) && not (is_send (word_of call))) w (look_on w call) w (look_stays w call) (soft_same w.links))
 
   pub pass_all_stays : (w : World V) → LinksStay w (pass_all w)
   pass_all_stays w = fold_stays pass_one w.coroutines w pass_one_stays
 
   pub heat_all_stays : (ready : List Ready) (w : World V) → LinksStay w (fold heat_ready w ready)
-  heat_all_stays ready w = fold_stays heat_ready ready w (λ v x. on_link_stays v x.link (heated x.read x.write) (λ y. refl) (λ y. refl))
+  heat_all_stays ready w = fold_stays heat_ready ready w (λ v x. on_link_stays v x.link (heated x.read x.write) (λ y. refl) (λ y. refl) (λ y. refl))
 
-  pub drop_stays : (w : World V) (thing : Thing) → LinksStay w (drop w thing)
+  pub drop_stays : (w : World V) (thing : Thing) → Stays w.links (drop w thing).links
   drop_stays w (things.Bundle name) = stays_same w.links
   drop_stays w (things.End end) = stays_same w.links
-  drop_stays w (things.Listener l) = on_link_stays w l as_closing (λ x. refl) (λ x. refl)
-  drop_stays w (things.Socket l) = on_link_stays w l as_closing (λ x. refl) (λ x. refl)
+  drop_stays w (things.Listener l) = stays_change w.links l as_closing (λ x. refl) (λ x. refl)
+  drop_stays w (things.Socket l) = stays_change w.links l as_closing (λ x. refl) (λ x. refl)
   drop_stays w (things.Value kind value) = stays_same w.links
 
 -- ---- links that are made, that finish their `connect`, and that are gone

@@ -1,4 +1,5 @@
 ghost use Rattle.laws_looks.specs.Calm.{DrawsNothing, KeepsCalm};
+ghost use Rattle.laws_looks.specs.Kept.{SettlingKeepsLinks};
 ghost use Rattle.laws_looks.specs.Readers.{KeepsApart, LooksSettle};
 
 use dill_calls::Body;
@@ -31,3 +32,8 @@ pub fn steps_keep_calm<B: Body>()
 {
     again_laws();
 }
+
+/// As many links are kept as pending calls that make a link have none, and settling and expiries leave it so.
+pub fn settling_keeps_links<B: Body>()
+    ensures { SettlingKeepsLinks B }
+{}
