@@ -38,14 +38,14 @@ use Rattle.laws_queue.proofs.Numbers.{numbered_change}
 use Rattle.laws_sound.specs.Orderly.{weigh}
 use Rattle.laws_sound.proofs.Counting.{weigh_found, weigh_change, weigh_push, small_bit}
 use Rattle.laws_looks.specs.Readers.{In, Rising}
-use Rattle.laws_looks.specs.Kept.{connects_for, is_connect, awaits, KeepsLinks, SettlingKeepsLinks}
+use Rattle.laws_looks.specs.Kept.{connects_for, is_connect, awaits, KeepsLinks}
 use Rattle.laws_looks.specs.Kept as waiting
 use Rattle.laws_looks.proofs.Lists.{itself, less_unequal, in_append, in_filter, in_picked, in_map, find_in, first_in}
 use Rattle.laws_looks.proofs.Stays.{soft_change}
 use Rattle.laws_looks.proofs.Fewer.{fewer_same, fewer_apart}
 use Rattle.laws_looks.proofs.Quieted.{found_of}
 use Rattle.laws_looks.proofs.Hears.{heard_apart}
-use Rattle.laws_looks.proofs.Counted.{even_same, even_soft, connects_one, making_awaits, is_number, moved, aside_keeps, Lasts, given_lasts, settle_lasts, expire_lasts}
+use Rattle.laws_looks.proofs.Counted.{even_same, even_soft, connects_one, making_awaits, is_number, moved, aside_keeps, Lasts, given_lasts}
 
 -- ---- links
 
@@ -459,10 +459,3 @@ module _ {V : Type 0} where
         apart = heard_apart w x said l.apart;
         keeps = now_asked v x (fitting x.ask said) (find_in (is_next w) (tries_now w) x e) here;
       }
-
-pub settling_keeps_links : {V : Type 0} → SettlingKeepsLinks V
-settling_keeps_links = record {
-  settled = λ w n a k. (settle_lasts w (record { numbered = n; apart = a; keeps = k })).keeps;
-  expired = λ w who n a k. (expire_lasts w who (record { numbered = n; apart = a; keeps = k })).keeps;
-  heard = λ w x said e n a k. let l = heard_lasts w x said e (record { numbered = n; apart = a; keeps = k }) in (settle_lasts (heard w x said) l).keeps;
-}

@@ -84,7 +84,7 @@ abbrev pub OthersSame : Links → Links → ℕ → Type 0
 OthersSame l m who = (n : ℕ) → (n == who) ≡ false → connects_for m n ≡ connects_for l n
 
 module _ {V : Type 0} where
-  idle_awaits : (l : Links) (c : Coroutine V) → is_making c.mode ≡ false → awaits l c ≡ 0
+  pub idle_awaits : (l : Links) (c : Coroutine V) → is_making c.mode ≡ false → awaits l c ≡ 0
   idle_awaits l c e = at (pending_call c.mode) e
     where
       by : (b : Bool) → b ≡ false → (if b then 1 - connects_for l c.number else 0) ≡ 0
@@ -243,11 +243,11 @@ ending_idle (modes.Fresh word answer) b e = refl
 ending_idle (modes.Answered word answer) b e = refl
 
 module _ {V : Type 0} where
-  if_even : (b : Bool) (l : Links) (v u : World V) → (b ≡ true → Even l v.links) → (b ≡ false → Even l u.links) → Even l (if b then v else u).links
+  pub if_even : (b : Bool) (l : Links) (v u : World V) → (b ≡ true → Even l v.links) → (b ≡ false → Even l u.links) → Even l (if b then v else u).links
   if_even true l v u e f = e refl
   if_even false l v u e f = f refl
 
-  some_even : {A : Type 0} (o : Option A) (w : World V) (f : A → World V) → ((a : A) → Even w.links (f a).links) → Even w.links (if_some o w f).links
+  pub some_even : {A : Type 0} (o : Option A) (w : World V) (f : A → World V) → ((a : A) → Even w.links (f a).links) → Even w.links (if_some o w f).links
   some_even None w f h = even_same w.links
   some_even (Some a) w f h = h a
 
@@ -286,7 +286,7 @@ module _ {V : Type 0} where
 
   -- ---- a call that makes no link is answered
 
-  up_even : (w v : World V) (who : ℕ) (call : Call) (e : Errno) (kept : ℕ) → LooksApart v → Even w.links v.links → Even w.links (give_stack_up v who call e kept).links
+  pub up_even : (w v : World V) (who : ℕ) (call : Call) (e : Errno) (kept : ℕ) → LooksApart v → Even w.links v.links → Even w.links (give_stack_up v who call e kept).links
   up_even w v who call e kept a s =
       let less : World V = record v { handles = handles.unkeep v.handles kept } in
       let up = if_some (named_by call) v (λ number. release less number) in

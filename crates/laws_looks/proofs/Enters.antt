@@ -152,7 +152,7 @@ module _ {V : Type 0} where
   fewer_closing : (w : World V) (who name number : ℕ) → Fewer w (close_bundle w who name number)
   fewer_closing w who name number = record { calls = pends_same w (close_bundle w who name number) refl; links = λ l. weigh_without (links_to l) (handles.is_entry number) w.handles.entries; stays = stays_same w.links }
 
-  fewer_take : (w : World V) (number owner : ℕ) → Fewer w (take w number owner)
+  pub fewer_take : (w : World V) (number owner : ℕ) → Fewer w (take w number owner)
   fewer_take w number owner =
       fewer_some (entry_of w number) w (λ x. take_thing (record w { handles = handles.set_owner w.handles number owner }) x.thing owner)
       (λ x. let less : World V = record w { handles = handles.set_owner w.handles number owner } in

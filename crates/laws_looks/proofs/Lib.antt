@@ -11,3 +11,5 @@ pub mod Steps
 pub mod Between
 pub mod Counted
 pub mod Asked
+pub mod Counting
+pub mod Linking

@@ -1,22 +1,23 @@
 -- How many links are kept: one for each pending call that makes a link and has none yet.
-use Rattle.std.specs.Prelude.{◌≡◌, ℕ, ◌-◌, ◌≤◌, Bool, true, false, Option, Some, if◌then◌else◌}
+use Rattle.std.specs.Prelude.{◌≡◌, ℕ, ◌-◌, ◌≤◌, List, Bool, true, false, Option, if◌then◌else◌}
 use Rattle.dill_base.specs.Maps.{if_some}
+use Rattle.dill_calls.specs.declared.ran.LackPlace.{LackPlace}
+use Rattle.dill_calls.specs.Program.{Program, IsLawful}
+use Rattle.dill_kernel.specs.declared.ready.Ready.{Ready}
 use Rattle.dill_calls.specs.declared.word.Word.{Word}
 use Rattle.dill_calls.specs.declared.word.Word.TheVariants as words
 use Rattle.dill_calls.specs.CallTable.{word_of}
 use Rattle.dill_kernel.specs.declared.replies.KernelReply.{KernelReply}
 use Rattle.dill_rules.specs.declared.coroutine.Coroutine.{Coroutine}
 use Rattle.dill_rules.specs.declared.coroutine.Mode.{Mode}
-use Rattle.dill_rules.specs.World.{World, pending_call}
+use Rattle.dill_rules.specs.World.{World, pending_call, begin}
 use Rattle.dill_rules.specs.Giving.{is_connecting_for}
 use Rattle.dill_rules.specs.Links.{Links}
-use Rattle.dill_rules.specs.Expiring.{expire_one}
-use Rattle.dill_rules.specs.Hearing.{heard}
-use Rattle.dill_rules.specs.Trying.{Try, next_try}
 use Rattle.dill_rules.specs.Naming.{links}
 use Rattle.dill_rules.specs.Settling.{settle}
-use Rattle.laws_queue.specs.Well.{bit, is_at, Numbered}
-use Rattle.laws_sound.specs.Orderly.{weigh}
+use Rattle.laws_queue.specs.Kept.{Kept, opening_kept, queued, kept_turn, kept_hear, kept_expire_next, kept_expired, kept_shut, kept_woke}
+use Rattle.laws_queue.specs.Well.{bit, is_at, IsWell}
+use Rattle.laws_sound.specs.Orderly.{weigh, IsOrderly}
 use Rattle.laws_looks.specs.Readers.{LooksApart}
 
 -- how many links connect for a coroutine, and aren't closing
@@ -40,8 +41,17 @@ pub record KeepsLinks {V : Type 0} (w : World V) : Type 0 where
   pub kept : weigh (awaits w.links) w.coroutines ≡ w.links.kept
   pub once : (who : ℕ) → connects_for w.links who ≤ bit (is_at connects w.coroutines who)
 
--- settling, expiries and the reply to what is asked next leave it so
-pub record SettlingKeepsLinks (V : Type 0) : Type 0 where
-  pub settled : (w : World V) → Numbered 0 w.coroutines w.last_coroutine → LooksApart w → KeepsLinks w → KeepsLinks (settle w)
-  pub expired : (w : World V) (who : ℕ) → Numbered 0 w.coroutines w.last_coroutine → LooksApart w → KeepsLinks w → KeepsLinks (expire_one w who)
-  pub heard : (w : World V) (x : Try) (said : Option KernelReply) → next_try w ≡ Some x → Numbered 0 w.coroutines w.last_coroutine → LooksApart w → KeepsLinks w → KeepsLinks (settle (heard w x said))
+-- so it is between two steps of programs that keep their law, whatever they call and whatever the kernel replies
+pub record CountsLinks {V : Type 0} (p : Program V) : Type 0 where
+  pub opening : (view : V) → KeepsLinks (opening_kept view).world
+  pub turned : (k : Kept V) (lack : Option LackPlace) → IsWell p k → IsOrderly k.world → LooksApart k.world → KeepsLinks k.world → KeepsLinks (kept_turn p lack k).world
+  pub hears : (k : Kept V) (said : Option KernelReply) → IsWell p k → LooksApart k.world → KeepsLinks k.world → KeepsLinks (kept_hear k said).world
+  pub started : (k : Kept V) → KeepsLinks k.world → KeepsLinks (begin k.world)
+  pub expires : (k : Kept V) (who : ℕ) → IsWell p k → LooksApart k.world → KeepsLinks k.world → KeepsLinks (kept_expire_next k who).world
+  pub settled : (k : Kept V) → IsWell p k → LooksApart k.world → KeepsLinks k.world → KeepsLinks (queued (settle k.world) k.ready k.early).world
+  pub expired : (k : Kept V) → IsWell p k → LooksApart k.world → KeepsLinks k.world → KeepsLinks (kept_expired k).world
+  pub shut : (k : Kept V) → IsWell p k → LooksApart k.world → KeepsLinks k.world → KeepsLinks (kept_shut k).world
+  pub woke : (k : Kept V) (told : ℕ) (ready : List Ready) → IsWell p k → LooksApart k.world → KeepsLinks k.world → KeepsLinks (kept_woke k told ready).world
+
+abbrev pub StepsCountLinks : {V : Type 0} → Program V → Type 0
+StepsCountLinks p = IsLawful p → CountsLinks p

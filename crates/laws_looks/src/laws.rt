@@ -1,5 +1,5 @@
 ghost use Rattle.laws_looks.specs.Calm.{DrawsNothing, KeepsCalm};
-ghost use Rattle.laws_looks.specs.Kept.{SettlingKeepsLinks};
+ghost use Rattle.laws_looks.specs.Kept.{CountsLinks};
 ghost use Rattle.laws_looks.specs.Readers.{KeepsApart, LooksSettle};
 
 use dill_calls::Body;
@@ -33,7 +33,8 @@ pub fn steps_keep_calm<B: Body>()
     again_laws();
 }
 
-/// As many links are kept as pending calls that make a link have none, and settling and expiries leave it so.
-pub fn settling_keeps_links<B: Body>()
-    ensures { SettlingKeepsLinks B }
+/// Between any two steps as many links are kept as pending calls that make a link have none, and a link that connects is
+/// of a pending connect, at most one for each.
+pub fn steps_count_links<B: Body>()
+    ensures { CountsLinks B.means }
 {}

@@ -4,6 +4,4 @@
 
 mod laws;
 
-pub use laws::{
-    draws_nothing, looks_settle, settling_keeps_links, steps_keep_apart, steps_keep_calm,
-};
+pub use laws::{draws_nothing, looks_settle, steps_count_links, steps_keep_apart, steps_keep_calm};
