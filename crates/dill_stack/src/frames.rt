@@ -1,6 +1,5 @@
 ghost use Rattle.std.specs.Prelude.{◌≡◌, ◌≢◌, ◌≤◌, ◌<◌, ◌+◌, ◌-◌, length, take, drop, nat_lt, if◌then◌else◌, true, false, Some, None};
 ghost use Rattle.dill_ws.specs.Frames.{length_bits, masked};
-ghost use Rattle.dill_ws.specs.Fronts.{bits_of, length_size, told};
 ghost use Rattle.dill_stack.specs.Framing.{IsTold, JoinsWithin, LinkPasses, Passes, front_told};
 ghost use Rattle.dill_stack.specs.Rooms.{roomy};
 ghost use Rattle.dill_stack.specs.Standing.{ws_layer};
@@ -10,7 +9,7 @@ use crate::payload::Payload;
 use crate::placed::{Base, Framed};
 use crate::unread::Unread;
 use dill_base::Errno;
-use dill_ws::{Head, HeadFront, frame_front};
+use dill_ws::{Head, HeadFront, frame_front, length_told, size_of_length};
 
 /// The frame at the front of what has come to a WebSocket layer: the head of a whole one, too little to judge, or a
 /// refusal.
@@ -94,31 +93,6 @@ fn length_there(bytes: &[u8]) -> Option<u64>
         return None;
     }
     Some(length_told(bits, &bytes[2..]))
-}
-
-fn size_of_length(bits: u8) -> usize
-    ensures { result ≡ length_size bits }
-{
-    match bits {
-        0..126 => 0,
-        126 => 2,
-        _ => 8,
-    }
-}
-
-fn length_told(bits: u8, behind: &[u8]) -> u64
-    requires { length_size bits ≤ length behind.now }
-    ensures { result ≡ told bits behind.now }
-{
-    if bits < 126 {
-        return bits as u64;
-    }
-    if bits == 126 {
-        return u16::from_be_bytes([behind[0], behind[1]]) as u64;
-    }
-    u64::from_be_bytes([
-        behind[0], behind[1], behind[2], behind[3], behind[4], behind[5], behind[6], behind[7],
-    ])
 }
 
 // A frame at the front is passed, unless it ends a message or is a close frame.

@@ -87,6 +87,18 @@ pub client_stays : LineLaws → (u v : List ℕ) (f : Asked) → client_front u 
 unfolding client_front
 client_stays laws u v f h j = asked_stays laws u v (head_front_by client_asks u) f refl h j
 
+asked_there : LineLaws → (u key word : List ℕ) (used : ℕ) (g : Front) → head_front_by client_asks u ≡ g → asked_by word g ≡ Whole key used → used ≤ length u
+asked_there laws u key word used (front.Whole a b c) h e =
+    let same : c ≡ used = cc in
+    let there : c ≤ length u = (whole_read laws client_asks u a b c h).there in
+    omega (arith, same, there)
+asked_there laws u key word used front.Need h e = absurd (cc e)
+asked_there laws u key word used (front.Fault x) h e = absurd (cc e)
+
+pub client_there : LineLaws → (u key : List ℕ) (used : ℕ) → client_front u ≡ Whole key used → used ≤ length u
+unfolding client_front
+client_there laws u key used h = asked_there laws u key (key_of (lines_at u)) used (head_front_by client_asks u) refl h
+
 asked_need : (key : List ℕ) (g : Front) → asked_by key g ≡ Need → g ≡ front.Need
 asked_need key (front.Whole a b c) h = absurd (cc h)
 asked_need key front.Need h = refl

@@ -1,5 +1,5 @@
 -- The laws of handshake heads (RFC 6455, section 4).
-use Rattle.std.specs.Prelude.{◌≡◌, ◌<◌, ◌++◌, [], ℕ, List, length, Ok}
+use Rattle.std.specs.Prelude.{◌≡◌, ◌<◌, ◌≤◌, ◌++◌, [], ℕ, List, length, Ok}
 use Rattle.base64.specs.GeneralPurpose.{encode_of}
 use Rattle.base64.specs.Engines.{standard}
 use Rattle.dill_base.specs.declared.errno.Errno.{Errno}
@@ -32,7 +32,8 @@ pub record HandshakeLaws : Type 0 where
   pub client_refused : (e : Errno) (w rest : List ℕ) → HeadShows client_asks e w → client_front (w ++ rest) ≡ Fault e
   pub server_again : (accept w rest : List ℕ) → ServerHead accept w → server_front accept (w ++ rest) ≡ front.Whole 0 (length w) (length w)
   pub server_refused : (accept : List ℕ) (e : Errno) (w rest : List ℕ) → HeadShows (server_agrees accept) e w → server_front accept (w ++ rest) ≡ front.Fault e
-  -- what was judged stays so when more comes, and what is open is short
+  -- a head that is read is there, what was judged stays so when more comes, and what is open is short
+  pub client_there : (u key : List ℕ) (used : ℕ) → client_front u ≡ Whole key used → used ≤ length u
   pub client_stays : (u v : List ℕ) (f : Asked) → client_front u ≡ f → IsAnswered f → client_front (u ++ v) ≡ f
   pub server_stays : (accept u v : List ℕ) (f : Front) → server_front accept u ≡ f → IsJudged f → server_front accept (u ++ v) ≡ f
   pub client_waits : (u : List ℕ) → client_front u ≡ Need → length u < head_limit

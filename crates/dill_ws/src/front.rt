@@ -72,7 +72,8 @@ fn follows(joining: bool, fin: bool, opcode: u8, bits: u8) -> bool
     }
 }
 
-fn size_of_length(bits: u8) -> usize
+/// How many bytes behind byte 2 tell the payload's length, by the low seven bits of byte 2 (RFC 6455, section 5.2).
+pub fn size_of_length(bits: u8) -> usize
     ensures { result ≡ length_size bits }
 {
     match bits {
@@ -82,8 +83,8 @@ fn size_of_length(bits: u8) -> usize
     }
 }
 
-// The payload's length.
-fn length_told(bits: u8, behind: &[u8]) -> u64
+/// The payload's length, by the low seven bits of byte 2 and the bytes behind it.
+pub fn length_told(bits: u8, behind: &[u8]) -> u64
     requires { length_size bits ≤ length behind.now }
     ensures { result ≡ told bits behind.now }
 {

@@ -23,7 +23,7 @@ pub use accept::accept_of;
 pub use close::{close_code, is_text, may_be_sent};
 pub use control::{Control, control_write};
 pub use frame::{frame_into, frame_write, masked_into};
-pub use front::frame_front;
+pub use front::{frame_front, length_told, size_of_length};
 pub use head::{Head, HeadFront};
 pub use laws::{frame_laws, handshake_laws};
 pub use masking::mask;

@@ -2,7 +2,7 @@ use Rattle.dill_ws.proofs.ClientSent.{client_sent}
 use Rattle.dill_ws.proofs.ServerSent.{server_sent}
 use Rattle.dill_ws.proofs.Asking.{client_again, client_refused}
 use Rattle.dill_ws.proofs.Agreeing.{server_again, server_refused}
-use Rattle.dill_ws.proofs.HeadLaws.{client_stays, server_stays, client_waits, server_waits, client_free, server_free}
+use Rattle.dill_ws.proofs.HeadLaws.{client_there, client_stays, server_stays, client_waits, server_waits, client_free, server_free}
 use Rattle.dill_ws.proofs.laws.handshake_laws.Goals as goal
 
 pub returns : goal.returns
@@ -16,6 +16,7 @@ returns c =
       client_refused = client_refused laws;
       server_again = server_again laws;
       server_refused = server_refused laws;
+      client_there = client_there laws;
       client_stays = client_stays laws;
       server_stays = server_stays laws;
       client_waits = client_waits;
