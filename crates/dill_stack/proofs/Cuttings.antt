@@ -1,6 +1,6 @@
--- A receive is answered the same under any cutting of what comes.
-use Rattle.std.proofs.Common.{◌≡◌, ◌≤◌, ◌+◌, ◌-◌, [], ◌∷◌, ◌++◌, List, ℕ, zero, suc, length, drop, arith, sym, ap, ◌∙◌, refl, subst, Bool, true, false, ◌||◌, Option, Some, None, if◌then◌else◌, append_assoc}
-use Rattle.std.proofs.lemmas.List.{append-nil, length-drop, drop-append-le}
+-- A receive is answered the same under any cutting of what comes, and wherever the peer's end comes.
+use Rattle.std.proofs.Common.{◌≡◌, ◌≤◌, ◌+◌, ◌-◌, [], ◌∷◌, ◌++◌, List, ℕ, zero, suc, length, drop, arith, sym, ap, ◌∙◌, refl, subst, Bool, true, false, ◌||◌, Option, Some, None, if◌then◌else◌}
+use Rattle.std.proofs.lemmas.List.{length-drop, drop-append-le}
 use Rattle.rand_core.specs.Stream.{Stream}
 use Rattle.dill_base.specs.declared.errno.Errno.TheVariants.{Epipe}
 use Rattle.dill_frames.specs.Prefix.{prefix_front}
@@ -9,7 +9,7 @@ use Rattle.dill_stack.specs.declared.want.Want.{Want}
 use Rattle.dill_stack.specs.declared.want.Want.TheVariants as want
 use Rattle.dill_stack.specs.declared.want.ReadOut.TheVariants.{Need, Fault}
 use Rattle.dill_stack.specs.Layers.{WsLayer, Placed, Prefix, Suffix, Term, Http, Ws, IsStanding}
-use Rattle.dill_stack.specs.Held.{Held, came}
+use Rattle.dill_stack.specs.Held.{Held}
 use Rattle.dill_stack.specs.WsReading.{Passed, passed, pass_by_front, ws_front, Whole, Shown, shown}
 use Rattle.dill_stack.specs.Read.{Outcome, outcome, behind_passed, read_ws, over_term, is_terminal, read_message, read_list}
 use Rattle.dill_stack.specs.Receiving.{Looked, ws_of, answers_pings, with_pongs_of, ponged, settled, read_of, read}
@@ -17,7 +17,8 @@ use Rattle.dill_stack.specs.Refusals.{is_met}
 use Rattle.dill_stack.specs.Staying.{FrontStays}
 use Rattle.dill_stack.specs.Stepping.{pass_of_ws, next_pass, passed_on, stepped}
 use Rattle.dill_stack.specs.Again.{still}
-use Rattle.dill_stack.specs.Cutting.{Event, Came, Look, all_of, after_events, AwaitMore, ReadsAlike}
+use Rattle.dill_stack.specs.Cutting.{ReadsAlike}
+use Rattle.dill_stack.proofs.Events.{more, with_more, Awaited, still_awaited, looks_alike}
 use Rattle.dill_stack.proofs.Again.{by_front_still, exact_still, line_again, looked_still, passed_nothing, shown_still, terminal_said}
 use Rattle.dill_stack.proofs.Passers.{standing_with}
 use Rattle.dill_stack.proofs.Passings.{PassAt, pass_at}
@@ -34,7 +35,7 @@ or_true true c e = cc
 or_true false c e = refl
 
 -- where nothing is passed and more is awaited, nothing changes
-message_still : (layers : List Placed) (u : List ℕ) (ended : Bool) (limit : ℕ) → IsStanding layers → (is_met layers ≡ false → pass_of_ws limit u (ws_of layers) ≡ None) → (read_message layers u ended limit).said ≡ Need → read_message layers u ended limit ≡ outcome 0 layers Need
+pub message_still : (layers : List Placed) (u : List ℕ) (ended : Bool) (limit : ℕ) → IsStanding layers → (is_met layers ≡ false → pass_of_ws limit u (ws_of layers) ≡ None) → (read_message layers u ended limit).said ≡ Need → read_message layers u ended limit ≡ outcome 0 layers Need
 message_still [] u ended limit k n h = refl
 message_still (Prefix form ∷ below) u ended limit k n h = by_front_still (Prefix form ∷ below) u ended (prefix_front form u limit) h
 message_still (Suffix end ∷ below) u ended limit k n h = by_front_still (Suffix end ∷ below) u ended (suffix_front end u limit) h
@@ -81,8 +82,8 @@ unfolding read
 said_of w random s = refl
 
 -- more bytes don't change what is passed
-pass_stays : (f : FrontStays) (limit : ℕ) (s : Held) (v : List ℕ) (p : Passed) → next_pass limit s ≡ Some p → next_pass limit (came v s) ≡ Some p
-pass_stays f limit s v p e =
+pub pass_stays : (f : FrontStays) (limit : ℕ) (s : Held) (v : List ℕ) (e : Bool) (p : Passed) → next_pass limit s ≡ Some p → next_pass limit (more v e s) ≡ Some p
+pass_stays f limit s v b p e =
     let i : IsPass limit s p = is_pass limit s p e in
     let a : PassAt limit i.ws s.unread p = pass_at limit i.ws s.unread p (ws_front limit i.ws s.unread) refl i.pass in
     let same : ws_front limit i.ws (s.unread ++ v) ≡ Whole a.part a.used = f limit i.ws s.unread v (Whole a.part a.used) a.whole tt in
@@ -91,57 +92,42 @@ pass_stays f limit s v p e =
     ∙ ap (pass_by_front i.ws) (same ∙ sym a.whole)
     ∙ i.pass
 
-abbrev with_more : List ℕ → Held × Stream → Held × Stream
-with_more v now = (came v now.0, now.1)
-
-pongs_more : (o : Option WsLayer) (pings : List (List ℕ)) (random : Stream) (s : Held) (v : List ℕ) → with_pongs_of o pings random (came v s) ≡ with_more v (with_pongs_of o pings random s)
-pongs_more None pings random s v = refl
-pongs_more (Some ws) pings random s v = at (answers_pings ws s)
+pongs_more : (o : Option WsLayer) (pings : List (List ℕ)) (random : Stream) (s : Held) (v : List ℕ) (e : Bool) → with_pongs_of o pings random (more v e s) ≡ with_more v e (with_pongs_of o pings random s)
+pongs_more None pings random s v e = refl
+pongs_more (Some ws) pings random s v e = at (answers_pings ws s)
   where
-    at : (c : Bool) → ◌≡◌ {A = Held × Stream} (if c then (record (came v s) { queue = (ponged ws.side pings (s.queue, random)).0 }, (ponged ws.side pings (s.queue, random)).1) else (came v s, random)) (with_more v (if c then (record s { queue = (ponged ws.side pings (s.queue, random)).0 }, (ponged ws.side pings (s.queue, random)).1) else (s, random)))
+    at : (c : Bool) → ◌≡◌ {A = Held × Stream} (if c then (record (more v e s) { queue = (ponged ws.side pings (s.queue, random)).0 }, (ponged ws.side pings (s.queue, random)).1) else (more v e s, random)) (with_more v e (if c then (record s { queue = (ponged ws.side pings (s.queue, random)).0 }, (ponged ws.side pings (s.queue, random)).1) else (s, random)))
     at true = refl
     at false = refl
 
-step_more : (limit : ℕ) (random : Stream) (s : Held) (v : List ℕ) (p : Passed) → p.used ≤ length s.unread → stepped p random (came v s) ≡ with_more v (stepped p random s)
-step_more limit random s v p l = ap (λ u. with_pongs_of (ws_of s.layers) p.pings random (record (passed_on p s) { unread = u })) (drop-append-le p.used s.unread v l) ∙ pongs_more (ws_of s.layers) p.pings random (passed_on p s) v
-
--- a look that awaited more
-record Awaited (w : Want) (random : Stream) (s : Held) : Type 0 where
-  stands : IsStanding (read w random s).stack.layers
-  alike : (v : List ℕ) → read w random (came v s) ≡ read w (read w random s).random (came v (read w random s).stack)
-
-still_awaited : (w : Want) (random : Stream) (s : Held) → IsStanding s.layers → read w random s ≡ still random s → Awaited w random s
-still_awaited w random s k e =
-    record {
-      stands = subst (λ (l : Looked). IsStanding l.stack.layers) (sym e) k;
-      alike = λ v. ap (λ (l : Looked). read w l.random (came v l.stack)) (sym e);
-    }
+pub step_more : (random : Stream) (s : Held) (v : List ℕ) (e : Bool) (p : Passed) → p.used ≤ length s.unread → stepped p random (more v e s) ≡ with_more v e (stepped p random s)
+step_more random s v e p l = ap (λ u. with_pongs_of (ws_of s.layers) p.pings random (record (passed_on p (more v e s)) { unread = u })) (drop-append-le p.used s.unread v l) ∙ pongs_more (ws_of s.layers) p.pings random (passed_on p s) v e
 
 list_still : (limit : ℕ) (s : Held) → IsStanding s.layers → next_pass limit s ≡ None → (read_of (want.Message limit) s).said ≡ Need → read_of (want.Message limit) s ≡ outcome 0 s.layers Need
 unfolding read_list
 list_still limit s k e g = message_still s.layers s.unread s.receiving.done limit k (passless limit s e) g
 
-none_awaited : (limit : ℕ) (random : Stream) (s : Held) → IsStanding s.layers → (read (want.Message limit) random s).said ≡ Need → next_pass limit s ≡ None → Awaited (want.Message limit) random s
-none_awaited limit random s k h e = still_awaited (want.Message limit) random s k (read_still (want.Message limit) random s (list_still limit s k e (sym (said_of (want.Message limit) random s) ∙ h)))
+none_awaited : (limit : ℕ) (random : Stream) (s : Held) → IsStanding s.layers → (read (want.Message limit) random s).said ≡ Need → next_pass limit s ≡ None → Awaited (read (want.Message limit)) IsStanding random s
+none_awaited limit random s k h e = still_awaited (read (want.Message limit)) IsStanding random s k (read_still (want.Message limit) random s (list_still limit s k e (sym (said_of (want.Message limit) random s) ∙ h)))
 
-pass_awaited : (f : FrontStays) (limit : ℕ) (random : Stream) (s : Held) (p : Passed) → IsStanding s.layers → next_pass limit s ≡ Some p → Awaited (want.Message limit) (stepped p random s).1 (stepped p random s).0 → Awaited (want.Message limit) random s
+pass_awaited : (f : FrontStays) (limit : ℕ) (random : Stream) (s : Held) (p : Passed) → IsStanding s.layers → next_pass limit s ≡ Some p → Awaited (read (want.Message limit)) IsStanding (stepped p random s).1 (stepped p random s).0 → Awaited (read (want.Message limit)) IsStanding random s
 pass_awaited f limit random s p k e a =
     let i : IsPass limit s p = is_pass limit s p e in
     let w : Moves i.ws s.unread p = moves limit i.ws s.unread p i.pass in
     let r : read (want.Message limit) random s ≡ read (want.Message limit) (stepped p random s).1 (stepped p random s).0 = read_steps limit random s p k e in
     record {
       stands = subst (λ (l : Looked). IsStanding l.stack.layers) (sym r) a.stands;
-      alike = λ v.
-          read_steps limit random (came v s) p k (pass_stays f limit s v p e)
-          ∙ ap (λ (n : Held × Stream). read (want.Message limit) n.1 n.0) (step_more limit random s v p w.there)
-          ∙ a.alike v
-          ∙ ap (λ (l : Looked). read (want.Message limit) l.random (came v l.stack)) (sym r);
+      alike = λ v b.
+          read_steps limit random (more v b s) p k (pass_stays f limit s v b p e)
+          ∙ ap (λ (n : Held × Stream). read (want.Message limit) n.1 n.0) (step_more random s v b p w.there)
+          ∙ a.alike v b
+          ∙ ap (λ (l : Looked). read (want.Message limit) l.random (more v b l.stack)) (sym r);
     }
 
 abbrev Again : ℕ → ℕ → Type 0
-Again most limit = (random : Stream) (s : Held) → length s.unread ≤ most → IsStanding s.layers → (read (want.Message limit) random s).said ≡ Need → Awaited (want.Message limit) random s
+Again most limit = (random : Stream) (s : Held) → length s.unread ≤ most → IsStanding s.layers → (read (want.Message limit) random s).said ≡ Need → Awaited (read (want.Message limit)) IsStanding random s
 
-step_awaited : (f : FrontStays) (most limit : ℕ) (random : Stream) (s : Held) (o : Option Passed) → length s.unread ≤ suc most → IsStanding s.layers → (read (want.Message limit) random s).said ≡ Need → next_pass limit s ≡ o → Again most limit → Awaited (want.Message limit) random s
+step_awaited : (f : FrontStays) (most limit : ℕ) (random : Stream) (s : Held) (o : Option Passed) → length s.unread ≤ suc most → IsStanding s.layers → (read (want.Message limit) random s).said ≡ Need → next_pass limit s ≡ o → Again most limit → Awaited (read (want.Message limit)) IsStanding random s
 step_awaited f most limit random s None l k h e again = none_awaited limit random s k h e
 step_awaited f most limit random s (Some p) l k h e again =
     let i : IsPass limit s p = is_pass limit s p e in
@@ -152,7 +138,7 @@ step_awaited f most limit random s (Some p) l k h e again =
     pass_awaited f limit random s p k e
     (again (stepped p random s).1 t (omega (arith, l, size, w.some)) (subst IsStanding (sym left.layers) (standing_with p.ws s.layers k)) (ap (λ (x : Looked). x.said) (sym (read_steps limit random s p k e)) ∙ h))
 
-first_awaited : (limit : ℕ) (random : Stream) (s : Held) (o : Option Passed) → length s.unread ≤ 0 → IsStanding s.layers → (read (want.Message limit) random s).said ≡ Need → next_pass limit s ≡ o → Awaited (want.Message limit) random s
+first_awaited : (limit : ℕ) (random : Stream) (s : Held) (o : Option Passed) → length s.unread ≤ 0 → IsStanding s.layers → (read (want.Message limit) random s).said ≡ Need → next_pass limit s ≡ o → Awaited (read (want.Message limit)) IsStanding random s
 first_awaited limit random s None l k h e = none_awaited limit random s k h e
 first_awaited limit random s (Some p) l k h e =
     let i : IsPass limit s p = is_pass limit s p e in
@@ -171,10 +157,10 @@ other_still want.Request s m h = line_again want.Request s.layers s.unread s.rec
 other_still want.Status s m h = line_again want.Status s.layers s.unread s.receiving.done h
 other_still want.Field s m h = line_again want.Field s.layers s.unread s.receiving.done h
 
-other_awaited : (w : Want) (random : Stream) (s : Held) → ((limit : ℕ) → w ≡ want.Message limit → ⊥) → IsStanding s.layers → (read w random s).said ≡ Need → Awaited w random s
-other_awaited w random s m k h = still_awaited w random s k (read_still w random s (other_still w s m (sym (said_of w random s) ∙ h)))
+other_awaited : (w : Want) (random : Stream) (s : Held) → ((limit : ℕ) → w ≡ want.Message limit → ⊥) → IsStanding s.layers → (read w random s).said ≡ Need → Awaited (read w) IsStanding random s
+other_awaited w random s m k h = still_awaited (read w) IsStanding random s k (read_still w random s (other_still w s m (sym (said_of w random s) ∙ h)))
 
-awaited : (f : FrontStays) (w : Want) (random : Stream) (s : Held) → IsStanding s.layers → (read w random s).said ≡ Need → Awaited w random s
+awaited : (f : FrontStays) (w : Want) (random : Stream) (s : Held) → IsStanding s.layers → (read w random s).said ≡ Need → Awaited (read w) IsStanding random s
 awaited f (want.Message limit) random s k h = message_awaited f (length s.unread) limit random s (omega arith) k h
 awaited f (want.Exact n) random s k h = other_awaited (want.Exact n) random s (λ limit e. differ e) k h
   where
@@ -193,19 +179,5 @@ awaited f want.Field random s k h = other_awaited want.Field random s (λ limit 
     differ : {limit : ℕ} → want.Field ≡ want.Message limit → ⊥
     differ e = cc
 
-came_none : (s : Held) → came [] s ≡ s
-came_none s = ap (λ u. record s { unread = u }) (append-nil s.unread)
-
-came_both : (v w : List ℕ) (s : Held) → came (v ++ w) s ≡ came w (came v s)
-came_both v w s = ap (λ u. record s { unread = u }) (sym (append_assoc s.unread v w))
-
--- a look after all of these is one at all that came at once
-whole : (f : FrontStays) (w : Want) (events : List Event) (random : Stream) (s : Held) → IsStanding s.layers → AwaitMore w events (s, random) → read w (after_events w events (s, random)).1 (after_events w events (s, random)).0 ≡ read w random (came (all_of events) s)
-whole f w [] random s k m = ap (read w random) (sym (came_none s))
-whole f w (Came v ∷ events) random s k m = whole f w events random (came v s) k m ∙ ap (read w random) (sym (came_both v (all_of events) s))
-whole f w (Look ∷ events) random s k m =
-    let a : Awaited w random s = awaited f w random s k m.0 in
-    whole f w events (read w random s).random (read w random s).stack a.stands m.1 ∙ sym (a.alike (all_of events))
-
 pub reads_alike : FrontStays → ReadsAlike
-reads_alike f w a b random s k e m n = whole f w a random s k m ∙ ap (λ u. read w random (came u s)) e ∙ sym (whole f w b random s k n)
+reads_alike f w s k = looks_alike (read w) IsStanding (λ random t l h. awaited f w random t l h) s k

@@ -41,7 +41,7 @@ use Rattle.dill_stack.proofs.Again.{some_used}
 -- ---- an item that is dropped has a byte, or it changes nothing
 
 -- an item uses a byte, or it leaves everything
-abbrev Moves : List Placed → List ℕ → Outcome → Type 0
+abbrev pub Moves : List Placed → List ℕ → Outcome → Type 0
 Moves layers u o = ((1 ≤ o.used) × (1 ≤ length u)) ⊎ (o ≡ outcome 0 layers o.said)
 
 sized : (layers : List Placed) (u : List ℕ) (used : ℕ) (said : ReadOut) → used ≤ length u → Moves layers u (outcome used layers said)
@@ -130,7 +130,7 @@ message_moves prefixes suffixes (Term term ∷ below) u ended limit e = at term.
 -- ---- one item
 
 -- an item moves or changes nothing, an end is answered, and where nothing is there a second look says so again
-abbrev Steps : List Placed → List ℕ → Bool → Dropped → Type 0
+abbrev pub Steps : List Placed → List ℕ → Bool → Dropped → Type 0
 Steps layers u ended (drops.Item o) = Moves layers u o
 Steps layers u ended (End o) = o.said ≡ Given (Number 0)
 Steps layers u ended (Stops o) = o.said ≡ Need → drop_one o.layers (drop o.used u) ended ≡ Stops (outcome 0 o.layers Need)
@@ -250,7 +250,7 @@ line_steps http below u ended behind = by (front_of_line u) refl
     by front.Need r = λ e. again front.Need r (ap (λ x. Stops (outcome 0 (Http http ∷ below) x)) e)
     by (front.Fault x) r = λ e. again (front.Fault x) r (ap (λ y. Stops (outcome 0 (Http http ∷ below) y)) e)
 
-one_steps : (prefixes : PrefixLaws) (suffixes : SuffixLaws) (layers : List Placed) (u : List ℕ) (ended : Bool) → Steps layers u ended (drop_one layers u ended)
+pub one_steps : (prefixes : PrefixLaws) (suffixes : SuffixLaws) (layers : List Placed) (u : List ℕ) (ended : Bool) → Steps layers u ended (drop_one layers u ended)
 one_steps prefixes suffixes [] u ended = λ e. refl
 one_steps prefixes suffixes (Prefix form ∷ below) u ended = refl
 one_steps prefixes suffixes (Suffix end ∷ below) u ended = refl
@@ -273,10 +273,10 @@ one_steps prefixes suffixes (Ws ws ∷ below) u ended = at ws.met
 -- ---- all items
 
 -- nothing stands at the front, or an item that changes nothing
-abbrev Fixed : List Placed → List ℕ → Bool → Type 0
+abbrev pub Fixed : List Placed → List ℕ → Bool → Type 0
 Fixed layers u ended = (drop_one layers u ended ≡ Stops (outcome 0 layers Need)) ⊎ ((said : ReadOut) × (drop_one layers u ended ≡ drops.Item (outcome 0 layers said)))
 
-fixed_stays : (most : ℕ) (layers : List Placed) (u : List ℕ) (ended : Bool) → Fixed layers u ended → dropped_within most ended layers u ≡ outcome 0 layers Need
+pub fixed_stays : (most : ℕ) (layers : List Placed) (u : List ℕ) (ended : Bool) → Fixed layers u ended → dropped_within most ended layers u ≡ outcome 0 layers Need
 fixed_stays zero layers u ended f = refl
 fixed_stays (suc most) layers u ended (inl e) = ap (after_drop (dropped_within most ended) u) e
 fixed_stays (suc most) layers u ended (inr e) = ap (after_drop (dropped_within most ended) u) e.1 ∙ ap (further (outcome 0 layers e.0)) (fixed_stays most layers u ended (inr e))
@@ -314,10 +314,10 @@ dropped_again prefixes suffixes layers u ended e =
 
 -- ---- a detach
 
-need_kept : (l : Looked) → l.said ≡ Need → left_over l ≡ l
+pub need_kept : (l : Looked) → l.said ≡ Need → left_over l ≡ l
 need_kept l e = ap (λ said. if is_given said then record l { stack = record l.stack { task = Idle } } else l) e
 
-left_need : (l : Looked) → (left_over l).said ≡ Need → l.said ≡ Need
+pub left_need : (l : Looked) → (left_over l).said ≡ Need → l.said ≡ Need
 left_need l e = at (is_given l.said) e
   where
     at : (b : Bool) → (if b then record l { stack = record l.stack { task = Idle } } else l).said ≡ Need → l.said ≡ Need
@@ -377,7 +377,7 @@ some_plain (x ∷ q) b w = at (not (is_pong x)) (some_plain q b w)
     at true e = refl
     at false e = e
 
-head_waits : (q : List Item) (accept : List ℕ) → list_any (λ item. not (is_pong item)) (q ++ item_of Plain (server_head_of accept)) ≡ true
+pub head_waits : (q : List Item) (accept : List ℕ) → list_any (λ item. not (is_pong item)) (q ++ item_of Plain (server_head_of accept)) ≡ true
 head_waits q accept = some_plain q 72 (drop 1 (server_head_of accept))
 
 bad_given : (a : Answer) → ◌≡◌ {A = ReadOut} (Given a) Need → ⊥

@@ -38,4 +38,7 @@ pub mod ReadShort
 pub mod Sifts
 pub mod Sinkings
 pub mod Finishing
+pub mod Events
 pub mod Cuttings
+pub mod DropCuts
+pub mod GreetCuts

@@ -303,7 +303,7 @@ close_drops before mid k m c =
           ∙ ap (λ x. behind_item x before) (sym n),
     )
 
-more_given : (ended boundary : Bool) (u : List ℕ) → is_given (no_more ended boundary u) ≡ false
+pub more_given : (ended boundary : Bool) (u : List ℕ) → is_given (no_more ended boundary u) ≡ false
 more_given false boundary u = refl
 more_given true boundary u = at (boundary && length u == 0)
   where

@@ -107,7 +107,7 @@ after_pass_in again u p (Stops o) = refl
 within_step : (n : ℕ) (layers : List Placed) (u : List ℕ) (ended : Bool) (p : Passed) → IsStanding layers → is_met layers ≡ false → pass_of_ws 16384 u (ws_of layers) ≡ Some p → dropped_within (suc n) ended layers u ≡ behind_pass p (dropped_within (suc n) ended (with_ws p.ws layers) (drop p.used u))
 within_step n layers u ended p k m e = ap (after_drop (dropped_within n ended) u) (one_step layers u ended p k m e) ∙ after_pass_in (dropped_within n ended) u p (drop_one (with_ws p.ws layers) (drop p.used u) ended)
 
-look_step : (n : ℕ) (random : Stream) (s : Held) (p : Passed) → IsStanding s.layers → next_pass 16384 s ≡ Some p → look_within (suc n) random s ≡ look_within (suc n) (stepped p random s).1 (stepped p random s).0
+pub look_step : (n : ℕ) (random : Stream) (s : Held) (p : Passed) → IsStanding s.layers → next_pass 16384 s ≡ Some p → look_within (suc n) random s ≡ look_within (suc n) (stepped p random s).1 (stepped p random s).0
 look_step n random s p k e =
     let i : IsPass 16384 s p = is_pass 16384 s p e in
     let t : Held = (stepped p random s).0 in
@@ -169,9 +169,9 @@ pongs_alike (Some ws) None pings random s e = absurd e
 pongs_alike (Some ws) (Some x) pings random s e = ap (λ c. pongs_by (not c && not s.sending.broken && not s.sending.done) ws.side pings random s) (sym e.1) ∙ ap (λ side. pongs_by (answers_pings x s) side pings random s) (sym e.0)
 
 -- nothing was passed, and the layer stays
-record Quiet (layers : List Placed) (o : Outcome) : Type 0 where
-  pings : o.pings ≡ []
-  stays : SameWs (ws_of layers) (ws_of o.layers)
+pub record Quiet (layers : List Placed) (o : Outcome) : Type 0 where
+  pub pings : o.pings ≡ []
+  pub stays : SameWs (ws_of layers) (ws_of o.layers)
 
 shown_stays : (limit : ℕ) (ended : Bool) (ws : WsLayer) (u : List ℕ) → ((shown limit ended ws u).ws.side ≡ ws.side) × ((shown limit ended ws u).ws.closed ≡ ws.closed)
 unfolding shown
@@ -205,7 +205,7 @@ front_quiet layers u ended front.Need = record { pings = refl; stays = same_ws (
 front_quiet layers u ended (front.Fault e) = record { pings = refl; stays = same_ws (ws_of layers) }
 
 -- nothing is passed by the WebSocket layer, unless an end was met
-abbrev Passless : List Placed → List ℕ → Type 0
+abbrev pub Passless : List Placed → List ℕ → Type 0
 Passless layers u = is_met layers ≡ false → pass_of_ws 16384 u (ws_of layers) ≡ None
 
 over_quiet : (t : TermLayer) (below : List Placed) (o : Outcome) → Quiet below o → Quiet (Term t ∷ below) (over_term t o)
@@ -232,7 +232,7 @@ read_quiet (Term t ∷ below) u ended k n = at t.met refl (read_quiet below u en
     at false e again = over_quiet t below (read_message below u ended 16384) (again (λ m. n (ap (λ b. b || is_met below) e ∙ m)))
 
 -- what an item leaves
-abbrev QuietDrop : List Placed → Dropped → Type 0
+abbrev pub QuietDrop : List Placed → Dropped → Type 0
 QuietDrop layers (Item o) = Quiet layers o
 QuietDrop layers (End o) = o.pings ≡ []
 QuietDrop layers (Stops o) = o.pings ≡ []
@@ -267,7 +267,7 @@ if_quiet : (layers : List Placed) (b : Bool) (x y : Dropped) → QuietDrop layer
 if_quiet layers true x y p q = p
 if_quiet layers false x y p q = q
 
-drop_quiet : (layers : List Placed) (u : List ℕ) (ended : Bool) → IsStanding layers → Passless layers u → QuietDrop layers (drop_one layers u ended)
+pub drop_quiet : (layers : List Placed) (u : List ℕ) (ended : Bool) → IsStanding layers → Passless layers u → QuietDrop layers (drop_one layers u ended)
 drop_quiet [] u ended k n = refl
 drop_quiet (Prefix form ∷ below) u ended k n = refl
 drop_quiet (Suffix end ∷ below) u ended k n = refl
@@ -279,14 +279,14 @@ drop_quiet (Term t ∷ below) u ended k n = at t.met refl
     at false e = message_quiet t below (read_message below u ended 16384) (read_quiet below u ended k.1 (λ m. n (ap (λ b. b || is_met below) e ∙ m)))
 drop_quiet (Ws ws ∷ below) u ended k n = if_quiet (Ws ws ∷ below) ws.met (End (outcome 0 below (Given (Number 0)))) (drop_frames below (read_ws below ws u ended drop_limit)) refl (frames_quiet ws below (read_ws below ws u ended 16384) (read_quiet (Ws ws ∷ below) u ended k n))
 
-passless : (s : Held) → next_pass 16384 s ≡ None → Passless s.layers s.unread
+pub passless : (s : Held) → next_pass 16384 s ≡ None → Passless s.layers s.unread
 passless s e = λ m. sym (ap (λ b. if b then None else pass_of_ws 16384 s.unread (ws_of s.layers)) m) ∙ e
 
 abbrev looks : Outcome → Held × Stream → Looked
 looks o now = record { stack = now.0; said = o.said; random = now.1 }
 
 -- an answer or a stop, where nothing was passed
-look_stop : (o : Outcome) (random : Stream) (s : Held) → o.pings ≡ [] → looked_over o random s ≡ record { stack = behind o s; said = o.said; random = random }
+pub look_stop : (o : Outcome) (random : Stream) (s : Held) → o.pings ≡ [] → looked_over o random s ≡ record { stack = behind o s; said = o.said; random = random }
 look_stop o random s e = ap (looks o) (ap (λ p. with_pongs_of (ws_of s.layers) p random (behind o s)) e ∙ none (ws_of s.layers))
   where
     none : (w : Option WsLayer) → with_pongs_of w [] random (behind o s) ≡ (behind o s, random)
@@ -297,7 +297,7 @@ look_stop o random s e = ap (looks o) (ap (λ p. with_pongs_of (ws_of s.layers) 
         at true = refl
         at false = refl
 
-look_item : (o q : Outcome) (random : Stream) (s : Held) → Quiet s.layers o → looked_over (further o q) random s ≡ looked_over q random (behind o s)
+pub look_item : (o q : Outcome) (random : Stream) (s : Held) → Quiet s.layers o → looked_over (further o q) random s ≡ looked_over q random (behind o s)
 look_item o q random s k =
     let u : drop (o.used + q.used) s.unread ≡ drop q.used (drop o.used s.unread) = sym (drop-drop q.used o.used s.unread) in
     let t : Held = record s { layers = q.layers; unread = drop q.used (drop o.used s.unread) } in

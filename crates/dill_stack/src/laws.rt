@@ -1,5 +1,5 @@
 ghost use Rattle.dill_stack.specs.Again.{LooksAgain};
-ghost use Rattle.dill_stack.specs.Cutting.{ReadsAlike};
+ghost use Rattle.dill_stack.specs.Cutting.{FinishesAlike, GreetsAlike, ReadsAlike};
 ghost use Rattle.dill_stack.specs.Ending.{EndingLaws};
 ghost use Rattle.dill_stack.specs.Joining.{JoiningLaws};
 ghost use Rattle.dill_stack.specs.Messages.{MessageLaws};
@@ -8,7 +8,8 @@ ghost use Rattle.dill_stack.specs.Staying.{FrontStays};
 ghost use Rattle.dill_stack.specs.Spelling.{FramingLaws};
 
 use dill_frames::{prefix_laws, suffix_laws};
-use dill_ws::frame_laws;
+use dill_http::http_laws;
+use dill_ws::{frame_laws, handshake_laws};
 
 /// A client's handshake is refused as its head is, attaches leave formed layers, and a message that isn't refused is
 /// sent in the spelling by each.
@@ -44,12 +45,18 @@ pub fn again_laws()
     suffix_laws();
 }
 
-/// However the same bytes are cut into pieces, and wherever a receive looks between them and awaits more, it is answered
-/// the same.
+/// However the same bytes are cut into pieces, wherever the peer's end comes among them, and wherever a receive, a detach
+/// or a handshake looks between them and awaits more, it is answered the same.
 pub fn cutting_laws()
-    ensures { ReadsAlike }
+    ensures reads { ReadsAlike }
+    ensures finishes { FinishesAlike }
+    ensures greets { GreetsAlike }
 {
     front_laws();
+    prefix_laws();
+    suffix_laws();
+    http_laws();
+    handshake_laws();
 }
 
 /// A WebSocket layer gives a message exactly where its frames stand at the front, behind those that the layer has
