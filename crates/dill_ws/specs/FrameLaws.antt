@@ -6,7 +6,7 @@ use Rattle.dill_ws.specs.declared.head.Head.{Head}
 use Rattle.dill_ws.specs.declared.head.HeadFront.{HeadFront}
 use Rattle.dill_ws.specs.declared.head.HeadFront.TheVariants.{Whole, Need, Fault}
 use Rattle.dill_ws.specs.Frames.{peer_of, masked, may_follow, Frame}
-use Rattle.dill_ws.specs.Fronts.{HeadSpells, HeadShows, head_front}
+use Rattle.dill_ws.specs.Fronts.{HeadSpells, HeadShows, IsHeadFront, head_front}
 
 -- Each is a byte.
 abbrev pub AreBytes : List ℕ → Type 0
@@ -35,6 +35,8 @@ pub record FrameLaws : Type 0 where
   -- each head that may come is read, whatever follows it, and so is each refusal
   pub again : (receiver : Side) (joining : Bool) (h : Head) (w rest : List ℕ) → HeadSpells receiver joining h w → head_front receiver joining (w ++ rest) ≡ Whole h
   pub refused : (receiver : Side) (joining : Bool) (e : Errno) (w rest : List ℕ) → AreBytes w → HeadShows receiver joining e w → head_front receiver joining (w ++ rest) ≡ Fault e
+  -- each answer has its cause
+  pub fronts : (receiver : Side) (joining : Bool) (u : List ℕ) → AreBytes u → IsHeadFront receiver joining u (head_front receiver joining u)
   -- what was judged stays so when more comes, and what is open is short
   pub stays : (receiver : Side) (joining : Bool) (u v : List ℕ) (f : HeadFront) → head_front receiver joining u ≡ f → IsSettled f → head_front receiver joining (u ++ v) ≡ f
   pub waits : (receiver : Side) (joining : Bool) (u : List ℕ) → head_front receiver joining u ≡ Need → length u < 14
