@@ -22,7 +22,7 @@ use Rattle.dill_stack.proofs.PassedParts.{AtFront, front_whole, joins_behind, pa
 use Rattle.dill_stack.proofs.JoinedReads.{IsSplit, frames_split, read_shown}
 
 -- an allowed payload carries a code
-close_some : (code : ℕ) (payload : List ℕ) → ClosePayload code payload → is_some (close_of payload) ≡ true
+pub close_some : (code : ℕ) (payload : List ℕ) → ClosePayload code payload → is_some (close_of payload) ≡ true
 close_some code [] p = refl
 close_some code (half ∷ []) p = absurd p
 close_some code (high ∷ low ∷ reason) p = by_tests (is_close_code (high * 256 + low)) (is_utf8 reason) (ap is_close_code (sym p.0) ∙ p.1) (is_utf8-from_IsUtf8 reason p.2)

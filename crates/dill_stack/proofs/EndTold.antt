@@ -61,7 +61,7 @@ by_front side joining u e (head.Fault x) over r q t =
     let same : x ≡ e = cc in
     no_end e (head_refused side joining u x r ∙ same) t
 
-front_refused : (limit : ℕ) (ws : WsLayer) (u : List ℕ) (e : Errno) → ws_front limit ws u ≡ Refused e → e ≡ Epipe → ⊥
+pub front_refused : (limit : ℕ) (ws : WsLayer) (u : List ℕ) (e : Errno) → ws_front limit ws u ≡ Refused e → e ≡ Epipe → ⊥
 unfolding ws_front
 front_refused limit ws u e f q = by_front ws.side (is_some ws.joining) u e (head_front ws.side (is_some ws.joining) u) (passes_limit limit ws u) refl f q
 
@@ -70,7 +70,7 @@ pub record HasCode (payload : List ℕ) : Type 0 where
   pub code : ℕ
   pub allowed : ClosePayload code payload
 
-has_code : (payload : List ℕ) → is_some (close_of payload) ≡ true → HasCode payload
+pub has_code : (payload : List ℕ) → is_some (close_of payload) ≡ true → HasCode payload
 has_code [] e = record { code = 0; allowed = refl }
 has_code (half ∷ []) e = cc
 has_code (high ∷ low ∷ reason) e = by_tests (is_close_code (high * 256 + low)) (is_utf8 reason) refl refl e
@@ -132,11 +132,11 @@ unfolding shown
 end_shown limit ended ws v e = by_shown limit ended ws v (ws_front limit ws v) refl e
 
 -- a close frame is whole
-close_fin : (joining fin : Bool) (n : ℕ) → may_follow joining fin 8 n ≡ true → fin ≡ true
+pub close_fin : (joining fin : Bool) (n : ℕ) → may_follow joining fin 8 n ≡ true → fin ≡ true
 close_fin joining true n e = refl
 close_fin joining false n e = cc
 
-close_is : (fin : Bool) (opcode : ℕ) (payload : List ℕ) → fin ≡ true → opcode ≡ 8 → let part : Part = record { fin = fin; opcode = opcode; payload = payload } in part ≡ close_part payload
+pub close_is : (fin : Bool) (opcode : ℕ) (payload : List ℕ) → fin ≡ true → opcode ≡ 8 → let part : Part = record { fin = fin; opcode = opcode; payload = payload } in part ≡ close_part payload
 close_is fin opcode payload e f = cc
 
 close_stands : (laws : FrameLaws) (limit : ℕ) (ws : WsLayer) (u : List ℕ) (p : Passed) (s : Shown) → AreBytes u → IsPassed limit ws u p → IsClosed limit p.ws (drop p.used u) s → CloseStands limit ws u (p.used + s.used)

@@ -104,12 +104,12 @@ passes_told limit ws u e = front_true (has_length u) (is_data (slice_index u 0 %
     front_true true q r s = refl
     front_true false q r s = cc
 
-limit_same : (limit : ℕ) (ws : WsLayer) (u v : List ℕ) → has_length u ≡ true → passes_limit limit ws (u ++ v) ≡ passes_limit limit ws u
+pub limit_same : (limit : ℕ) (ws : WsLayer) (u v : List ℕ) → has_length u ≡ true → passes_limit limit ws (u ++ v) ≡ passes_limit limit ws u
 limit_same limit ws [] v h = cc
 limit_same limit ws (a ∷ []) v h = cc
 limit_same limit ws (a ∷ b ∷ x) v h = limit_more limit ws a b x v h
 
-no_fault_same : (side : Side) (joining : Bool) (u v : List ℕ) → has_length u ≡ true → head_front side joining u ≡ head.Need → is_fault (head_front side joining (u ++ v)) ≡ false
+pub no_fault_same : (side : Side) (joining : Bool) (u v : List ℕ) → has_length u ≡ true → head_front side joining u ≡ head.Need → is_fault (head_front side joining (u ++ v)) ≡ false
 no_fault_same side joining [] v h e = cc
 no_fault_same side joining (a ∷ []) v h e = cc
 no_fault_same side joining (a ∷ b ∷ x) v h e = no_fault_more side joining a b x v h e

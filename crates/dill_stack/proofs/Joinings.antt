@@ -89,12 +89,12 @@ by_unpassed part false true c x y z p q r e = cc
 by_unpassed part false false true x y z p q r e = cc
 by_unpassed part false false false x y z p q r e = record { no_ping = p; no_pong = q; no_part = r }
 
-unpassed : (ws : WsLayer) (part : Part) (used : ℕ) → pass_of ws part used ≡ None → Unpassed part
+pub unpassed : (ws : WsLayer) (part : Part) (used : ℕ) → pass_of ws part used ≡ None → Unpassed part
 unpassed ws part used e =
     by_unpassed part (part.opcode == 9) (part.opcode == 10) (is_data part.opcode && not part.fin) (record { used = used; ws = ws; pings = part.payload ∷ [] }) (record { used = used; ws = ws; pings = [] }) (record { used = used; ws = with_part part ws; pings = [] }) refl refl refl e
 
 -- a frame that is none of these ends its message
-ends_message : (c fin : Bool) → c ≡ true → (c && not fin) ≡ false → fin ≡ true
+pub ends_message : (c fin : Bool) → c ≡ true → (c && not fin) ≡ false → fin ≡ true
 ends_message c true e f = refl
 ends_message true false e f = cc
 ends_message false fin e f = cc

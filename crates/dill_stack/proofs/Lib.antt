@@ -1,6 +1,8 @@
 pub mod Attachings
 pub mod EndReads
 pub mod EndTold
+pub mod Breakings
+pub mod BreakTold
 pub mod Following
 pub mod Fronts
 pub mod JoinedReads

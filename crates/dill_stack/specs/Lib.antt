@@ -18,6 +18,7 @@ pub mod Spelling
 pub mod Messages
 pub mod Joining
 pub mod Ending
+pub mod Breaking
 pub mod Interface
 pub mod RowTerms
 pub mod Rows

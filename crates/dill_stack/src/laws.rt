@@ -1,4 +1,5 @@
 ghost use Rattle.dill_stack.specs.Again.{LooksAgain};
+ghost use Rattle.dill_stack.specs.Breaking.{BreakingLaws};
 ghost use Rattle.dill_stack.specs.Cutting.{FinishesAlike, GreetsAlike, ReadsAlike};
 ghost use Rattle.dill_stack.specs.Ending.{EndingLaws};
 ghost use Rattle.dill_stack.specs.Joining.{JoiningLaws};
@@ -73,6 +74,15 @@ pub fn ending_laws()
     ensures { EndingLaws }
 {
     frame_laws();
+}
+
+/// A WebSocket layer refuses exactly what a front of the bytes shows to be refused, or where the list ended inside a
+/// message, and it awaits more exactly where nothing whole is there.
+pub fn breaking_laws()
+    ensures { BreakingLaws }
+{
+    frame_laws();
+    front_laws();
 }
 
 /// What stands at the front for a WebSocket layer stays when more bytes come.
