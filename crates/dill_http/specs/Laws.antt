@@ -4,11 +4,12 @@ use Rattle.dill_base.specs.declared.errno.Errno.{Errno}
 use Rattle.dill_base.specs.declared.errno.Errno.TheVariants.{Einval, Emsgsize}
 use Rattle.dill_base.specs.declared.errno.Front.{Front}
 use Rattle.dill_base.specs.declared.errno.Front.TheVariants.{Whole, Need, Fault}
+use Rattle.dill_base.specs.Reading.{IsFront}
 use Rattle.dill_http.specs.declared.span.Span.{Span}
 use Rattle.dill_http.specs.declared.span.Cut.{Cut}
 use Rattle.dill_http.specs.Lines.{line_limit, front_of_line, LineSpells, LineShows, IsCutLine}
 use Rattle.dill_http.specs.Heads.{Said, Request, Status, Field, is_right, line_of, LineWrites, LineReads}
-use Rattle.dill_http.specs.Reading.{part, request_cut, status_cut, field_cut}
+use Rattle.dill_http.specs.Reading.{IsCut, IsStatusCut, part, request_cut, status_cut, field_cut}
 use Rattle.dill_http.specs.Writing.{line_due}
 
 -- a whole line or a refusal
@@ -26,6 +27,8 @@ pub record LineLies (u : List ℕ) (from to used : ℕ) : Type 0 where
 
 -- the laws of lines and of their front
 pub record LineLaws : Type 0 where
+  -- each answer has its cause
+  pub front : (u : List ℕ) → IsFront LineSpells LineShows line_limit u (front_of_line u)
   -- what is spelled is read again, and what shows a refusal is refused, whatever follows it
   pub again : (m w rest : List ℕ) → LineSpells m w → length m ≤ line_limit → front_of_line (w ++ rest) ≡ Whole 0 (length m) (length w)
   pub refused : (e : Errno) (w rest : List ℕ) → LineShows e w → front_of_line (w ++ rest) ≡ Fault e
@@ -68,6 +71,10 @@ pub record HeadLaws : Type 0 where
   -- what was written is read again as a line, whatever follows it, and that line says the same
   pub again : (said : Said) (w rest : List ℕ) → LineWrites said w → front_of_line (w ++ rest) ≡ Whole 0 (length (line_of said)) (length w)
   pub says : (said : Said) (w rest : List ℕ) → LineWrites said w → LineReads (take (length (line_of said)) (w ++ rest)) said
+  -- what is found is what the line says, and nothing is found exactly where it says no such thing
+  pub request_read : (line : List ℕ) → IsCut Request line (request_cut line)
+  pub status_read : (line : List ℕ) → IsStatusCut line (status_cut line)
+  pub field_read : (line : List ℕ) → IsCut Field line (field_cut line)
   -- what a line says is found
   pub request_found : (line command resource : List ℕ) → LineReads line (Request command resource) → FindsCut line (request_cut line) command resource
   pub status_found : (line : List ℕ) (code : ℕ) (reason : List ℕ) → LineReads line (Status code reason) → FindsStatus line (status_cut line) code reason

@@ -3,6 +3,7 @@ pub mod EndReads
 pub mod EndTold
 pub mod Breakings
 pub mod BreakTold
+pub mod LineReads
 pub mod Following
 pub mod Fronts
 pub mod JoinedReads

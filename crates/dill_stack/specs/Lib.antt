@@ -19,6 +19,7 @@ pub mod Messages
 pub mod Joining
 pub mod Ending
 pub mod Breaking
+pub mod LineReading
 pub mod Interface
 pub mod RowTerms
 pub mod Rows

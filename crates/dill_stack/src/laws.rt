@@ -3,6 +3,7 @@ ghost use Rattle.dill_stack.specs.Breaking.{BreakingLaws};
 ghost use Rattle.dill_stack.specs.Cutting.{FinishesAlike, GreetsAlike, ReadsAlike};
 ghost use Rattle.dill_stack.specs.Ending.{EndingLaws};
 ghost use Rattle.dill_stack.specs.Joining.{JoiningLaws};
+ghost use Rattle.dill_stack.specs.LineReading.{LineReadLaws};
 ghost use Rattle.dill_stack.specs.Messages.{MessageLaws};
 ghost use Rattle.dill_stack.specs.Passing.{PassesFrames};
 ghost use Rattle.dill_stack.specs.Staying.{FrontStays};
@@ -83,6 +84,14 @@ pub fn breaking_laws()
 {
     frame_laws();
     front_laws();
+}
+
+/// A receive of the line of a head is answered by what stands at the front: what the line says exactly where it stands
+/// there, and each errno and each wait exactly where its cause does.
+pub fn line_laws()
+    ensures { LineReadLaws }
+{
+    http_laws();
 }
 
 /// What stands at the front for a WebSocket layer stays when more bytes come.
