@@ -52,7 +52,7 @@ no_answer e = cc
 
 -- ---- however many items may be dropped, all are
 
-drop_more : (p : PrefixLaws) (s : SuffixLaws) (n m : ℕ) (ended : Bool) (layers : List Placed) (u : List ℕ) → length u < n → length u < m → dropped_within n ended layers u ≡ dropped_within m ended layers u
+pub drop_more : (p : PrefixLaws) (s : SuffixLaws) (n m : ℕ) (ended : Bool) (layers : List Placed) (u : List ℕ) → length u < n → length u < m → dropped_within n ended layers u ≡ dropped_within m ended layers u
 drop_more p s zero m ended layers u k l = absurd (omega (arith, k))
 drop_more p s (suc n) zero ended layers u k l = absurd (omega (arith, l))
 drop_more p s (suc n) (suc m) ended layers u k l = at (drop_one layers u ended) refl (one_steps p s layers u ended) (drop_more p s n m ended)
@@ -262,7 +262,7 @@ record ItemKept (layers : List Placed) (u v : List ℕ) (e : Bool) (o : Outcome)
   there : o.used ≤ length u
   well : IsWell o.layers
 
-message_item : (t : TermLayer) (m o : Outcome) → drop_message t m ≡ Item o → (is_given m.said ≡ true) × (record m { layers = Term t ∷ m.layers } ≡ o)
+pub message_item : (t : TermLayer) (m o : Outcome) → drop_message t m ≡ Item o → (is_given m.said ≡ true) × (record m { layers = Term t ∷ m.layers } ≡ o)
 message_item t m o h = at (is_terminal t m.said) (is_given m.said) refl h
   where
     at : (a b : Bool) → is_given m.said ≡ b → (if a then End (left_with m.layers m) else if b then Item (record m { layers = Term t ∷ m.layers }) else Stops (record m { layers = Term t ∷ m.layers })) ≡ Item o → (is_given m.said ≡ true) × (record m { layers = Term t ∷ m.layers } ≡ o)
@@ -352,7 +352,7 @@ item_kept p s l f (Ws ws ∷ []) u v d e o w n h = at ws.met refl h
 
 -- ---- where nothing is passed and more is awaited, nothing changes
 
-message_stops : (t : TermLayer) (m o : Outcome) → drop_message t m ≡ Stops o → o ≡ record m { layers = Term t ∷ m.layers }
+pub message_stops : (t : TermLayer) (m o : Outcome) → drop_message t m ≡ Stops o → o ≡ record m { layers = Term t ∷ m.layers }
 message_stops t m o h = at (is_terminal t m.said) (is_given m.said) h
   where
     at : (a b : Bool) → (if a then End (left_with m.layers m) else if b then Item (record m { layers = Term t ∷ m.layers }) else Stops (record m { layers = Term t ∷ m.layers })) ≡ Stops o → o ≡ record m { layers = Term t ∷ m.layers }

@@ -45,3 +45,4 @@ pub mod Events
 pub mod Cuttings
 pub mod DropCuts
 pub mod GreetCuts
+pub mod DropTold

@@ -83,7 +83,7 @@ says_more Field line answer s = by (length line == 0) refl
     by true e = let zero : length line ≡ 0 = eqb-true (length line) 0 e in absurd (omega (arith, zero, size))
     by false e = refl
 
-empty_of : (line : List ℕ) → (length line == 0) ≡ true → line ≡ []
+pub empty_of : (line : List ℕ) → (length line == 0) ≡ true → line ≡ []
 empty_of [] e = refl
 empty_of (x ∷ line) e = let zero : length (x ∷ line) ≡ 0 = eqb-true (length (x ∷ line)) 0 e in absurd (omega (arith, zero))
 
@@ -100,7 +100,7 @@ ends_true Field line e = (refl, empty_of line e)
 abbrev line_read : Want → HttpLayer → List Placed → List ℕ → ℕ → Outcome
 line_read want http below line n = if ends_fields want line then outcome n (received BehindEmpty http ∷ below) (Fault Epipe) else given_line http below n (line_answer want line)
 
-line_at : (l : LineLaws) (u line : List ℕ) (n : ℕ) → LineStands u line n → (front_of_line u ≡ front.Whole 0 (length line) n) × (take (length line - 0) (drop 0 u) ≡ line)
+pub line_at : (l : LineLaws) (u line : List ℕ) (n : ℕ) → LineStands u line n → (front_of_line u ≡ front.Whole 0 (length line) n) × (take (length line - 0) (drop 0 u) ≡ line)
 line_at l u line n s =
     let size : length (take n u) ≡ n = length-take-le n u s.there in
     let whole : take n u ++ drop n u ≡ u = take-append-drop n u in
@@ -121,7 +121,7 @@ stands_read l want http below u line n ended e s =
     let at = line_at l u line n s in
     at_front want http below u ended (front.Whole 0 (length line) n) e at.0 ∙ ap (λ x. line_read want http below x n) at.1
 
-whole_stands : (l : LineLaws) (u : List ℕ) (from to used : ℕ) → front_of_line u ≡ front.Whole from to used → LineStands u (take (to - from) (drop from u)) used
+pub whole_stands : (l : LineLaws) (u : List ℕ) (from to used : ℕ) → front_of_line u ≡ front.Whole from to used → LineStands u (take (to - from) (drop from u)) used
 whole_stands l u from to used e =
     let w : IsWhole LineSpells line_limit u from to used = subst (IsFront LineSpells LineShows line_limit u) e (l.front u) in
     record { there = w.there; short = omega (arith, w.short, length-take (to - from) (drop from u)); spelled = w.spelled }
@@ -199,7 +199,7 @@ first_not_behind BeforeFirst e = refl
 first_not_behind AmongFields e = cc
 first_not_behind BehindEmpty e = cc
 
-empty_front : front_of_line [] ≡ front.Need
+pub empty_front : front_of_line [] ≡ front.Need
 unfolding front_of_line
 empty_front = refl
 

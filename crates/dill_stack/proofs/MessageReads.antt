@@ -52,7 +52,7 @@ same_text m t n = by_test (bytes_eq m t) (bytes_eq-Decides m t)
     by_test true d = absurd (n (d.0 refl))
     by_test false d = refl
 
-own_text : (t : List ℕ) → bytes_eq t t ≡ true
+pub own_text : (t : List ℕ) → bytes_eq t t ≡ true
 own_text t = (bytes_eq-Decides t t).1 refl
 
 -- the layers below an end by a terminal message are readable too

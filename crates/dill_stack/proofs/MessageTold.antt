@@ -23,13 +23,13 @@ use Rattle.dill_stack.proofs.MessageReads.{below_is, past, prefix_given, suffix_
 use Rattle.dill_stack.proofs.MessageWaits.{prefix_nothing, suffix_nothing, nothing_above, some_unread}
 
 -- why an errno is answered
-abbrev FaultTold : List Placed → ℕ → List ℕ → Bool → Errno → ℕ → Type 0
+abbrev pub FaultTold : List Placed → ℕ → List ℕ → Bool → Errno → ℕ → Type 0
 FaultTold layers limit u ended e n =
     ((e ≡ Epipe) × (EndStands layers limit u n ⊎ ((ended ≡ true) × (u ≡ []))))
     ⊎ (((e ≡ Eproto) × (ended ≡ true) × (u ≡ [] → ⊥) × NothingStands layers limit u) ⊎ ((e ≡ Emsgsize) × RefusalStands layers limit u e))
 
 -- why this is answered, with so many bytes used
-abbrev Told : List Placed → ℕ → List ℕ → Bool → ReadOut → ℕ → Type 0
+abbrev pub Told : List Placed → ℕ → List ℕ → Bool → ReadOut → ℕ → Type 0
 Told layers limit u ended (Given answer) n = (m : List ℕ) × (answer ≡ Bytes m) × MessageStands layers limit u m n
 Told layers limit u ended Need n = (ended ≡ false) × NothingStands layers limit u
 Told layers limit u ended (Fault e) n = FaultTold layers limit u ended e n
@@ -90,7 +90,7 @@ term_told term below limit u ended o t = by_said o.said t
     by_said (Given answer) x =
         subst (λ (y : Answer). Told (Term term ∷ below) limit u ended (over_term term (record o { said = Given y })).said (over_term term (record o { said = Given y })).used) (sym x.1) (by_message x.0 x.2)
 
-message_told : (p : PrefixLaws) (s : SuffixLaws) (layers : List Placed) (limit : ℕ) (u : List ℕ) (ended : Bool) → IsReadable layers → AreBytes u → Told layers limit u ended (read_message layers u ended limit).said (read_message layers u ended limit).used
+pub message_told : (p : PrefixLaws) (s : SuffixLaws) (layers : List Placed) (limit : ℕ) (u : List ℕ) (ended : Bool) → IsReadable layers → AreBytes u → Told layers limit u ended (read_message layers u ended limit).said (read_message layers u ended limit).used
 message_told p s [] limit u ended r b = absurd r.framing
 message_told p s (Prefix form ∷ []) limit u ended r b = prefix_told p form limit u ended (prefix_front form u limit) b refl
 message_told p s (Prefix form ∷ x ∷ below) limit u ended r b = let h : x ∷ below ≡ [] = r.standing in cc

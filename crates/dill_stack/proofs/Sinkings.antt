@@ -323,7 +323,7 @@ some_layers : (layers : List Placed) (u : List ℕ) (ended : Bool) (o : Outcome)
 some_layers [] u ended o e = cc
 some_layers (x ∷ layers) u ended o e = omega arith
 
-item_less : (p : PrefixLaws) (s : SuffixLaws) (l : LineLaws) (layers : List Placed) (u : List ℕ) (ended : Bool) (o : Outcome) → (1 ≤ length layers → IsDroppable layers) → drop_one layers u ended ≡ Item o → (1 ≤ o.used) × (1 ≤ length u)
+pub item_less : (p : PrefixLaws) (s : SuffixLaws) (l : LineLaws) (layers : List Placed) (u : List ℕ) (ended : Bool) (o : Outcome) → (1 ≤ length layers → IsDroppable layers) → drop_one layers u ended ≡ Item o → (1 ≤ o.used) × (1 ≤ length u)
 item_less p s l layers u ended o k e = at (drop_one layers u ended) e (one_fine p s l layers u ended (k (some_layers layers u ended o e)))
   where
     at : (d : Dropped) → d ≡ Item o → StepFine u d → (1 ≤ o.used) × (1 ≤ length u)

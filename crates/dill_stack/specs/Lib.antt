@@ -20,6 +20,7 @@ pub mod Joining
 pub mod Ending
 pub mod Breaking
 pub mod LineReading
+pub mod DropReading
 pub mod Interface
 pub mod RowTerms
 pub mod Rows

@@ -1,6 +1,7 @@
 ghost use Rattle.dill_stack.specs.Again.{LooksAgain};
 ghost use Rattle.dill_stack.specs.Breaking.{BreakingLaws};
 ghost use Rattle.dill_stack.specs.Cutting.{FinishesAlike, GreetsAlike, ReadsAlike};
+ghost use Rattle.dill_stack.specs.DropReading.{DropLaws};
 ghost use Rattle.dill_stack.specs.Ending.{EndingLaws};
 ghost use Rattle.dill_stack.specs.Joining.{JoiningLaws};
 ghost use Rattle.dill_stack.specs.LineReading.{LineReadLaws};
@@ -91,6 +92,17 @@ pub fn breaking_laws()
 pub fn line_laws()
     ensures { LineReadLaws }
 {
+    http_laws();
+}
+
+/// A detach of a framing, of an end by a terminal message over framings, or of a head drops exactly the items that stand
+/// one behind the other, and is answered by what stands behind them.
+pub fn drop_laws()
+    ensures { DropLaws }
+{
+    prefix_laws();
+    suffix_laws();
+    message_laws();
     http_laws();
 }
 
