@@ -25,6 +25,11 @@ built view words.Bundle [] f p = refl
 built view words.Go (operands.Program a ∷ list) f p = refl
 built view words.BundleGo (operands.Num a ∷ operands.Program b ∷ list) f p = refl
 built view words.BundleWait (operands.Num a ∷ operands.Wait b ∷ []) f p = refl
+built view words.Chmake [] f p = refl
+built view words.Chsend (operands.Num a ∷ operands.Bytes b ∷ operands.Wait c ∷ []) f p = refl
+built view words.Chrecv (operands.Num a ∷ operands.Num b ∷ operands.Wait c ∷ []) f p = refl
+built view words.Chdone (operands.Num a ∷ []) f p = refl
+built view words.Choose (operands.Wait a ∷ list) f p = refl
 built view _ _ f p = cc
 
 -- so it is with a form

@@ -1,17 +1,14 @@
 -- A turn of what is held is a turn of its program, and leaves it running.
-use Rattle.std.proofs.Common.{◌≡◌, ◌≤◌, ℕ, List, Bool, true, false, Option, Some, None, refl, sym, ap, ◌∙◌, subst, arith}
-use Rattle.dill_base.specs.declared.errno.Errno.{Errno}
+use Rattle.std.proofs.Common.{◌≡◌, Bool, true, false, Option, Some, None, refl, sym, ap, ◌∙◌, subst}
 use Rattle.dill_calls.specs.declared.answer.Answer.{Answer}
 use Rattle.dill_calls.specs.declared.body.Next.{Next}
 use Rattle.dill_calls.specs.declared.body.Next.TheVariants as nexts
 use Rattle.dill_calls.specs.declared.call.Call.{Call}
 use Rattle.dill_calls.specs.Program.{Turns, moved_word}
 use Rattle.dill_script.specs.declared.statement.Statement.{Statement}
-use Rattle.dill_script.specs.declared.statement.Statement.TheVariants as statements
-use Rattle.dill_meaning.specs.Meaning.{moved, kept, appended}
-use Rattle.dill_meaning.specs.Values.{bytes_value}
+use Rattle.dill_meaning.specs.Meaning.{moved}
 use Rattle.dill_meaning.specs.Views.{ScriptView, statements_of, ahead, pending}
-use Rattle.dill_meaning.specs.Walks.{Stop, walk, given, stop_of, join_fault}
+use Rattle.dill_meaning.specs.Walks.{Stop, walk, given, stop_of}
 use Rattle.dill_meaning.proofs.Given.{GoesFrom, given_goes}
 use Rattle.dill_meaning.proofs.Walking.{statements_kept}
 use Rattle.relay_body.specs.declared.held.Held.{Held}

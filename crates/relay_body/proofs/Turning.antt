@@ -1,5 +1,5 @@
 -- What is held goes on its way over each statement.
-use Rattle.std.proofs.Common.{◌≡◌, ℕ, suc, true, sym, ap, subst}
+use Rattle.std.proofs.Common.{◌≡◌, suc, true, sym, ap, subst}
 use Rattle.std.proofs.lemmas.Bool.{and_from}
 use Rattle.dill_meaning.specs.Views.{pending, statements_of}
 use Rattle.dill_meaning.specs.Walks as walks

@@ -8,7 +8,7 @@ use Rattle.dill_script.specs.declared.operand.Dest.{Dest}
 use Rattle.dill_script.specs.declared.operand.Dest.TheVariants as dests
 use Rattle.dill_script.specs.declared.statement.Statement.{Statement}
 use Rattle.dill_script.specs.declared.statement.Statement.TheVariants as statements
-use Rattle.dill_meaning.specs.Effects.{put, again, fault_in, one_less}
+use Rattle.dill_meaning.specs.Effects.{put, again, fault_in}
 use Rattle.dill_meaning.specs.Views.{ScriptView, Round, last_of}
 use Rattle.dill_meaning.specs.Walks.{Runs, given, settled, looped}
 use Rattle.relay_body.specs.Bools.{le_of}

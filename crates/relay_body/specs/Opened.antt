@@ -1,5 +1,5 @@
 -- The loops that are entered fit over each statement.
-use Rattle.std.proofs.Common.{◌≡◌, ◌≤◌, ◌+◌, ◌<◌, ℕ, zero, suc, pred, List, [], ◌∷◌, length, take, slice_get, cond, Bool, true, false, ◌&&◌, nat_le, nat_lt, if◌then◌else◌, Option, Some, None, refl, sym, ap, subst, ltb-true, arith, ◌∙◌}
+use Rattle.std.proofs.Common.{◌≡◌, ◌≤◌, ◌+◌, ◌<◌, ℕ, zero, suc, List, [], ◌∷◌, length, take, slice_get, cond, Bool, true, false, ◌&&◌, nat_le, if◌then◌else◌, Option, Some, None, refl, sym, ap, subst, ltb-true, arith, ◌∙◌}
 use Rattle.std.proofs.lemmas.Bool.{and_from, and_parts}
 use Rattle.std.proofs.lemmas.List.Sums.{sum_by-cons}
 use Rattle.std.specs.List.{list_all}
@@ -17,7 +17,7 @@ use Rattle.dill_meaning.specs.Views.{ScriptView, Round, statements_in}
 use Rattle.dill_meaning.specs.Walks.{Mode, Runs, ToElse, ToEndIf, ToEndLoop, ToFinally, passed_over, passing, behind, run, begin_loop}
 use Rattle.relay_body.specs.Depths.{below, loops_left, Fits}
 use Rattle.relay_body.specs.Running.{loops_open, blocks_at, are_open, with_ended, opens_in}
-use Rattle.relay_body.specs.Bools.{le_holds, le_of}
+use Rattle.relay_body.specs.Bools.{le_holds}
 
 -- a program of a script whose programs are nested
 pub nested_in : (script : List Program) (program : ℕ) → list_all is_nested script ≡ true → nests in_program (statements_in (slice_get script program)) ≡ true

@@ -10,7 +10,7 @@ use Rattle.dill_script.specs.Spelling.{is_sized, takes_its}
 use Rattle.dill_meaning.specs.Views.{ScriptView, statements_of, pending, last_of}
 use Rattle.dill_meaning.proofs.Reached.{one_says}
 use Rattle.relay_body.specs.Running.{says_plain, is_runnable, has_open, is_running}
-use Rattle.relay_body.specs.Bools.{and_left, and_right, le_of}
+use Rattle.relay_body.specs.Bools.{and_left, le_of}
 
 -- its parts
 pub record Runnable (script : List Program) : Type 0 where

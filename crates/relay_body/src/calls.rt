@@ -2,15 +2,15 @@ ghost use Rattle.std.specs.Prelude.{◌≡◌, ◌≤◌, ◌<◌, ◌++◌, ◌
 ghost use Rattle.std.specs.Rc.{rc_value};
 ghost use Rattle.dill_calls.specs.CallTable.{build_takes_memory};
 ghost use Rattle.dill_script.specs.Refusals.{has_name};
-ghost use Rattle.dill_meaning.specs.Calls.{item_text, arg_of};
+ghost use Rattle.dill_meaning.specs.Calls.{item_text, arg_of, clause_of};
 ghost use Rattle.dill_meaning.specs.Values.{value_of, values_of};
 ghost use Rattle.dill_meaning.specs.Views.{number_of_name};
-ghost use Rattle.relay_body.specs.Building.{num_of, wait_of, program_of, args_from, plain_call};
+ghost use Rattle.relay_body.specs.Building.{num_of, bytes_of, wait_of, program_of, args_from, clauses_from, plain_call};
 ghost use Rattle.relay_body.specs.Seen.{seen};
 
 use crate::held::Held;
 use dill_base::{Deadline, NoMemory, Octets};
-use dill_calls::{Arg, Args, Call, Word};
+use dill_calls::{Arg, Args, Call, Clause, Clauses, Word};
 use dill_script::{Form, Operand, Program};
 use itoa::Buffer;
 
@@ -44,6 +44,16 @@ impl Held {
         match list.get(place) {
             Some(Operand::Num(value)) => self.num_value(*value),
             _ => 0,
+        }
+    }
+
+    /// A copy of the bytes of an operand, or none where it is of another kind.
+    fn octets_at(&self, list: &[Operand], place: usize) -> Result<Octets, NoMemory>
+        ensures { IfOk result (λ bytes. bytes ≡ bytes_of (seen self.now) (slice_get list.now place)) }
+    {
+        match list.get(place) {
+            Some(Operand::Bytes(value)) => Octets::from_slice(self.alloc, self.bytes_value(value)),
+            _ => Ok(Octets::new(self.alloc)),
         }
     }
 
@@ -125,8 +135,45 @@ impl Held {
         Ok(Args::new(self.alloc))
     }
 
-    /// The call of a word that is built, with what its operands are worth now. Only one with a text or with arguments takes
-    /// memory.
+    /// Adds a clause: a copy of an item that is sent at an end, or a size that is received there.
+    fn push_clause(&self, clauses: &mut Clauses, clause: &Operand) -> Result<(), NoMemory>
+        ensures { OnOk result (clauses.new ≡ clauses.old ++ option_to_list (clause_of (value_of (seen self.now) clause.now))) }
+    {
+        match clause {
+            Operand::Send(end, item) => {
+                let item = Octets::from_slice(self.alloc, self.bytes_value(item))?;
+                clauses.push(Clause::Send(self.num_value(*end), item))
+            }
+            Operand::Recv(end, size) => {
+                clauses.push(Clause::Recv(self.num_value(*end), self.num_value(*size)))
+            }
+            _ => Ok(()),
+        }
+    }
+
+    /// All clauses in their order.
+    fn clauses_of(&self, list: &[Operand]) -> Result<Clauses, NoMemory>
+        ensures { IfOk result (λ clauses. clauses ≡ filter_map clause_of (values_of (seen self.now) list.now)) }
+    {
+        let mut clauses = Clauses::new(self.alloc);
+        for clause in list {
+            self.push_clause(&mut clauses, clause)?;
+        }
+        Ok(clauses)
+    }
+
+    /// The clauses from one operand on.
+    fn clauses_from(&self, list: &[Operand], from: usize) -> Result<Clauses, NoMemory>
+        ensures { IfOk result (λ clauses. clauses ≡ clauses_from (seen self.now) from list.now) }
+    {
+        if from < list.len() {
+            return self.clauses_of(&list[from..]);
+        }
+        Ok(Clauses::new(self.alloc))
+    }
+
+    /// The call of a word that is built, with what its operands are worth now. Only one with bytes, arguments
+    /// or clauses takes memory.
     pub(crate) fn form_call(&self, form: &Form) -> Result<Call, NoMemory>
         requires { length (rc_value self.now.script) ≤ 256 }
         ensures ok { IfOk result (λ call. call ≡ plain_call (seen self.now) form.now.word form.now.operands) }
@@ -148,6 +195,17 @@ impl Held {
                 Call::BundleGo(bundle, program, self.args_from(list, 2)?)
             }
             Word::BundleWait => Call::BundleWait(self.num_at(list, 0), self.wait_at(list, 1)),
+            Word::Chmake => Call::Chmake,
+            Word::Chsend => {
+                let (end, item) = (self.num_at(list, 0), self.octets_at(list, 1)?);
+                Call::Chsend(end, item, self.wait_at(list, 2))
+            }
+            Word::Chrecv => {
+                let (end, size) = (self.num_at(list, 0), self.num_at(list, 1));
+                Call::Chrecv(end, size, self.wait_at(list, 2))
+            }
+            Word::Chdone => Call::Chdone(self.num_at(list, 0)),
+            Word::Choose => Call::Choose(self.wait_at(list, 0), self.clauses_from(list, 1)?),
             _ => Call::Now,
         })
     }

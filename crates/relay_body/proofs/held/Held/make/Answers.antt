@@ -1,4 +1,4 @@
-use Rattle.std.proofs.Common.{refl, sym, ap, ◌∙◌}
+use Rattle.std.proofs.Common.{sym, ap, ◌∙◌}
 use Rattle.dill_meaning.specs.Walks.{join_fault}
 use Rattle.relay_body.specs.Seen.{seen}
 use Rattle.relay_body.proofs.Joining.{join_makes}
