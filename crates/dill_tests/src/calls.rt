@@ -120,7 +120,7 @@ fn arguments_and_clauses_keep_their_order(rt: HostRuntime) -> Result<(), Fail> {
 }
 
 #[test]
-fn sleeping_is_built_and_channels_are_not(rt: HostRuntime) {
-    assert!(rt; Word::Msleep.is_built());
-    assert!(rt; !Word::Chmake.is_built());
+fn channels_are_built_and_links_are_not(rt: HostRuntime) {
+    assert!(rt; Word::Chmake.is_built());
+    assert!(rt; !Word::TcpDone.is_built());
 }

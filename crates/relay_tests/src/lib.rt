@@ -5,6 +5,8 @@
 #[cfg(test)]
 mod cases;
 #[cfg(test)]
+mod channels;
+#[cfg(test)]
 mod limits;
 #[cfg(test)]
 mod program;

@@ -44,7 +44,7 @@ fn refused_scripts(rt: HostRuntime) -> Result<(), Fail> {
             "dillrelay: script line 2: bad operand\n",
         ),
         (
-            b"dill 1\nprogram main 0\nprint \"a\"\nchmake\nend\n",
+            b"dill 1\nprogram main 0\nprint \"a\"\ntcp_done 1 -1\nend\n",
             "dillrelay: script line 4: not built\n",
         ),
         (
