@@ -2,7 +2,7 @@ ghost use Rattle.std.specs.Prelude.{◌≡◌, true, IfOk};
 ghost use Rattle.std.specs.Rc.{rc_value};
 ghost use Rattle.relay_body.specs.Running.{is_runnable};
 
-use crate::values::memory;
+use crate::values::{memory, octets};
 use dill_base::Errno;
 use dill_calls::{Answer, Body};
 use dill_script::Script;
@@ -305,6 +305,113 @@ end
         (Answer::Number(0), "End(None)", 1),
     ]?;
     plays(&rt, alloc, begin_next(alloc, text, &[0, 0])?, table)
+}
+
+#[test]
+fn calls_of_channels_have_their_operands_and_keep_their_answers(
+    rt: HostRuntime,
+) -> Result<(), Fail> {
+    let alloc = rt.alloc();
+    let text = b"dill 1
+program main 0
+  n0 n1 = chmake
+  set b0 \"hi\"
+  try chsend n0 b0 +20
+  b1 = chrecv n1 n0 -1
+  n2 b1 = choose 9 send n0 b1 recv n1 4
+  n2 b1 = choose -1 recv n1 n2
+  print n2 b1
+  chdone n0
+end
+";
+    let came = octets(alloc, b"abc")?;
+    let chosen = octets(alloc, b"xy")?;
+    let table = vec![in alloc;
+        (Answer::Number(0), "Call(Chmake)", 8),
+        (Answer::Pair(3, 4), "Call(Pass(Set, None))", 7),
+        (
+            Answer::Number(0),
+            "Call(Chsend(3, Octets { bytes: [104, 105] }, After(20)))",
+            6
+        ),
+        (
+            Answer::Fault(Errno::Etimedout),
+            "Call(Chrecv(4, 3, Never))",
+            5
+        ),
+        (
+            Answer::Bytes(came),
+            "Call(Choose(At(9), Sequence { items: [Send(3, Octets { bytes: [97, 98, 99] }), Recv(4, 4)] }))",
+            4
+        ),
+        (
+            Answer::Chosen {
+                index: 7,
+                fault: None,
+                bytes: None
+            },
+            "Call(Choose(Never, Sequence { items: [Recv(4, 7)] }))",
+            3
+        ),
+        (
+            Answer::Chosen {
+                index: 1,
+                fault: None,
+                bytes: Some(chosen)
+            },
+            "Call(Print(Octets { bytes: [49, 120, 121] }))",
+            2
+        ),
+        (Answer::Number(0), "Call(Chdone(3))", 1),
+        (Answer::Number(0), "End(None)", 1),
+    ]?;
+    plays(&rt, alloc, begin(alloc, text)?, table)
+}
+
+/// Its index is kept, and a byte register stays as it was where no bytes came.
+#[test]
+fn the_errno_of_a_clause_is_a_fault_of_its_choice(rt: HostRuntime) -> Result<(), Fail> {
+    let alloc = rt.alloc();
+    let text = b"dill 1
+program main 0
+  set b0 \"a\"
+  try n0 b0 = choose 0 recv 2 1 recv 4 1
+  if err EBADF
+    n0 b0 = choose -1
+  end
+  now
+finally
+  print n0 b0
+end
+";
+    let table = vec![in alloc;
+        (Answer::Number(0), "Call(Pass(Set, None))", 5),
+        (
+            Answer::Number(0),
+            "Call(Choose(At(0), Sequence { items: [Recv(2, 1), Recv(4, 1)] }))",
+            4
+        ),
+        (
+            Answer::Chosen {
+                index: 1,
+                fault: Some(Errno::Ebadf),
+                bytes: None
+            },
+            "Call(Choose(Never, Sequence { items: [] }))",
+            3
+        ),
+        (
+            Answer::Chosen {
+                index: 5,
+                fault: Some(Errno::Epipe),
+                bytes: None
+            },
+            "Call(Print(Octets { bytes: [53, 97] }))",
+            1
+        ),
+        (Answer::Number(0), "End(Some(Epipe))", 1),
+    ]?;
+    plays(&rt, alloc, begin(alloc, text)?, table)
 }
 
 /// `kid` sleeps for its second argument if its first is 6.

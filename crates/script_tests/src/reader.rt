@@ -32,7 +32,7 @@ fn refuses(rt: &(impl Abort + AllocGlobal), text: &[u8], line: u32, reason: Reas
 
 #[test]
 fn scripts_are_read_program_by_program(rt: HostRuntime) {
-    let cases: [(&[u8], &[Shape]); 12] = [
+    let cases: [(&[u8], &[Shape]); 15] = [
         (b"dill 1\nprogram main 0\nend\n", &[(b"main", 0, 0)]),
         (
             b"dill 1\nprogram main 0\nprint \"hello\"\nprint \"bye\"\nend\n",
@@ -74,6 +74,18 @@ fn scripts_are_read_program_by_program(rt: HostRuntime) {
         (
             b"dill 1\nprogram main 0\ngo s n1\nend\nprogram s 1\nend\n",
             &[(b"main", 0, 1), (b"s", 1, 0)],
+        ),
+        (
+            b"dill 1\nprogram a 0\nmsleep -1\nend\nprogram r 1\nchrecv n0 1 -1\nend\nprogram y 0\nloop\nend\nend\nprogram main 0\nn0 = bundle\nn1 n2 = chmake\nbundle_go n0 a\nbundle_go n0 r n1\nbundle_go n0 y\nhclose n0\nend\n",
+            &[(b"a", 0, 1), (b"r", 1, 1), (b"y", 0, 2), (b"main", 0, 6)],
+        ),
+        (
+            b"dill 1\nprogram s 1\ntry chsend n0 \"abc\" -1\ntry chdone n0\nend\nprogram main 0\nn0 n1 = chmake\nn2 = go s n0\ntry chrecv n1 4 -1\ntry chrecv n1 4 -1\nend\n",
+            &[(b"s", 1, 2), (b"main", 0, 4)],
+        ),
+        (
+            b"dill 1\nprogram s 1\nchsend n0 \"x\" -1\nend\nprogram main 0\nn0 n1 = chmake\nn2 n3 = chmake\ntry choose 0\ntry choose 0 recv n1 1 recv n3 1\nn4 = go s n0\nn5 = go s n2\nyield\nn6 b0 = choose -1 recv n3 1 recv n1 1\nprint n6 b0\nend\n",
+            &[(b"s", 1, 1), (b"main", 0, 9)],
         ),
     ];
     for (text, programs) in cases {
