@@ -6,7 +6,7 @@ ghost use Rattle.dill_core.specs.Placing.{AreUpTo};
 use crate::Core;
 use dill_base::Errno;
 use dill_calls::{Note, Ran, Word};
-use dill_drive::Stepper;
+use dill_drive::{Ask, Reply, Stepper};
 use dill_kernel::{Limit, ReadyList};
 use dill_plain::PlainBody;
 use dill_steps::{least_due, waiting_from};
@@ -34,7 +34,7 @@ fn place_behind<B>(coroutines: &[Row<B>], number: u64) -> usize
 }
 
 impl<B: PlainBody> Stepper for Core<B> {
-    ghost use Rattle.std.specs.Prelude.{refl};
+    ghost use Rattle.std.specs.Prelude.{[]};
     ghost use Rattle.dill_core.specs.Ending.{IsEnding, owed};
     ghost use Rattle.dill_core.specs.CoreMachine.{core_machine};
 
@@ -44,7 +44,9 @@ impl<B: PlainBody> Stepper for Core<B> {
 
     ghost owed = { owed B.means };
 
-    ghost waits_alone = { λ h. refl };
+    ghost tries = { λ h. 0 };
+
+    ghost offers = { λ h. [] };
 
     ghost goes_on = { λ h closed going. closed.goes_on going };
 
@@ -73,6 +75,17 @@ impl<B: PlainBody> Stepper for Core<B> {
     fn woke(&mut self, moment: u64, _ready: &ReadyList) {
         self.wake(moment);
     }
+
+    fn next_try(&self) -> Option<Ask> {
+        None
+    }
+
+    fn offered(&self) -> &[u8] {
+        &[]
+    }
+
+    /// Nothing is ever asked, so no reply comes.
+    fn hear<R: Rng>(&mut self, _reply: Reply<'_>, _keys: &mut R) {}
 
     fn expire(&mut self) {
         self.expire_all();

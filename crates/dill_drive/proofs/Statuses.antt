@@ -5,7 +5,7 @@ use Rattle.dill_base.specs.declared.status.Status.{Status}
 use Rattle.dill_base.specs.declared.status.Status.TheVariants as status
 use Rattle.dill_base.specs.Causes.{HasCause}
 use Rattle.dill_kernel.specs.Entry.{ReplyHasCause}
-use Rattle.dill_drive.specs.Progress.{StopsRounds, IsEnd, KernelHasCause, fails_now, is_wait}
+use Rattle.dill_drive.specs.Progress.{StopsRounds, IsEnd, HasFault, fails_now, is_wait, stops_wait}
 use Rattle.dill_drive.specs.Story.{is_sink, is_well, final}
 
 pub err_holds : {T E P : Type 0} (r : Result T E) → is_err r ≡ true → OnErr r P → P
@@ -143,11 +143,6 @@ pub if_some_map : {A : Type 0} {P Q : A → Type 0} (o : Option A) → ((x : A) 
 if_some_map None f p = tt
 if_some_map (Some x) f p = f x p
 
--- a run that was stopped ends as it was stopped, or by a failed write
-pub ends_as : (stop last now : Status) (outcome : Option (Option Errno)) → is_well last ≡ false → (last ≡ stop) ⊎ (last ≡ status.Sink) → (now ≡ final last outcome) ⊎ (now ≡ status.Sink) → (now ≡ stop) ⊎ (now ≡ status.Sink)
-ends_as stop last now outcome ne is (inl e) = status_trans stop last now is (inl (e ∙ final_stop last outcome ne))
-ends_as stop last now outcome ne is (inr e) = inr e
-
 pub stop_of : (stop : Status) → (stop ≡ status.Well) ⊎ StopsRounds stop → (stop ≡ status.Well → ⊥) → StopsRounds stop
 stop_of stop (inl e) ne = absurd (ne e)
 stop_of stop (inr is) ne = is
@@ -159,21 +154,78 @@ stop_ends status.Stuck is = tt
 stop_ends status.Wait is = tt
 stop_ends stop is = absurd is
 
-pub end_by_stop : (stop now : Status) → StopsRounds stop → (now ≡ stop) ⊎ (now ≡ status.Sink) → IsEnd now
-end_by_stop stop now is (inl e) = subst IsEnd (sym e) (stop_ends stop is)
-end_by_stop stop now is (inr e) = subst IsEnd (sym e) tt
+-- how the rounds ended is how the run ended, but for a failed write and for how `main` ended
+lasts : (stop last : Status) → (stop ≡ status.Well) ⊎ StopsRounds stop → (last ≡ stop) ⊎ (last ≡ status.Sink) → (last ≡ status.Well) ⊎ StopsRounds last
+lasts stop last (inl well) (inl e) = inl (e ∙ well)
+lasts stop last (inr is) (inl e) = inr (subst StopsRounds (sym e) is)
+lasts stop last way (inr e) = inr (subst StopsRounds (sym e) tt)
 
-pub no_fault : {A : Type 0} (stop now : Status) → StopsRounds stop → (now ≡ stop) ⊎ (now ≡ status.Sink) → now ≡ status.Fault → A
-no_fault stop now is (inl e) f = absurd (subst StopsRounds (sym e ∙ f) is)
-no_fault stop now is (inr e) f = cc
+final_well : (outcome : Option (Option Errno)) → IsEnd (final status.Well outcome)
+final_well None = tt
+final_well (Some None) = tt
+final_well (Some (Some errno)) = tt
 
-pub stuck_by_stop : {A : Type 0} (stop now : Status) → (now ≡ stop) ⊎ (now ≡ status.Sink) → (stop ≡ status.Stuck → A) → now ≡ status.Stuck → A
-stuck_by_stop stop now (inl e) was f = was (sym e ∙ f)
-stuck_by_stop stop now (inr e) was f = cc
+final_ends : (last now : Status) (outcome : Option (Option Errno)) → (last ≡ status.Well) ⊎ StopsRounds last → (now ≡ final last outcome) ⊎ (now ≡ status.Sink) → IsEnd now
+final_ends last now outcome way (inr e) = subst IsEnd (sym e) tt
+final_ends last now outcome (inl well) (inl e) = subst IsEnd (sym (e ∙ ap (λ (s : Status). final s outcome) well)) (final_well outcome)
+final_ends last now outcome (inr is) (inl e) = subst IsEnd (sym (e ∙ final_stop last outcome (stops_not_well last is))) (stop_ends last is)
+  where
+    stops_not_well : (s : Status) → StopsRounds s → is_well s ≡ false
+    stops_not_well status.Sink is = refl
+    stops_not_well status.Spent is = refl
+    stops_not_well status.Stuck is = refl
+    stops_not_well status.Wait is = refl
+    stops_not_well s is = absurd is
 
-sink_of : (stop now : Status) → is_sink stop ≡ true → (now ≡ stop) ⊎ (now ≡ status.Sink) → is_sink now ≡ true
-sink_of stop now failed (inl e) = ap is_sink e ∙ failed
-sink_of stop now failed (inr e) = ap is_sink e
+pub run_ends : (stop last now : Status) (outcome : Option (Option Errno)) → (stop ≡ status.Well) ⊎ StopsRounds stop → (last ≡ stop) ⊎ (last ≡ status.Sink) → (now ≡ final last outcome) ⊎ (now ≡ status.Sink) → IsEnd now
+run_ends stop last now outcome way is ends = final_ends last now outcome (lasts stop last way is) ends
+
+-- what is said of no end of `main` and of no failed write was said of the stop
+final_back : (P : Status → Type 0) → (P status.Well → ⊥) → (P status.Fault → ⊥) → (last : Status) (outcome : Option (Option Errno)) → P (final last outcome) → P last
+final_back P well fault status.Well None p = p
+final_back P well fault status.Well (Some None) p = p
+final_back P well fault status.Well (Some (Some errno)) p = absurd (fault p)
+final_back P well fault status.Sink outcome p = p
+final_back P well fault status.Fault outcome p = p
+final_back P well fault status.Words outcome p = p
+final_back P well fault status.Memory outcome p = p
+final_back P well fault status.Script outcome p = p
+final_back P well fault status.Shelf outcome p = p
+final_back P well fault status.Spent outcome p = p
+final_back P well fault status.Stuck outcome p = p
+final_back P well fault status.Wait outcome p = p
+
+pub of_stop : (P : Status → Type 0) → (P status.Well → ⊥) → (P status.Fault → ⊥) → (P status.Sink → ⊥) → (stop last now : Status) (outcome : Option (Option Errno)) → (last ≡ stop) ⊎ (last ≡ status.Sink) → (now ≡ final last outcome) ⊎ (now ≡ status.Sink) → P now → P stop
+of_stop P well fault sink stop last now outcome is (inr e) p = absurd (sink (subst P e p))
+of_stop P well fault sink stop last now outcome (inl e) (inl f) p = subst P e (final_back P well fault last outcome (subst P f p))
+of_stop P well fault sink stop last now outcome (inr e) (inl f) p = absurd (sink (subst P e (final_back P well fault last outcome (subst P f p))))
+
+-- where `main` ended with an errno
+final_fault : (outcome : Option (Option Errno)) → final status.Well outcome ≡ status.Fault → HasFault outcome
+final_fault None e = cc
+final_fault (Some None) e = cc
+final_fault (Some (Some errno)) e = tt
+
+fault_by : (last : Status) (outcome : Option (Option Errno)) → (last ≡ status.Well) ⊎ StopsRounds last → final last outcome ≡ status.Fault → HasFault outcome
+fault_by last outcome (inl well) e = final_fault outcome (sym (ap (λ (s : Status). final s outcome) well) ∙ e)
+fault_by status.Sink outcome (inr is) e = cc
+fault_by status.Spent outcome (inr is) e = cc
+fault_by status.Stuck outcome (inr is) e = cc
+fault_by status.Wait outcome (inr is) e = cc
+fault_by last outcome (inr is) e = absurd is
+
+pub run_faulted : (stop last now : Status) (outcome : Option (Option Errno)) → (stop ≡ status.Well) ⊎ StopsRounds stop → (last ≡ stop) ⊎ (last ≡ status.Sink) → (now ≡ final last outcome) ⊎ (now ≡ status.Sink) → now ≡ status.Fault → HasFault outcome
+run_faulted stop last now outcome way is (inl e) f = fault_by last outcome (lasts stop last way is) (sym e ∙ f)
+run_faulted stop last now outcome way is (inr e) f = cc
+
+-- a failed write stays one
+pub sink_stays : (stop now : Status) → (now ≡ stop) ⊎ (now ≡ status.Sink) → is_sink stop ≡ true → is_sink now ≡ true
+sink_stays stop now (inl e) failed = ap is_sink e ∙ failed
+sink_stays stop now (inr e) failed = ap is_sink e
+
+pub sink_final : (last now : Status) (outcome : Option (Option Errno)) → (now ≡ final last outcome) ⊎ (now ≡ status.Sink) → is_sink last ≡ true → is_sink now ≡ true
+sink_final last now outcome (inl e) failed = ap is_sink e ∙ final_sink last outcome ∙ failed
+sink_final last now outcome (inr e) failed = ap is_sink e
 
 is_failed : (st : Status) → is_sink st ≡ true → st ≡ status.Sink
 is_failed status.Sink e = refl
@@ -187,9 +239,9 @@ is_failed status.Spent e = cc
 is_failed status.Stuck e = cc
 is_failed status.Wait e = cc
 
--- the failures of the rounds, and those after them
-pub cause_whole : (stop now : Status) (a b c : ℕ) → (now ≡ stop) ⊎ (now ≡ status.Sink) → ReplyHasCause a b (is_sink stop) → ReplyHasCause b c (fails_now stop now) → ReplyHasCause a c (is_sink now)
-cause_whole stop now a b c is p q = by_sink (is_sink stop) refl
+-- the failures of a part, and those after it
+pub cause_then : (stop now : Status) (a b c : ℕ) → (is_sink stop ≡ true → is_sink now ≡ true) → ReplyHasCause a b (is_sink stop) → ReplyHasCause b c (fails_now stop now) → ReplyHasCause a c (is_sink now)
+cause_then stop now a b c stays p q = by_sink (is_sink stop) refl
   where
     by_sink : (failed : Bool) → is_sink stop ≡ failed → ReplyHasCause a c (is_sink now)
     by_sink false e =
@@ -197,10 +249,28 @@ cause_whole stop now a b c is p q = by_sink (is_sink stop) refl
         cause_after a b c (is_sink now) (quiet.kept refl) (cause_as b c (fails_now stop now) (is_sink now) (fails_as stop now e) q)
     by_sink true e =
         let after : ReplyHasCause b c false = cause_as b c (fails_now stop now) false (ap (λ (st : Status). fails_now st now) (is_failed stop e)) q in
-        let first : ReplyHasCause a b (is_sink now) = cause_as a b (is_sink stop) (is_sink now) (e ∙ sym (sink_of stop now e is)) p in
+        let first : ReplyHasCause a b (is_sink now) = cause_as a b (is_sink stop) (is_sink now) (e ∙ sym (stays e)) p in
         cause_before a b c (is_sink now) (after.kept refl) first
 
--- .. of the kernel, which isn't asked after them
-pub kernel_by_stop : (stop now : Status) (a b : ℕ) → (now ≡ stop) ⊎ (now ≡ status.Sink) → KernelHasCause a b (is_sink stop) (is_wait stop) → KernelHasCause a b (is_sink now) (is_wait now)
-kernel_by_stop stop now a b (inl e) p = subst (λ (st : Status). KernelHasCause a b (is_sink st) (is_wait st)) (sym e) p
-kernel_by_stop stop now a b (inr e) p = record { later = p.later; waits = λ never. cc (ap is_sink e) }
+-- a write failed in a run that nothing had stopped, and then none did
+pub cause_sunk : (now : Status) (a b c : ℕ) → (now ≡ status.Sink) ⊎ (now ≡ status.Sink) → ReplyHasCause a b true → ReplyHasCause b c (fails_now status.Sink now) → ReplyHasCause a c (fails_now status.Well now)
+cause_sunk now a b c (inl e) p q = cause_before a b c (fails_now status.Well now) (q.kept refl) (cause_as a b true (fails_now status.Well now) (sym (ap is_sink e)) p)
+cause_sunk now a b c (inr e) p q = cause_before a b c (fails_now status.Well now) (q.kept refl) (cause_as a b true (fails_now status.Well now) (sym (ap is_sink e)) p)
+
+pub sunk : (now : Status) → (now ≡ status.Sink) ⊎ (now ≡ status.Sink) → (now ≡ status.Well) ⊎ (now ≡ status.Sink)
+sunk now (inl e) = inr e
+sunk now (inr e) = inr e
+
+-- no wait failed
+pub no_wait : {A : Type 0} (stop other : Status) → (stop ≡ other) ⊎ (stop ≡ status.Sink) → is_wait other ≡ false → is_wait stop ≡ true → A
+no_wait stop other (inl e) not e' = cc (ap is_wait e, not, e')
+no_wait stop other (inr e) not e' = cc (ap is_wait e, e')
+
+-- a part without a failed write, and then what may have failed
+pub cause_after_ok : {T E : Type 0} (a b c : ℕ) (failed : Bool) (r : Result T E) → is_err r ≡ false → HasCause a b r → ReplyHasCause b c failed → ReplyHasCause a c failed
+cause_after_ok a b c failed (Ok x) fine cause more = cause_after a b c failed cause.kept more
+cause_after_ok a b c failed (Err e) fine cause more = cc
+
+pub no_wait_in : {A : Type 0} (o : Option Status) → IfSome o (λ stop. (stop ≡ status.Spent) ⊎ (stop ≡ status.Sink)) → stops_wait o ≡ true → A
+no_wait_in None is failed = cc
+no_wait_in (Some stop) is failed = no_wait stop status.Spent is refl failed

@@ -60,6 +60,7 @@ impl<M: Stepper> Progress<M> {
 
     /// The deadlines that have passed, and their notes. Where these aren't written the run stops.
     pub(crate) fn expire<W: Sink>(&mut self, traced: bool, out: &mut W) -> Result<(), Failed>
+        requires none { M.means.next_try self.old.core ≡ None }
         ensures ok { OnOk result ((most : ℕ) (keys : Stream) → Leads M.means traced most (stands self.old Trying Well keys) (stands self.new (Turns 64) Well keys) [] (W.told out.old) (W.told out.new)) }
         ensures err { OnErr result ((most : ℕ) (keys : Stream) → Leads M.means traced most (stands self.old Trying Well keys) (stands self.new Closing SinkFailed keys) [] (W.told out.old) (W.told out.new)) }
         ensures shut { OnErr result (IsShut M.closed M.owed self.new.core) }

@@ -1,7 +1,9 @@
-ghost use Rattle.std.specs.Prelude.{◌≡◌, ◌<◌, ◌≤◌, ◌^◌, ℕ, None, true};
+ghost use Rattle.std.specs.Prelude.{◌≡◌, ◌<◌, ◌≤◌, ◌^◌, ℕ, List, None, true, option_map, IfSome};
+ghost use Rattle.dill_drive.specs.Asks.{asks_for, IsOffered, said, fits_due, hear_due};
 ghost use Rattle.dill_drive.specs.Machine.{Machine, may_be};
 ghost use Rattle.dill_drive.specs.Waiting.{next_above, Rises};
 
+use crate::{Ask, Reply};
 use dill_base::Errno;
 use dill_calls::{Note, Ran, Word};
 use dill_kernel::{Limit, ReadyList};
@@ -9,8 +11,6 @@ use rand_core::Rng;
 
 /// What a driver asks of a core, which holds the coroutines of a run: the steps of a machine, one after the other.
 /// No step but a turn may be refused memory.
-///
-/// Nothing but waits is asked of the kernel so far. Links come later.
 pub trait Stepper: Sized + Drop {
     /// What it does, by its views.
     ghost means: { Machine Self };
@@ -20,6 +20,12 @@ pub trait Stepper: Sized + Drop {
 
     /// How many turns may still come once the root was closed.
     ghost owed: { Self → ℕ };
+
+    /// How many replies may still be heard before the next wait.
+    ghost tries: { Self → ℕ };
+
+    /// What is offered where a write is asked.
+    ghost offers: { Self → List ℕ };
 
     /// How the program of `main` ended, if it has.
     fn ended(&self) -> Option<Option<Errno>>
@@ -40,6 +46,22 @@ pub trait Stepper: Sized + Drop {
     /// A wait told this moment in milliseconds, and these links. A round begins.
     fn woke(&mut self, moment: u64, ready: &ReadyList)
         ensures { self.new ≡ means.woke self.old moment ready.now };
+
+    /// What is asked next of the kernel in this round, or of what is still due once `main` has ended.
+    fn next_try(&self) -> Option<Ask>
+        ensures asks { means.next_try self.now ≡ option_map (λ ask. asks_for ask (offers self.now)) result }
+        ensures offers { IfSome result (λ ask. IsOffered ask (offers self.now)) };
+
+    /// The bytes of the write that is asked next.
+    fn offered(&self) -> &[u8]
+        ensures { result.now ≡ offers self.now };
+
+    /// The reply to what is asked next.
+    fn hear<R: Rng>(&mut self, reply: Reply<'_>, keys: &mut R)
+        requires due { fits_due (means.next_try self.old) (said reply) ≡ true }
+        ensures after { self.new ≡ (hear_due means self.old (said reply.entry) (R.stream keys.old)).0 }
+        ensures random { R.stream keys.new ≡ (hear_due means self.old (said reply.entry) (R.stream keys.old)).1 }
+        ensures fewer { tries self.new < tries self.old };
 
     /// The deadlines that have passed are answered.
     fn expire(&mut self)
@@ -78,8 +100,6 @@ pub trait Stepper: Sized + Drop {
     /// How many of them are dead.
     fn gone(&self) -> u64
         ensures { result ≡ means.gone self.now };
-
-    ghost waits_alone: { (s : Self) → means.next_try s ≡ None };
 
     ghost goes_on: { (s : Self) → closed s → means.ended s ≡ None → means.answered s ≡ true };
 }

@@ -1,7 +1,11 @@
 ghost use Rattle.std.specs.Prelude.{◌≡◌, ◌<◌, ◌^◌};
-ghost use Rattle.dill_drive.specs.Story.{no_tally, more_lacks, one_round, one_turn, one_last};
+ghost use Rattle.dill_kernel.specs.declared.replies.KernelReply.TheVariants.{Failed};
+ghost use Rattle.dill_drive.specs.Asks.{said};
+ghost use Rattle.dill_drive.specs.Story.{no_tally, more_lacks, one_round, one_turn, one_last, one_reply, lacks_by};
 
+use crate::Reply;
 use dill_calls::LackPlace;
+use dill_kernel::KernelFault;
 
 /// What a run has counted: turns and rounds up to the stop, turns after it, and how often memory was refused.
 #[derive(Clone, Copy, Debug, PartialEq, Eq)]
@@ -64,6 +68,28 @@ impl Tally {
             closing: self.closing + 1,
             lacks: self.lack(lack),
             ..self
+        }
+    }
+
+    fn want(self, fault: KernelFault) -> u64
+        ensures { result ≡ lacks_by (Failed fault) self.lacks }
+    {
+        match fault {
+            KernelFault::NoMemory => self.lacks.saturating_add(1),
+            _ => self.lacks,
+        }
+    }
+
+    /// A reply of the kernel to a try.
+    pub(crate) fn reply(self, reply: Reply<'_>) -> Tally
+        ensures { result ≡ one_reply self (said reply.entry) }
+    {
+        match reply {
+            Reply::Failed(fault) => Tally {
+                lacks: self.want(fault),
+                ..self
+            },
+            _ => self,
         }
     }
 }

@@ -30,10 +30,10 @@ pub record Refuses {K W : Type 0} (told : W → Option (List ℕ)) (writes : W �
   pub still : Still kernel kernel' keys keys' out out'
   pub says : Says told writes err err' usage
 
-module _ {K W : Type 0} (step : K → Entry → K → Type 0) (waits : K → ℕ) (told : W → Option (List ℕ)) (writes : W → ℕ) (files : Option Files) where
+module _ {K W : Type 0} (step : K → Entry → K → Type 0) (failures : K → ℕ) (told : W → Option (List ℕ)) (writes : W → ℕ) (files : Option Files) where
   -- a run over the network that is named; over the one in memory the kernel isn't used
   abbrev pub RunsOn : Net → List ℕ → Bool → ℕ → ℕ → ℕ → K → K → Stream → Stream → W → W → W → W → Status → Type 0
-  RunsOn Real name traced most shelf shelf' kernel kernel' keys keys' out out' err err' end = Shows step waits told writes files name traced most shelf shelf' kernel kernel' keys keys' out out' err err' end
+  RunsOn Real name traced most shelf shelf' kernel kernel' keys keys' out out' err err' end = Shows step failures told writes files name traced most shelf shelf' kernel kernel' keys keys' out out' err err' end
   RunsOn Loop name traced most shelf shelf' kernel kernel' keys keys' out out' err err' end = (kernel' ≡ kernel) × LoopShows told writes files name traced most shelf shelf' keys keys' out out' err err' end
 
   -- loads aren't built yet

@@ -1,5 +1,6 @@
 use Rattle.std.proofs.Common.{List, ℕ, Option, Bool, true, false, ◌≡◌, refl, ap, subst}
 use Rattle.dill_drive.specs.declared.run_end.RunEnd.TheVariants as ends
+use Rattle.dill_drive.specs.Asks.{Counted}
 use Rattle.dill_drive.specs.ByRules.{machine_of}
 use Rattle.dill_drive.specs.Tells.{Concludes}
 use Rattle.dill_core.specs.Begun.{has_begun}
@@ -16,7 +17,7 @@ returns-in_default g c = record {
   refused = λ e. record { kernel_same = refl; keys_same = refl; out_same = refl };
   runs = λ e. cc;
   cause = unmoved (g.W.Sink.faults c.args.out.now);
-  wait = λ e. unmoved (g.K.Kernel.faults c.args.kernel.now);
+  wait = λ e. cc;
   status = c.say_want.ensures.status;
   says = c.say_want.ensures.says;
 }
@@ -25,7 +26,7 @@ pub returns : goal.returns
 returns g c = record {
   end = c.run-end.result;
   refused = λ e. let u = c.run-end.ensures.refused e in record { kernel_same = u.asks; keys_same = ap g.R.Rng.stream u.draws; out_same = u.writes };
-  runs = λ e. subst (λ (v : ScriptView). Concludes (machine_of running) g.K.Kernel.step c.args.kernel.now c.run-end.new.kernel c.args.traced c.args.turns (opening_state v (g.R.Rng.stream c.args.keys.now)) (g.R.Rng.stream c.args.keys.now) (g.R.Rng.stream c.run-end.new.keys) (g.W.Sink.told c.args.out.now) (g.W.Sink.told c.run-end.new.out) c.run-end.result) c.in-Ok.ensures.body (c.run-end.ensures.runs e);
+  runs = λ e. subst (λ (v : ScriptView). Concludes (machine_of running) (Counted g.K.Kernel.step g.K.Kernel.faults) c.args.kernel.now c.run-end.new.kernel c.args.traced c.args.turns (opening_state v (g.R.Rng.stream c.args.keys.now)) (g.R.Rng.stream c.args.keys.now) (g.R.Rng.stream c.run-end.new.keys) (g.W.Sink.told c.args.out.now) (g.W.Sink.told c.run-end.new.out) c.run-end.result) c.in-Ok.ensures.body (c.run-end.ensures.runs e);
   cause = c.run-end.ensures.cause;
   wait = c.run-end.ensures.wait;
   status = c.tell_end.ensures.status;

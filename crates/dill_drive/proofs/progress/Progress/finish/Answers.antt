@@ -7,7 +7,7 @@ use Rattle.dill_drive.proofs.progress.Progress.finish.Goals as goal
 pub returns-in-Sink-clause-leads : goal.returns-in-Sink-clause-leads
 returns-in-Sink-clause-leads g c =
     let s = c.args.self.now in
-    rw c.in-Sink.is (λ traced most keys place rest. finish_silent g.M.Stepper.means traced most s.core place s.tally keys (g.W.Sink.told c.args.out.now) rest c.requires.ended (g.met.M.Stepper.waits_alone s.core))
+    rw c.in-Sink.is (λ traced most keys. finish_silent g.M.Stepper.means traced most s.core s.tally keys (g.W.Sink.told c.args.out.now) c.requires.none)
 
 pub returns-in-Ok : goal.returns-in-Ok
 returns-in-Ok g c =
@@ -16,7 +16,7 @@ returns-in-Ok g c =
     let end = c.final_of-status.result in
     let is : end ≡ final c.args.stop (m.ended s.core) = c.final_of-status.ensures ∙ ap (final c.args.stop) c.ended.ensures in
     record {
-      leads = λ traced most keys place rest. ends_written m traced most s.core place c.args.stop end s.tally keys c.summary.result _ _ rest c.requires.ended (g.met.M.Stepper.waits_alone s.core) c.in_default.not-Sink is c.summary.ensures c.in-Ok.ensures.ok;
+      leads = λ traced most keys. ends_written m traced most s.core c.args.stop end s.tally keys c.summary.result _ _ c.requires.none c.in_default.not-Sink is c.summary.ensures c.in-Ok.ensures.ok;
       status = inl is;
       cause = rw (fails_final c.args.stop end (m.ended s.core) c.in_default.not-Sink is) (cause_ok _ _ _ c.in-Ok.ensures.cause);
     }
@@ -28,7 +28,7 @@ returns-in-Err g c =
     let end = c.final_of-status.result in
     let is : end ≡ final c.args.stop (m.ended s.core) = c.final_of-status.ensures ∙ ap (final c.args.stop) c.ended.ensures in
     record {
-      leads = λ traced most keys place rest. ends_cut m traced most s.core place c.args.stop end s.tally keys c.summary.result _ _ rest c.requires.ended (g.met.M.Stepper.waits_alone s.core) c.in_default.not-Sink is c.summary.ensures c.in-Err.ensures.err;
+      leads = λ traced most keys. ends_cut m traced most s.core c.args.stop end s.tally keys c.summary.result _ _ c.requires.none c.in_default.not-Sink is c.summary.ensures c.in-Err.ensures.err;
       status = inr refl;
       cause = rw (fails_as c.args.stop _ (not_sink c.args.stop c.in_default.not-Sink)) (cause_err _ _ _ c.in-Err.ensures.cause);
     }

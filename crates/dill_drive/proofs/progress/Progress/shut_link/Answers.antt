@@ -1,0 +1,5 @@
+use Rattle.dill_drive.proofs.Trying.{hears, plain_cause}
+use Rattle.dill_drive.proofs.progress.Progress.shut_link.Goals as goal
+
+pub returns-clause-hears : goal.returns-clause-hears
+returns-clause-hears g c = hears g.M.Stepper.means g.K.Kernel.step g.K.Kernel.faults _ _ c.args.self.now c.hear.new.self _ _ _ _ _ c.requires.due c.plain-reply.ensures c.shut.ensures.allowed c.shut.ensures.step (plain_cause _ _ c.shut.result c.shut.ensures.cause) c.hear.ensures.heard
