@@ -13,7 +13,8 @@ use Rattle.dill_stack.specs.RowTerms.{attached, big2}
 use Rattle.dill_rules.specs.declared.coroutine.Mode.TheVariants.{Running}
 use Rattle.dill_rules.specs.declared.thing.Thing.{Thing}
 use Rattle.dill_rules.specs.declared.thing.Thing.TheVariants as things
-use Rattle.dill_rules.specs.Links.{Links, Listening, Stream, fresh_link, with_stack}
+use Rattle.dill_rules.specs.Links.{Links, fresh_link, with_stack}
+use Rattle.dill_rules.specs.declared.link.Sort.TheVariants.{Listening, Stream}
 use Rattle.dill_rules.specs.Refusals.{refuse}
 use Rattle.dill_rules.specs.World.{World, opening}
 use Rattle.dill_rows.specs.Limits.{handles_with}

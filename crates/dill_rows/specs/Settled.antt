@@ -21,7 +21,8 @@ use Rattle.dill_ws.specs.Handshakes.{client_front, server_front}
 use Rattle.dill_rules.specs.declared.coroutine.Mode.TheVariants.{Running}
 use Rattle.dill_rules.specs.declared.thing.Thing.{Thing}
 use Rattle.dill_rules.specs.declared.thing.Thing.TheVariants as things
-use Rattle.dill_rules.specs.Links.{Link, Stream, fresh_link, with_stack}
+use Rattle.dill_rules.specs.Links.{Link, fresh_link, with_stack}
+use Rattle.dill_rules.specs.declared.link.Sort.TheVariants.{Stream}
 use Rattle.dill_rules.specs.Refusals.{refuse}
 use Rattle.dill_rules.specs.World.{World, opening}
 use Rattle.dill_rows.specs.Full.{of_one, each}

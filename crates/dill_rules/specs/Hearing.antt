@@ -18,7 +18,9 @@ use Rattle.dill_base.specs.Maps.{if_some}
 use Rattle.dill_rules.specs.declared.thing.Thing.{Thing}
 use Rattle.dill_rules.specs.declared.thing.Thing.TheVariants as things
 use Rattle.dill_rules.specs.Links as links
-use Rattle.dill_rules.specs.Links.{Sort, Listening, Connecting, Stream, look, connector, with_stack, heated, read_cold, write_cold, as_shut, as_stream}
+use Rattle.dill_rules.specs.Links.{look, connector, with_stack, heated, read_cold, write_cold, as_shut, as_stream}
+use Rattle.dill_rules.specs.declared.link.Sort.{Sort}
+use Rattle.dill_rules.specs.declared.link.Sort.TheVariants.{Listening, Connecting, Stream}
 use Rattle.dill_rules.specs.World.{World, call_of, reply, from_start}
 use Rattle.dill_rules.specs.Naming as naming
 use Rattle.dill_rules.specs.Effects.{next_number, make}

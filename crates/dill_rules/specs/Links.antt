@@ -2,12 +2,8 @@
 use Rattle.std.specs.Prelude.{ℕ, ◌+◌, ◌-◌, ◌==◌, List, [], ◌∷◌, ◌++◌, find, Bool, true, false, ◌||◌, Option, Some, None}
 use Rattle.dill_base.specs.Maps.{change, without}
 use Rattle.dill_stack.specs.Interface.{Held, opening, set_link}
-
--- A link that listens, one whose `connect` isn't finished, with the coroutine whose call made it, or a stream.
-pub data Sort : Type 0 where
-  Listening : Sort
-  Connecting : (who : ℕ) → Sort
-  Stream : Sort
+use Rattle.dill_rules.specs.declared.link.Sort.{Sort}
+use Rattle.dill_rules.specs.declared.link.Sort.TheVariants.{Listening, Connecting, Stream}
 
 -- A link and the stack on it: whether each direction is hot, whether its `shut` was made, and whether its `close` is due.
 pub record Link : Type 0 where

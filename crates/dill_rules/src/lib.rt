@@ -4,8 +4,10 @@
 
 mod coroutine;
 mod law;
+mod link;
 mod thing;
 
 pub use coroutine::{Closing, Coroutine, Mode};
 pub use law::{bytes_tell_nothing, opening_is_sound, refusal_changes_nothing};
+pub use link::Sort;
 pub use thing::Thing;

@@ -41,7 +41,8 @@ use Rattle.dill_rules.specs.Hearing.{listen_fault, connect_fault, accept_fault, 
 use Rattle.dill_rules.specs.Kinds.{value_of}
 use Rattle.dill_rules.specs.LinkAnswers.{is_tcp_close}
 use Rattle.dill_rules.specs.Linking.{greet_by, ask_stack, heat, queue, enter_send, enter_receive, enter_link, attach_layer, enter_attach, given_up_at_once, give_stack_up, begin_detach, dropped_for, enter_giving_up, enter_handshake}
-use Rattle.dill_rules.specs.Links.{Listening, Stream, with_stack, as_stream}
+use Rattle.dill_rules.specs.Links.{with_stack, as_stream}
+use Rattle.dill_rules.specs.declared.link.Sort.TheVariants.{Listening, Stream}
 use Rattle.dill_rules.specs.Links as link
 use Rattle.dill_rules.specs.Naming.{gifts_of, links, draws_of, bears}
 use Rattle.dill_rules.specs.Owning.{entry_of, move, close_bundle, release, is_dead_as, free_bundle, take}

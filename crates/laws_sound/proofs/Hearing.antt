@@ -17,7 +17,9 @@ use Rattle.dill_rules.specs.Directions.{is_handshake}
 use Rattle.dill_rules.specs.LinkAnswers.{is_tcp_close}
 use Rattle.dill_rules.specs.World.{World, Place, is_coroutine, call_of, pending_call, reply}
 use Rattle.laws_queue.specs.Well.{bit}
-use Rattle.dill_rules.specs.Links.{Sort, Listening, Connecting, Stream, as_stream, read_cold, write_cold}
+use Rattle.dill_rules.specs.Links.{as_stream, read_cold, write_cold}
+use Rattle.dill_rules.specs.declared.link.Sort.{Sort}
+use Rattle.dill_rules.specs.declared.link.Sort.TheVariants.{Listening, Connecting, Stream}
 use Rattle.dill_rules.specs.Links as link
 use Rattle.dill_rules.specs.Naming.{links}
 use Rattle.dill_rules.specs.Effects.{make, next_number}
