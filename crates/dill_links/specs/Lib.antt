@@ -1,0 +1,4 @@
+pub mod Stored
+pub mod Changing
+pub mod Lending
+pub mod Laws
