@@ -2,3 +2,4 @@ mod Chosen
 mod Held
 mod Nearing
 mod Taking
+mod Waiting

@@ -32,6 +32,11 @@ done_in_turn c n (x ∷ xs) = if is_waiting (comes_of c x) then done_in_turn (en
 abbrev pub wait_all : Channels → List Wait → Channels
 wait_all c xs = record c { waits = c.waits ++ xs }
 
+-- the first of some clauses that is done at its entry, by its number; none of them is entered before
+abbrev pub first_done : Channels → List Wait → Option (ℕ × Meeting)
+first_done c [] = None
+first_done c (x ∷ xs) = if is_waiting (comes_of c x) then first_done c xs else Some (x.clause, comes_of c x)
+
 -- the clauses of one coroutine, entered one after the other, find the least that is done, as if none had been entered; and where it
 -- then leaves, nothing is left of those that waited before
 pub record ChoosesLeast : Type 0 where

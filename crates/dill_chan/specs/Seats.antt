@@ -1,5 +1,5 @@
 -- What the body of channels holds: channels, and the coroutines that have a seat; what each call leaves of them.
-use Rattle.std.specs.Prelude.{◌≡◌, ℕ, ◌*◌, ◌≤◌, ◌==◌, List, [], ◌∷◌, ◌++◌, length, filter, Bool, true, not, ◌&&◌, ◌||◌, nat_lt, Option, Some, None, if◌then◌else◌}
+use Rattle.std.specs.Prelude.{◌≡◌, ℕ, ◌*◌, ◌≤◌, ◌+◌, ◌==◌, List, [], ◌∷◌, ◌++◌, length, filter, Bool, true, not, ◌&&◌, ◌||◌, nat_lt, nat_le, Option, Some, None, if◌then◌else◌}
 use Rattle.std.specs.List.{list_any, list_all}
 use Rattle.dill_slots.specs.Pairs.{each_pair, has}
 use Rattle.dill_chan.specs.declared.end.End.{End}
@@ -129,6 +129,11 @@ ended_in c after (x ∷ xs) = closer (if is_ended c after x then Some (x.who, x.
 -- a clause that waits is one of who has a seat
 abbrev pub may_wait : List ℕ → Wait → Bool
 may_wait seats x = list_any (λ other. other == x.who) seats && nat_lt x.clause most_clauses
+
+-- clauses of one coroutine, whose numbers rise from one on
+abbrev pub are_clauses : ℕ → ℕ → List Wait → Bool
+are_clauses who from [] = true
+are_clauses who from (x ∷ xs) = (x.who == who && (nat_le from x.clause && nat_lt x.clause most_clauses)) && are_clauses who (x.clause + 1) xs
 
 -- what the body keeps: seats rise, a clause waits once and is one of who has a seat, and there is room for all clauses of these
 pub record IsHeld (waits : List Wait) (seats : List ℕ) (room : ℕ) : Type 0 where

@@ -2,15 +2,16 @@ ghost use Rattle.std.specs.Prelude.{◌≡◌, ◌+◌, ◌*◌, ◌<◌, ◌≤
 ghost use Rattle.std.specs.List.{list_all};
 ghost use Rattle.dill_slots.specs.Pairs.{each_pair, has};
 ghost use Rattle.dill_chan.specs.Channels as channels;
+ghost use Rattle.dill_chan.specs.Choosing as choosing;
 ghost use Rattle.dill_chan.specs.Channels.{is_live, next_ends};
 ghost use Rattle.dill_chan.specs.Meetings as meetings;
 ghost use Rattle.dill_chan.specs.Meetings.{meeting, has_ended, next_ended};
 ghost use Rattle.dill_chan.specs.declared.end.Want.TheVariants.{Send, Recv};
 ghost use Rattle.dill_chan.specs.Seats as seats;
-ghost use Rattle.dill_chan.specs.Seats.{nobody, has_seat, has_room_for, is_above_all, is_waiting, waits_under, are_two_waits, may_wait, entered, channels_of, on_channels, most_seats, most_clauses};
+ghost use Rattle.dill_chan.specs.Seats.{nobody, has_seat, has_room_for, is_above_all, is_waiting, waits_under, are_two_waits, are_clauses, may_wait, entered, channels_of, on_channels, most_seats, most_clauses};
 
 use crate::ends::{find_end, has_ended, mark_done, recv_has_ended, remove_end, send_has_ended};
-use crate::waits::{is_waiting, leave, meet, next_ended, take_partner};
+use crate::waits::{find_partner, is_waiting, leave, meet, meet_copied, next_ended, take_partner};
 use crate::{End, Meeting, Wait, Want};
 use dill_base::{NoMemory, Octets};
 use dill_slots::Steps;
@@ -63,6 +64,35 @@ fn enter(ends: &[End], waits: &mut Vec<Wait>, wait: Wait) -> Meeting
             Meeting::Waits
         }
     }
+}
+
+/// What would come of a clause, with a copy of the bytes.
+fn comes_of(
+    alloc: Global,
+    ends: &[End],
+    waits: &[Wait],
+    wait: &Wait,
+) -> Result<Meeting, NoMemory>
+    ensures { IfOk result (λ m. m ≡ meeting (channels_of ends.now waits.now 0) wait.now.who wait.now.end wait.now.want) }
+{
+    if has_ended(ends, wait.end, &wait.want) {
+        return Ok(Meeting::Ended);
+    }
+    let other = match find_end(ends, wait.end) {
+        Some(here) => here.other,
+        None => return Ok(Meeting::Ended),
+    };
+    match find_partner(waits, wait.who, other, &wait.want) {
+        Some(found) => Ok(Meeting::Met(meet_copied(alloc, &wait.want, found)?)),
+        None => Ok(Meeting::Waits),
+    }
+}
+
+/// Whether the clause waits on.
+fn waits_on(meeting: &Meeting) -> bool
+    ensures { result ≡ choosing.is_waiting meeting.now }
+{
+    matches!(meeting, Meeting::Waits)
 }
 
 /// A coroutine has no seat any more.
@@ -150,6 +180,40 @@ impl Channels {
         ensures left { self.new ≡ on_channels (λ c. entered c wait) self.old }
     {
         enter(self.ends.as_slice(), &mut self.waits, wait)
+    }
+
+    /// What would come of a clause, which isn't entered and whose partner waits on. The bytes that are given are a copy.
+    pub fn comes_of(&self, alloc: Global, wait: &Wait) -> Result<Meeting, NoMemory>
+        ensures { IfOk result (λ m. m ≡ choosing.comes_of self.now.channels wait.now) }
+    {
+        comes_of(alloc, self.ends.as_slice(), self.waits.as_slice(), wait)
+    }
+
+    /// The first of some clauses that is done as it is entered, by its number. None of them is entered.
+    pub fn first_done(
+        &self,
+        alloc: Global,
+        clauses: &[Wait],
+    ) -> Result<Option<(u8, Meeting)>, NoMemory>
+        ensures { IfOk result (λ found. found ≡ choosing.first_done self.now.channels clauses.now) }
+    {
+        for wait in clauses {
+            let meeting = self.comes_of(alloc, wait)?;
+            if !waits_on(&meeting) {
+                return Ok(Some((wait.clause, meeting)));
+            }
+        }
+        Ok(None)
+    }
+
+    /// The clauses of a coroutine, for which there is room, wait behind all others. Whom they could meet isn't looked for.
+    pub fn wait_all(&mut self, who: u64, clauses: Vec<Wait>)
+        requires room { has_room_for self.old who ≡ true }
+        requires rising { are_clauses who 0 clauses.items ≡ true }
+        ensures { self.new ≡ on_channels (λ c. choosing.wait_all c clauses.items) self.old }
+    {
+        let mut clauses = clauses;
+        let _ = self.waits.append(&mut clauses);
     }
 
     /// A coroutine waits under no clause any more.

@@ -1,4 +1,4 @@
-ghost use Rattle.std.specs.Prelude.{◌≡◌, ◌<◌, ◌≤◌, IfSome, Some, filter, find, length, not, vec_capacity};
+ghost use Rattle.std.specs.Prelude.{◌≡◌, ◌<◌, ◌≤◌, IfOk, IfSome, Some, filter, find, length, not, option_copied, vec_capacity};
 ghost use Rattle.std.specs.List.{list_any, position_from};
 ghost use Rattle.dill_base.specs.Maps.{if_some};
 ghost use Rattle.dill_chan.specs.Meetings as meetings;
@@ -8,8 +8,9 @@ ghost use Rattle.dill_chan.specs.Seats.{of_ends, is_of, could_meet, is_others, c
 
 use crate::ends::{find_end, has_ended};
 use crate::{End, Met, Wait, Want};
-use dill_base::{Errno, Octets};
+use dill_base::{Errno, NoMemory, Octets};
 use dill_calls::Answer;
+use std::alloc::Global;
 
 /// Whether one of them sends and the other receives.
 fn is_opposite(first: &Want, second: &Want) -> bool
@@ -39,6 +40,13 @@ fn place_of_partner(waits: &[Wait], who: u64, other: u64, want: &Want) -> Option
     ensures within { IfSome result (λ at. at < length waits.now) }
 {
     waits.iter().position(|x| can_meet(who, other, want, x))
+}
+
+/// The clause that has waited longest of those that can be met.
+pub(crate) fn find_partner<'a>(waits: &'a [Wait], who: u64, other: u64, want: &Want) -> Option<&'a Wait>
+    ensures { option_copied result ≡ find (could_meet who other want.now) waits.now }
+{
+    waits.iter().find(|x| can_meet(who, other, want, x))
 }
 
 /// Whether a coroutine waits under some clause.
@@ -122,6 +130,63 @@ pub(crate) fn meet(want: Want, found: Wait) -> Met
         answer,
         others,
     }
+}
+
+/// The answers of a sender and of its receiver, with a copy of the bytes.
+fn copied_answers(alloc: Global, bytes: &[u8], size: u64) -> Result<(Answer, Answer), NoMemory>
+    ensures { IfOk result (λ both. both ≡ answers bytes.now size) }
+{
+    if bytes.len() as u64 != size {
+        return Ok((
+            Answer::Fault(Errno::Emsgsize),
+            Answer::Fault(Errno::Emsgsize),
+        ));
+    }
+    let copy = Octets::from_slice(alloc, bytes)?;
+    Ok((Answer::Number(0), Answer::Bytes(copy)))
+}
+
+/// The same in the other order.
+fn turned_answers(alloc: Global, bytes: &[u8], size: u64) -> Result<(Answer, Answer), NoMemory>
+    ensures { IfOk result (λ both. both ≡ ((answers bytes.now size).1, (answers bytes.now size).0)) }
+{
+    let (first, second) = copied_answers(alloc, bytes, size)?;
+    Ok((second, first))
+}
+
+/// The caller's answer and the other's, with a copy of the bytes.
+fn copied_answers_of(alloc: Global, want: &Want, others: &Want) -> Result<(Answer, Answer), NoMemory>
+    ensures { IfOk result (λ both. both ≡ answers_of want.now others.now) }
+{
+    match want {
+        Want::Send(bytes) => match others {
+            Want::Recv(size) => copied_answers(alloc, bytes.as_slice(), *size),
+            Want::Send(_) => Ok((
+                Answer::Fault(Errno::Emsgsize),
+                Answer::Fault(Errno::Emsgsize),
+            )),
+        },
+        Want::Recv(size) => match others {
+            Want::Send(bytes) => turned_answers(alloc, bytes.as_slice(), *size),
+            Want::Recv(_) => Ok((
+                Answer::Fault(Errno::Emsgsize),
+                Answer::Fault(Errno::Emsgsize),
+            )),
+        },
+    }
+}
+
+/// The meeting of what the caller wants with a clause that waits on, with a copy of the bytes.
+pub(crate) fn meet_copied(alloc: Global, want: &Want, found: &Wait) -> Result<Met, NoMemory>
+    ensures { IfOk result (λ x. x ≡ seats.met want.now found.now) }
+{
+    let (answer, others) = copied_answers_of(alloc, want, &found.want)?;
+    Ok(Met {
+        other: found.who,
+        clause: found.clause,
+        answer,
+        others,
+    })
 }
 
 /// The lesser of two coroutines with their clauses, of which one may not be there.
