@@ -1,8 +1,6 @@
 pub mod Lists
 pub mod Linkless
 pub mod Built
-pub mod Meeting
-pub mod Blind
 pub mod Settles
 pub mod Apart
 pub mod Steps

@@ -68,50 +68,8 @@ module _ {V : Type 0} where
       let made = make_linkless w (things.Bundle (w.last_bundle + 1)) who refl linkless in
       linkless_with (make w (things.Bundle (w.last_bundle + 1)) who) (add_bundle w who) refl refl refl (λ h. h) (λ h. h) made
 
-  take_thing_linkless : (w : World V) (thing : Thing) (owner : ℕ) → IsLinkless w → IsLinkless (take_thing w thing owner)
-  take_thing_linkless w (things.Bundle name) owner linkless = linkless_with w (take_thing w (things.Bundle name) owner) refl refl refl (λ h. h) (λ h. h) linkless
-  take_thing_linkless w (things.End end) owner linkless = linkless
-  take_thing_linkless w (things.Listener link) owner linkless = linkless
-  take_thing_linkless w (things.Socket link) owner linkless = linkless
-  take_thing_linkless w (things.Value kind value) owner linkless = linkless
-
-  some_linkless : {A : Type 0} (o : Option A) (w : World V) (f : A → World V) → IsLinkless w → ((a : A) → o ≡ Some a → IsLinkless (f a)) → IsLinkless (if_some o w f)
-  some_linkless None w f e h = e
-  some_linkless (Some a) w f e h = h a refl
-
-  pub fold_linkless : {A : Type 0} (f : World V → A → World V) (xs : List A) (w : World V) → ((v : World V) (a : A) → IsLinkless v → IsLinkless (f v a)) → IsLinkless w → IsLinkless (fold f w xs)
-  fold_linkless f [] w h e = e
-  fold_linkless f (x ∷ xs) w h e = fold_linkless f xs (f w x) h (h w x e)
-
-  thing_linkless : (w : World V) (number : ℕ) (x : Entry Thing) → IsLinkless w → entry_of w number ≡ Some x → is_linkless_thing x.thing ≡ true
-  thing_linkless w number x linkless e = all_found is_linkless_entry (handles.is_entry number) w.handles.entries x linkless.things e
-
-  pub move_linkless : (w : World V) (number owner : ℕ) → IsLinkless w → IsLinkless (move w number owner)
-  move_linkless w number owner linkless =
-      some_linkless (entry_of w number) w (λ x. note (take_thing (record w { handles = handles.renumber w.handles number x.thing owner }) x.thing owner) (Moved number (handles.next_number w.handles))) linkless
-      (λ x e.
-      let it = thing_linkless w number x linkless e in
-      let less : World V = record w { handles = handles.renumber w.handles number x.thing owner } in
-      let moved : IsLinkless less = linkless_with w less refl refl refl
-      (λ h. all_append is_linkless_entry (without (handles.is_entry number) w.handles.entries) (record { number = handles.next_number w.handles; thing = x.thing; owner = owner } ∷ []) (all_without is_linkless_entry (handles.is_entry number) w.handles.entries h) (and_from (is_linkless_thing x.thing) true it refl))
-      (λ h. h) linkless in
-      note_linkless (take_thing less x.thing owner) (Moved number (handles.next_number w.handles)) (take_thing_linkless less x.thing owner moved))
-
-  drop_linkless : (w : World V) (thing : Thing) → is_linkless_thing thing ≡ true → IsLinkless w → IsLinkless (drop w thing)
-  drop_linkless w (things.Bundle name) e linkless = linkless
-  drop_linkless w (things.Value kind value) e linkless = linkless
-  drop_linkless w (things.End end) e linkless = linkless_with w (drop w (things.End end)) refl refl refl (λ h. h) (λ h. h) linkless
-  drop_linkless w (things.Listener link) e linkless = cc
-  drop_linkless w (things.Socket link) e linkless = cc
-
   pub retire_linkless : (w : World V) (number : ℕ) → IsLinkless w → IsLinkless (record w { handles = handles.retire w.handles number })
   retire_linkless w number linkless = linkless_with w (record w { handles = handles.retire w.handles number }) refl refl refl (all_without is_linkless_entry (handles.is_entry number) w.handles.entries) (λ h. h) linkless
-
-  pub release_linkless : (w : World V) (number : ℕ) → IsLinkless w → IsLinkless (release w number)
-  release_linkless w number linkless =
-      some_linkless (entry_of w number) w (λ x. note (drop (record w { handles = handles.retire w.handles number }) x.thing) (Freed number)) linkless
-      (λ x e. note_linkless (drop (record w { handles = handles.retire w.handles number }) x.thing) (Freed number)
-      (drop_linkless (record w { handles = handles.retire w.handles number }) x.thing (thing_linkless w number x linkless e) (retire_linkless w number linkless)))
 
   pub close_bundle_linkless : (w : World V) (owner name number : ℕ) → IsLinkless w → IsLinkless (close_bundle w owner name number)
   close_bundle_linkless w owner name number linkless =
@@ -120,9 +78,6 @@ module _ {V : Type 0} where
 
   pub free_bundle_linkless : (w : World V) (x : Closing) → IsLinkless w → IsLinkless (free_bundle w x)
   free_bundle_linkless w x linkless = linkless_with w (free_bundle w x) refl refl refl (λ h. h) (λ h. h) linkless
-
-  pub give_all_linkless : (w : World V) (numbers : List ℕ) (owner : ℕ) → IsLinkless w → IsLinkless (give_all w numbers owner)
-  give_all_linkless w numbers owner linkless = fold_linkless (λ now number. move now number owner) numbers w (λ v a e. move_linkless v a owner e) linkless
 
   pub bear_linkless : (w : World V) (view : V) (home : ℕ) → IsLinkless w → IsLinkless (bear w view home)
   bear_linkless w view home linkless =

@@ -26,8 +26,8 @@ use Rattle.laws_sound.specs.Linkless.{MovesLinkless, MakesLinkless, may_wait, wa
 use Rattle.laws_sound.specs.LinklessLaws.{StepsKeepLinkless, FollowsStatesLinkless}
 use Rattle.laws_sound.proofs.Lists.{all_map}
 use Rattle.laws_sound.proofs.Linkless.{linkless_with, begin_linkless}
-use Rattle.laws_sound.proofs.Steps.{settle_linkless, settle_blind}
-use Rattle.laws_sound.proofs.Turns.{turn_linkless, turn_blind, expire_one_linkless, expire_one_blind, closed_linkless, shut_blind}
+use Rattle.laws_sound.proofs.Steps.{settle_linkless, settle_lent}
+use Rattle.laws_sound.proofs.Turns.{turn_lent, expire_one_linkless, expire_one_lent, closed_linkless}
 use Rattle.laws_sound.proofs.Untried.{ask_none}
 
 module _ {V : Type 0} where
@@ -65,17 +65,17 @@ module _ {V : Type 0} where
   late_lent : (u : Stream) (xs : List ℕ) (k : Kept V) → IsLinkless k.world → fold kept_expire_next (lend_kept k u) xs ≡ lend_kept (fold kept_expire_next k xs) u
   late_lent u [] k linkless = refl
   late_lent u (x ∷ xs) k linkless =
-      ap (λ w. fold kept_expire_next (queued w k.ready k.early) xs) (expire_one_blind u k.world x linkless)
+      ap (λ w. fold kept_expire_next (queued w k.ready k.early) xs) (expire_one_lent u k.world x linkless).same
       ∙ late_lent u xs (kept_expire_next k x) (queued_linkless (expire_one k.world x) k.ready k.early (expire_one_linkless k.world x linkless))
 
   expired_lent : (u : Stream) (k : Kept V) → IsLinkless k.world → kept_expired (lend_kept k u) ≡ lend_kept (kept_expired k) u
   expired_lent u k linkless =
       let late = kept_late k in
       ap (λ (l : Kept V). queued (settle l.world) l.ready l.early) (late_lent u (passed k.world) (record k { world = begin k.world }) (begin_linkless k.world linkless))
-      ∙ ap (λ w. queued w late.ready late.early) (settle_blind u late.world (begun_late_linkless k linkless))
+      ∙ ap (λ w. queued w late.ready late.early) (settle_lent u late.world (begun_late_linkless k linkless)).same
 
   shut_lent : (u : Stream) (k : Kept V) → IsLinkless k.world → kept_shut (lend_kept k u) ≡ lend_kept (kept_shut k) u
-  shut_lent u k linkless = ap (λ w. queued w k.ready (length k.ready)) (shut_blind u k.world linkless)
+  shut_lent u k linkless = ap (λ w. queued w k.ready (length k.ready)) (settle_lent u (root_closed k.world) (closed_linkless k.world linkless)).same
 
   -- a core has no random numbers of its own
   unlent : (k : Kept V) (s : State V) → StandsFor k s → returned k ≡ k
@@ -94,12 +94,12 @@ module _ {V : Type 0} where
   pub expired_next : (k : Kept V) (s : State V) (who : ℕ) → IsLinkless k.world → StandsFor k s → StandsFor (kept_expire_next k who) (expire_next s who)
   expired_next k s who linkless stands =
       stands_queued (expire_one k.world who) k.ready k.early (expire_one s.world who) s.answers s.closings s.next
-      (ap (λ w. expire_one w who) stands.world ∙ expire_one_blind no_random s.world who (linkless_of k s linkless stands)) stands.order stands.rise
+      (ap (λ w. expire_one w who) stands.world ∙ (expire_one_lent no_random s.world who (linkless_of k s linkless stands)).same) stands.order stands.rise
 
   pub settled_after : (k : Kept V) (s : State V) → IsLinkless k.world → StandsFor k s → StandsFor (queued (settle k.world) k.ready k.early) (after s (settle s.world))
   settled_after k s linkless stands =
       stands_queued (settle k.world) k.ready k.early (settle s.world) s.answers s.closings s.next
-      (ap settle stands.world ∙ settle_blind no_random s.world (linkless_of k s linkless stands)) stands.order stands.rise
+      (ap settle stands.world ∙ (settle_lent no_random s.world (linkless_of k s linkless stands)).same) stands.order stands.rise
 
 module _ {V : Type 0} (p : Program V) (law : IsLawful p) (unlinked : MakesLinkless p) where
   keeps : KeepsWell p
@@ -117,14 +117,14 @@ module _ {V : Type 0} (p : Program V) (law : IsLawful p) (unlinked : MakesLinkle
     where
       at : (ready : List ℕ) → k.ready ≡ ready → IsLinkless (turn_first p lack k ready).world
       at [] e = linkless
-      at (who ∷ rest) e = queued_linkless (turn p lack k.world who) rest (k.early - 1) (turn_linkless p lack k.world who (goes k who rest well e) linkless)
+      at (who ∷ rest) e = queued_linkless (turn p lack k.world who) rest (k.early - 1) (turn_lent k.world.random p lack k.world who (goes k who rest well e) linkless).linkless
 
   turned_lent : (u : Stream) (k : Kept V) (lack : Option LackPlace) → IsWell p k → IsLinkless k.world → kept_turn p lack (lend_kept k u) ≡ lend_kept (kept_turn p lack k) u
   turned_lent u k lack well linkless = at k.ready refl
     where
       at : (ready : List ℕ) → k.ready ≡ ready → turn_first p lack (lend_kept k u) ready ≡ lend_kept (turn_first p lack k ready) u
       at [] e = refl
-      at (who ∷ rest) e = ap (λ w. queued w rest (k.early - 1)) (turn_blind p u lack k.world who (goes k who rest well e) linkless)
+      at (who ∷ rest) e = ap (λ w. queued w rest (k.early - 1)) (turn_lent u p lack k.world who (goes k who rest well e) linkless).same
 
   follows : Follows p
   follows = follows_states p law
