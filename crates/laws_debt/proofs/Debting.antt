@@ -1,32 +1,29 @@
 -- The laws of the debt of a bundle that is closing.
-use Rattle.std.proofs.Common.{◌≡◌, ◌∙◌, ◌+◌, ◌-◌, ◌≤◌, ◌<◌, ◌==◌, ℕ, List, [], ◌∷◌, length, filter, fold, find, sum_by, Bool, true, false, not, cond, Option, Some, None, is_some, if◌then◌else◌, refl, sym, ap, subst, arith}
+use Rattle.std.proofs.Common.{◌≡◌, ◌∙◌, ◌+◌, ◌-◌, ◌≤◌, ◌<◌, ◌==◌, ℕ, List, [], ◌∷◌, length, filter, fold, sum_by, Bool, true, false, not, cond, Option, Some, None, is_some, if◌then◌else◌, refl, sym, ap, subst, arith}
 use Rattle.std.proofs.lemmas.Bool.{and_parts, and_from}
 use Rattle.std.specs.List.{AllByRecursion, list_all, list_any}
-use Rattle.std.specs.Option.{option_or}
 use Rattle.dill_calls.specs.declared.ran.LackPlace.{LackPlace}
 use Rattle.dill_calls.specs.Program.{Program, IsLawful, Begins}
 use Rattle.rand_core.specs.Stream.{Stream}
 use Rattle.dill_kernel.specs.declared.ready.Ready.{Ready}
 use Rattle.dill_scope.specs.declared.forest.Bundle.{Bundle}
-use Rattle.dill_scope.specs.Scopes.{Scopes, home_of, is_inside, is_empty}
-use Rattle.dill_scope.specs.Forest.{Inside}
+use Rattle.dill_scope.specs.Scopes.{Scopes, is_inside, is_empty}
 use Rattle.dill_scope.specs.Keeping.{IsThere}
-use Rattle.dill_scope.proofs.Carrying.{some_told}
 use Rattle.dill_scope.proofs.Chains.{search_is_inside}
-use Rattle.dill_base.specs.Maps.{if_some, first_some}
+use Rattle.dill_base.specs.Maps.{if_some}
 use Rattle.dill_rules.specs.declared.coroutine.Coroutine.{Coroutine}
 use Rattle.dill_rules.specs.Debts.{is_early, share, debt}
 use Rattle.dill_rules.specs.Expiring.{due_of, passed, expire_one}
 use Rattle.dill_rules.specs.Hearing.{heat_ready}
 use Rattle.dill_rules.specs.Seen.{lend}
-use Rattle.dill_rules.specs.Settling.{can_finish, answer_due, settle, IsSettled}
+use Rattle.dill_rules.specs.Settling.{settle, IsSettled}
 use Rattle.dill_rules.specs.State.{State, Stamp, is_stamp_of, stamp_of, opening_state, line_up, next_turn, turn_of, fresh, turned, expire_next, expired, shut, woke}
-use Rattle.dill_rules.specs.Turning.{answer_given, go_on, turn}
-use Rattle.dill_rules.specs.World.{World, begin, pending_call, is_ending}
+use Rattle.dill_rules.specs.Turning.{turn}
+use Rattle.dill_rules.specs.World.{World, begin, is_ending}
 use Rattle.laws_sound.specs.Linkless.{MakesLinkless}
 use Rattle.laws_sound.specs.LinklessLaws.{FollowsLinkless}
 use Rattle.laws_queue.specs.Kept.{Kept, opening_kept, queued, turn_first, kept_shut, kept_woke, root_closed}
-use Rattle.laws_queue.specs.Laws.{MayTurn, KeepsWell}
+use Rattle.laws_queue.specs.Laws.{KeepsWell}
 use Rattle.laws_queue.specs.Lending.{wordless}
 use Rattle.laws_queue.specs.Stands.{StandsFor}
 use Rattle.laws_queue.specs.Well.{bit}
@@ -34,13 +31,9 @@ use Rattle.laws_queue.proofs.Following.{next_is, nobody_next}
 use Rattle.laws_sound.proofs.LinklessLaws.{follows_linkless, expired_next, settled_after}
 use Rattle.laws_sound.proofs.Calming.{steps_keep_settled}
 use Rattle.laws_queue.proofs.Keeping.{steps_keep_well}
-use Rattle.laws_sound.proofs.Linkless.{begin_linkless}
-use Rattle.laws_sound.proofs.Turns.{closed_linkless, go_on_linkless}
 use Rattle.laws_sound.specs.Laws.{is_closing, is_timed, HasGoing, KeepsSettled}
-use Rattle.laws_sound.specs.Order.{IsInOrder}
 use Rattle.laws_sound.proofs.Going.{closing_goes_on, linkless_long}
-use Rattle.laws_sound.proofs.Sound.{rooted_inside}
-use Rattle.laws_sound.proofs.Stepping.{steps_keep_order, passed_timed, expire_timed}
+use Rattle.laws_sound.proofs.Stepping.{passed_timed, expire_timed, calls_lined}
 use Rattle.laws_debt.specs.Closing.{IsStable}
 use Rattle.laws_debt.specs.Debts.{Step, Turn, Expire, Shut, Wake, step, SamePlaces, is_turn_inside, turns_inside, DebtFalls, DebtsFall}
 use Rattle.laws_debt.specs.Laws.{KeepsStable, EndsClosing}
@@ -49,15 +42,19 @@ use Rattle.laws_debt.specs.Says.{IsLowering}
 use Rattle.laws_debt.specs.Steady.{LowersInside, IsEven, IsSteady}
 use Rattle.laws_debt.proofs.Ending.{home_inside, take_all}
 use Rattle.laws_debt.proofs.Falling.{share_in, LowersAt, turn_falls}
-use Rattle.laws_debt.proofs.Keeping.{good_stable, good_settle, good_moved, good_turn, turn_is, good_closed}
+use Rattle.laws_debt.proofs.Keeping.{good_stable}
 use Rattle.laws_queue.proofs.Lists.{all_to, equal_number}
 use Rattle.laws_sound.proofs.Counting.{is_total}
 use Rattle.laws_debt.proofs.Moving.{turn_steps}
 use Rattle.laws_debt.proofs.Rooting.{steps_keep_stable, root_debt_falls}
-use Rattle.laws_debt.proofs.Shifting.{none_gone, Hushed, hushed_settled, hushed_expire, hushed_queued, expire_leaves, calls_lined, settle_steps, shut_steps, expire_steps}
-use Rattle.laws_debt.proofs.Walking.{AllSit, unlike}
+use Rattle.laws_debt.proofs.Shifting.{none_gone, Hushed, hushed_settled, hushed_expire, hushed_queued, expire_leaves, settle_steps, shut_steps, expire_steps}
+use Rattle.laws_debt.proofs.Walking.{unlike}
 use Rattle.laws_debt.proofs.Stepwise.{Stepped, less_early, debt_total, total_all, all_there, early_queued, even_after, debt_after, places_after}
 use Rattle.laws_debt.proofs.Within.{KeepsWithin, keeps_within}
+
+pub bit_falls : (t : Bool) (rest now was : ℕ) → rest ≤ now → (t ≡ true → now < was) → now ≤ was → bit t + rest ≤ was
+bit_falls true rest now was r f n = let l = f refl in omega (arith, r, l)
+bit_falls false rest now was r f n = omega (arith, r, n)
 
 module _ {V : Type 0} (p : Program V) (law : IsLawful p) (unlinked : MakesLinkless p) where
   keeps : KeepsWell p
@@ -197,7 +194,7 @@ module _ {V : Type 0} (p : Program V) (law : IsLawful p) (unlinked : MakesLinkle
   -- ---- expiries
 
   timed_lined : (v : World V) (ready : List ℕ) (early n : ℕ) → is_timed v n ≡ true → is_timed (queued v ready early).world n ≡ true
-  timed_lined v ready early n e = ap (λ o. if_some o true (λ call. is_some (due_of call))) (calls_lined p law unlinked v.coroutines n) ∙ e
+  timed_lined v ready early n e = ap (λ o. if_some o true (λ call. is_some (due_of call))) (calls_lined v.coroutines n) ∙ e
 
   all_follow : (test more : ℕ → Bool) (xs : List ℕ) → ((n : ℕ) → test n ≡ true → more n ≡ true) → list_all test xs ≡ true → list_all more xs ≡ true
   all_follow test more [] h e = refl
@@ -415,10 +412,6 @@ module _ {V : Type 0} (p : Program V) (law : IsLawful p) (unlinked : MakesLinkle
   none_inside : (s : State V) (b : ℕ) (xs : List Step) → is_closing s.world.scopes b ≡ false → turns_inside p s b xs ≡ 0
   none_inside s b [] c = refl
   none_inside s b (x ∷ xs) c = ap (λ t. if t then bit (is_turn_inside s b x) + turns_inside p (step p s x) b xs else 0) c
-
-  bit_falls : (t : Bool) (rest now was : ℕ) → rest ≤ now → (t ≡ true → now < was) → now ≤ was → bit t + rest ≤ was
-  bit_falls true rest now was r f n = let l = f refl in omega (arith, r, l)
-  bit_falls false rest now was r f n = omega (arith, r, n)
 
   within : (s : State V) (b : ℕ) (xs : List Step) → IsSteady p s → is_closing s.world.scopes b ≡ true → turns_inside p s b xs ≤ debt p s b
   within s b [] st c = omega arith

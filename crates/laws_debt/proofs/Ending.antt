@@ -1,33 +1,29 @@
 -- From the closing of the root on, each turn lowers what is owed, and somebody has an answer until `main` has ended: it is a bundle that everybody is inside of.
-use Rattle.std.proofs.Common.{◌≡◌, ◌∙◌, ◌+◌, ◌-◌, ◌^◌, ◌≤◌, ◌<◌, ◌==◌, ℕ, zero, suc, List, [], ◌∷◌, ◌++◌, length, map, take, fold, find, Bool, true, false, ◌&&◌, cond, Option, Some, None, is_some, if◌then◌else◌, refl, sym, ap, subst, arith}
+use Rattle.std.proofs.Common.{◌≡◌, ◌∙◌, ◌+◌, ◌-◌, ◌^◌, ◌≤◌, ◌<◌, ◌==◌, ℕ, zero, suc, List, [], ◌∷◌, ◌++◌, length, map, take, fold, find, Bool, true, false, cond, Option, Some, None, is_some, if◌then◌else◌, refl, sym, ap, subst, arith}
 use Rattle.std.specs.List.{AllByRecursion, list_any}
 use Rattle.std.specs.List.Sorted.{IsStrictlyIncreasing}
 use Rattle.dill_base.specs.declared.errno.Errno.{Errno}
-use Rattle.dill_calls.specs.declared.answer.Answer.{Answer}
-use Rattle.dill_calls.specs.declared.call.Call.{Call}
 use Rattle.dill_calls.specs.declared.ran.LackPlace.{LackPlace}
 use Rattle.dill_calls.specs.Program.{Program, IsLawful}
 use Rattle.dill_scope.specs.declared.forest.Bundle.{Bundle}
 use Rattle.dill_scope.specs.Scopes as scopes
-use Rattle.dill_base.specs.Maps.{if_some, first_some, change}
+use Rattle.dill_base.specs.Maps.{if_some, change}
 use Rattle.dill_rules.specs.declared.coroutine.Coroutine.{Coroutine}
-use Rattle.dill_rules.specs.Taking.{is_cancelled}
 use Rattle.dill_rules.specs.State.{lined, fresh}
 use Rattle.laws_queue.specs.Kept.{Kept, has_answer, queued, turn_first, kept_turn, kept_shut, root_closed}
-use Rattle.laws_sound.specs.Linkless.{MakesLinkless, may_wait, IsLinkless}
-use Rattle.laws_queue.specs.Well.{Numbered, bit, occurs, IsQueue, IsWell}
+use Rattle.laws_sound.specs.Linkless.{MakesLinkless}
+use Rattle.laws_queue.specs.Well.{bit, occurs, IsQueue}
 use Rattle.laws_sound.specs.Order.{IsInOrder}
-use Rattle.laws_sound.specs.Orderly.{IsOrderly, weigh}
+use Rattle.laws_sound.specs.Orderly.{weigh}
 use Rattle.laws_debt.specs.Closing.{IsStable, IsClosing}
 use Rattle.laws_debt.specs.Owed.{share_by, is_early, owed}
-use Rattle.laws_debt.specs.Says.{Says, SaysIn, IsLowering, AllLower}
+use Rattle.laws_debt.specs.Says.{IsLowering, AllLower}
 use Rattle.laws_sound.proofs.Going.{linkless_long}
 use Rattle.dill_scope.specs.Scopes.{home_of, is_inside}
 use Rattle.dill_scope.specs.Forest.{Inside}
 use Rattle.dill_scope.specs.Keeping.{IsThere}
 use Rattle.dill_scope.proofs.Carrying.{some_told}
 use Rattle.dill_scope.proofs.Chains.{search_is_inside}
-use Rattle.std.proofs.lemmas.Bool.Decides.{nat_tests}
 use Rattle.dill_rules.specs.World.{World, is_coroutine, begin}
 use Rattle.dill_rules.specs.Settling.{settle, IsSettled}
 use Rattle.dill_rules.specs.Turning.{go_on, turn}
@@ -43,12 +39,12 @@ use Rattle.laws_debt.proofs.Falling.{share_in, LowersAt, closing_shut, settle_fa
 use Rattle.laws_debt.proofs.Flagging.{both_all}
 use Rattle.laws_debt.proofs.Keeping.{root_flags, good_stable, turn_is}
 use Rattle.laws_debt.proofs.Lining.{lowers_lined}
-use Rattle.laws_queue.proofs.Lists.{all_found, all_to, all_map, found_passes, equal_number}
+use Rattle.laws_queue.proofs.Lists.{all_found, all_to, all_map, found_passes, equal_number, above_other}
 use Rattle.laws_queue.proofs.Numbers.{found_number}
 use Rattle.laws_debt.proofs.Lowering.{first_gone, others_same}
 use Rattle.laws_debt.proofs.Shutting.{AllHold, IsShutAs, shut_lasts, settle_shut, go_on_shut}
 use Rattle.laws_debt.proofs.Stepwise.{all_there, total_all}
-use Rattle.laws_debt.proofs.Tracking.{tracks_self}
+use Rattle.laws_debt.proofs.Tracking.{tracks_self, rising_tail, all_higher}
 use Rattle.laws_debt.proofs.Tree.{InTree}
 use Rattle.laws_debt.proofs.Walking.{unlike}
 use Rattle.laws_debt.proofs.Within.{KeepsWithin}
@@ -59,29 +55,12 @@ root_found : (o : Option Bundle) → is_some o ≡ true → ((x : Bundle) → o 
 root_found None e h = cc
 root_found (Some x) e h = h x refl
 
-above_head : (x : ℕ) (xs : List ℕ) → IsStrictlyIncreasing (x ∷ xs) → IsStrictlyIncreasing xs
-above_head x xs i k h =
-    let r = i (suc k) (omega (arith, h)) in
-    let e : suc k + 1 ≡ suc (k + 1) = omega arith in
-    rw e at r
-
--- what rises above a number has no other that is equal to it
-others_above : (name : ℕ) (x : Bundle) (xs : List Bundle) → IsStrictlyIncreasing (map (λ y. y.name) (x ∷ xs)) → name ≤ x.name → AllByRecursion (λ y. name < y.name) xs
-others_above name x [] i l = tt
-others_above name x (y ∷ ys) i l =
-    let s = i 0 (omega arith) in
-    let up : name < y.name = omega (arith, l, s) in
-    (up, others_above name y ys (above_head x.name (map (λ z. z.name) (y ∷ ys)) i) (omega (arith, up)))
-
-not_equal : (a b : ℕ) → a < b → (b == a) ≡ false
-not_equal a b h = grind (arith, nat_tests)
-
 -- a bundle whose closing begins is the only one of its name
 root_shuts : (xs : List Bundle) → IsStrictlyIncreasing (map (λ y. y.name) xs) → AllByRecursion (IsShutAs 0) (change (scopes.is_bundle 0) scopes.as_closing xs)
 root_shuts [] i = tt
 root_shuts (x ∷ xs) i =
-    let rest : AllByRecursion (IsShutAs 0) xs = all_to (λ y. 0 < y.name) (IsShutAs 0) xs (λ y l e. unlike (y.name == 0) (not_equal 0 y.name l) e) (others_above 0 x xs i (omega arith)) in
-    at (x.name == 0) refl rest (root_shuts xs (above_head x.name (map (λ z. z.name) xs) i))
+    let rest : AllByRecursion (IsShutAs 0) xs = all_to (λ y. 0 < y.name) (IsShutAs 0) xs (λ y l e. unlike (y.name == 0) (above_other 0 y.name 0 l (omega arith)) e) (all_higher (λ (y : Bundle). y.name) 0 x xs i (omega arith)) in
+    at (x.name == 0) refl rest (root_shuts xs (rising_tail (λ (y : Bundle). y.name) x.name (map (λ z. z.name) xs) i))
   where
     at : (b : Bool) → (x.name == 0) ≡ b → AllByRecursion (IsShutAs 0) xs → AllByRecursion (IsShutAs 0) (change (scopes.is_bundle 0) scopes.as_closing xs) → AllByRecursion (IsShutAs 0) (cond b (scopes.as_closing x ∷ xs) (x ∷ change (scopes.is_bundle 0) scopes.as_closing xs))
     at true e r s = ((λ f. refl), r)

@@ -1,5 +1,5 @@
 -- How the coroutines of a world change where what the calm are answered lowers, and what stays of them.
-use Rattle.std.proofs.Common.{◌≡◌, ◌+◌, ◌≤◌, ℕ, List, [], ◌∷◌, ◌++◌, find, Bool, true, false, Some, refl, arith}
+use Rattle.std.proofs.Common.{◌≡◌, ◌+◌, ◌≤◌, ℕ, List, Bool, true, false, arith}
 use Rattle.std.specs.List.{AllByRecursion}
 use Rattle.dill_calls.specs.CallTable.{word_of}
 use Rattle.dill_calls.specs.Program.{Program, Begins, Lowers}

@@ -15,6 +15,7 @@ use Rattle.dill_rules.specs.declared.coroutine.Mode.TheVariants as modes
 use Rattle.dill_rules.specs.World.{World, is_coroutine, coroutine_of, begin, with_mode, is_ending, is_answered}
 use Rattle.dill_rules.specs.Settling.{settle, IsSettled}
 use Rattle.dill_rules.specs.Turning.{as_running, resume, given_of, answer_given, go_on, turn}
+use Rattle.laws_sound.proofs.Sound.{closing_found}
 use Rattle.laws_sound.specs.Linkless.{MakesLinkless}
 use Rattle.laws_queue.specs.Kept.{Kept}
 use Rattle.laws_queue.specs.Laws.{KeepsWell}
@@ -37,7 +38,7 @@ use Rattle.laws_debt.proofs.Lowering.{less_at, others_lower, others_share, share
 use Rattle.laws_debt.proofs.Walking.{leads_sits, unlike}
 use Rattle.laws_debt.proofs.Shutting.{go_on_shut, IsShutAs, shut_lasts}
 use Rattle.laws_debt.proofs.Tracking.{tracks_self, all_by_key}
-use Rattle.laws_debt.proofs.Tree.{InTree, tree_same, tree_off, tree_leads, settled_tree, facts_of, closing_found, go_on_tracks}
+use Rattle.laws_debt.proofs.Tree.{InTree, tree_same, tree_off, tree_leads, settled_tree, facts_of, go_on_tracks}
 use Rattle.laws_debt.proofs.Unmet.{unmet}
 use Rattle.laws_debt.proofs.Turning.{sits_resumed, given_is, Went, called, ended, go_on_went, went_leads, all_resumed, total_resumed}
 use Rattle.laws_queue.proofs.Numbers.{found_changed, found_number}

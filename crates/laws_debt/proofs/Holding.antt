@@ -4,12 +4,11 @@ use Rattle.std.specs.Prelude.{option_and_then}
 use Rattle.std.specs.List.{AllByRecursion, list_any}
 use Rattle.dill_base.specs.declared.errno.Errno.{Errno}
 use Rattle.dill_base.specs.declared.errno.Errno.TheVariants as errnos
-use Rattle.dill_calls.specs.declared.answer.Answer.TheVariants.{Number, Fault}
-use Rattle.dill_calls.specs.declared.word.Word.TheVariants as words
+use Rattle.dill_calls.specs.declared.answer.Answer.TheVariants.{Fault}
 use Rattle.dill_calls.specs.declared.call.Call.{Call}
 use Rattle.dill_calls.specs.declared.call.Call.TheVariants as calls
 use Rattle.dill_calls.specs.declared.lists.Arg.{Arg}
-use Rattle.dill_calls.specs.declared.ran.Note.TheVariants.{Moved, Freed}
+use Rattle.dill_calls.specs.declared.ran.Note.TheVariants.{Moved}
 use Rattle.dill_calls.specs.CallTable.{word_of, blocks, makes, takes_memory}
 use Rattle.dill_calls.specs.Program.{Program}
 use Rattle.dill_handles.specs.Handles as handles
@@ -21,19 +20,16 @@ use Rattle.dill_scope.specs.Forest.{Inside}
 use Rattle.dill_base.specs.Maps.{if_some, without}
 use Rattle.dill_rules.specs.declared.thing.Thing.{Thing}
 use Rattle.dill_rules.specs.declared.thing.Thing.TheVariants as things
-use Rattle.dill_rules.specs.World.{World, call_of, reply, note}
+use Rattle.dill_rules.specs.World.{World, reply, note}
 use Rattle.dill_rules.specs.Naming.{gifts_of, taken_by}
-use Rattle.dill_rules.specs.Owning.{entry_of, take_thing, move, drop, release, close_bundle}
+use Rattle.dill_rules.specs.Owning.{entry_of, take_thing, move, close_bundle}
 use Rattle.dill_rules.specs.Taking.{bundle_of, is_cancelled, is_leaving, is_anothers, takes_anothers, is_held_back, is_within, is_awaited, is_cancelled_taker, cannot_take, bundle_named, is_occupied}
 use Rattle.dill_rules.specs.Refusals.{refuse, order, order_of, holds, is_called_off, is_busy, is_in_use, is_closed_bundle, is_closed_to, is_refused_by_stack}
 use Rattle.dill_rules.specs.Effects.{add_bundle, close_thing, start, give_all}
-use Rattle.dill_chan.specs.Channels as channels
-use Rattle.dill_chan.specs.Meetings.{has_ended}
-use Rattle.dill_chan.specs.declared.end.Want.TheVariants.{Send}
 use Rattle.dill_rules.specs.Answers.{end_named}
 use Rattle.dill_rules.specs.Channeling.{done_at}
 use Rattle.laws_debt.proofs.Lasting.{Parts, Clearing, either, which, move_by, close_by, channel_lasts, done_at_lasts, meet_lasts}
-use Rattle.dill_rules.specs.Entering.{keep_for, perform, is_too_late, late_answer, meet_deadline, done, enter}
+use Rattle.dill_rules.specs.Entering.{keep_for, perform, done, enter}
 use Rattle.dill_rules.specs.Settling.{close_owned, end}
 use Rattle.laws_sound.specs.Linkless.{is_of_link}
 use Rattle.laws_queue.proofs.Crew.{give_all_crew}

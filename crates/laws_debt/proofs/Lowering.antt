@@ -1,26 +1,17 @@
 -- Once the root closes, each turn lowers what is owed.
-use Rattle.std.proofs.Common.{◌≡◌, ◌∙◌, ◌+◌, ◌-◌, ◌≤◌, ◌<◌, ◌==◌, ℕ, zero, suc, List, [], ◌∷◌, map, take, find, Bool, true, false, Option, Some, if◌then◌else◌, refl, sym, ap, subst, arith}
+use Rattle.std.proofs.Common.{◌≡◌, ◌∙◌, ◌+◌, ◌-◌, ◌≤◌, ◌<◌, ◌==◌, ℕ, zero, suc, List, [], ◌∷◌, take, Bool, true, false, if◌then◌else◌, refl, sym, ap, subst, arith}
 use Rattle.std.specs.List.{list_any}
 use Rattle.std.proofs.lemmas.Bool.Decides.{nat_tests}
-use Rattle.dill_base.specs.declared.errno.Errno.{Errno}
 use Rattle.dill_calls.specs.declared.word.Word.{Word}
 use Rattle.dill_calls.specs.Program.{Program, GoesOn, Lowers}
-use Rattle.dill_base.specs.Maps.{change}
 use Rattle.dill_rules.specs.declared.coroutine.Coroutine.{Coroutine}
 use Rattle.dill_rules.specs.declared.coroutine.Mode.{Mode}
 use Rattle.dill_rules.specs.declared.coroutine.Mode.TheVariants as modes
-use Rattle.dill_rules.specs.State.{lined}
 use Rattle.dill_rules.specs.Turning.{as_running, given_of}
-use Rattle.dill_rules.specs.World.{is_coroutine, with_mode, is_ending, is_answered}
-use Rattle.laws_queue.specs.Well.{Numbered, bit, occurs}
+use Rattle.dill_rules.specs.World.{is_ending, is_answered}
+use Rattle.laws_queue.specs.Well.{bit, occurs}
 use Rattle.laws_debt.specs.Owed.{share_by}
-use Rattle.laws_debt.specs.Says.{SaysIn, LowersIn, IsLowering, AllLower}
-use Rattle.laws_debt.proofs.Evolving.{EvolvesCalm, Suits, evolves_calm, evolves_total}
-use Rattle.laws_sound.proofs.Leaving.{lined_ends}
-use Rattle.laws_debt.proofs.Lining.{lowers_lined}
-use Rattle.laws_debt.proofs.Turning.{total_resumed}
-use Rattle.laws_sound.specs.Orderly.{weigh}
-use Rattle.laws_sound.proofs.Counting.{weigh_alike, weigh_change}
+use Rattle.laws_debt.specs.Says.{SaysIn, LowersIn, IsLowering}
 
 pub less_at : (b e : Bool) (x : ℕ) → e ≡ false → (if b then 0 else x) ≤ (if e then 0 else x)
 less_at true false x f = omega arith

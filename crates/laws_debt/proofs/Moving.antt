@@ -1,10 +1,9 @@
 -- A turn, as a step of a state.
-use Rattle.std.proofs.Common.{◌≡◌, ◌∙◌, ◌≤◌, ◌<◌, ◌==◌, ℕ, zero, suc, List, [], ◌∷◌, length, filter, find, Bool, true, false, not, Option, Some, None, is_some, if◌then◌else◌, refl, sym, ap, subst, arith}
+use Rattle.std.proofs.Common.{◌≡◌, ◌∙◌, ◌≤◌, ◌<◌, ◌==◌, ℕ, List, [], ◌∷◌, filter, find, Bool, true, false, not, Option, Some, None, is_some, if◌then◌else◌, refl, sym, ap, subst, arith}
 use Rattle.std.proofs.lemmas.Bool.{and_parts}
 use Rattle.std.specs.List.{AllByRecursion, list_any, list_all}
 use Rattle.dill_calls.specs.declared.ran.LackPlace.{LackPlace}
 use Rattle.dill_calls.specs.Program.{Program, IsLawful}
-use Rattle.dill_scope.specs.Scopes as scopes
 use Rattle.dill_scope.specs.Scopes.{Scopes, is_bundle, is_inside}
 use Rattle.dill_scope.specs.Keeping.{IsThere}
 use Rattle.dill_rules.specs.declared.coroutine.Coroutine.{Coroutine}
@@ -13,13 +12,13 @@ use Rattle.dill_rules.specs.declared.coroutine.Mode.TheVariants as modes
 use Rattle.dill_rules.specs.Debts.{is_early}
 use Rattle.dill_rules.specs.State.{State, Stamp, is_stamp_of, stamp_of, is_fresh}
 use Rattle.dill_rules.specs.World.{World, is_coroutine, begin, is_answered}
-use Rattle.dill_rules.specs.Settling.{settle_one, settle_within, settle, IsSettled}
+use Rattle.dill_rules.specs.Settling.{settle, IsSettled}
 use Rattle.dill_rules.specs.Turning.{resume, answer_given, go_on, turn}
+use Rattle.laws_sound.proofs.Sound.{closing_found}
 use Rattle.laws_queue.specs.Kept.{Kept}
 use Rattle.laws_queue.specs.Laws.{MayTurn, KeepsWell}
 use Rattle.laws_sound.specs.Linkless.{MakesLinkless, IsLinkless}
 use Rattle.laws_queue.specs.Stands.{StandsFor}
-use Rattle.laws_queue.specs.Well.{Numbered}
 use Rattle.laws_sound.proofs.Linkless.{begin_linkless}
 use Rattle.laws_sound.proofs.Turns.{go_on_linkless}
 use Rattle.laws_sound.specs.Laws.{is_closing, is_resting}
@@ -34,13 +33,13 @@ use Rattle.laws_debt.proofs.Evolving.{Suits, evolves_calm}
 use Rattle.laws_debt.proofs.Falling.{LowersAt, closing_shut, ranked_bound, turn_falls}
 use Rattle.laws_debt.proofs.Flagging.{both_all}
 use Rattle.laws_debt.proofs.Keeping.{nobody_calm, AnyBundle, IsGood, good_stable, good_moved, settles, turn_is}
-use Rattle.laws_queue.proofs.Lists.{all_found, all_to, all_without, found_passes, number_of, equal_number}
-use Rattle.laws_debt.proofs.Walking.{AllSit, leads_sits, numbered_calm, settle_one_calm, unlike}
+use Rattle.laws_queue.proofs.Lists.{all_found, all_to, found_passes, number_of, equal_number}
+use Rattle.laws_debt.proofs.Walking.{AllSit, unlike}
 use Rattle.laws_debt.proofs.Shutting.{settle_shut, AllHold, go_on_shut}
 use Rattle.laws_debt.proofs.Stamping.{others_stay, taken_gone}
 use Rattle.laws_debt.proofs.Stepwise.{LowersFresh, StampOk, stamp_lasts, stamps_self, all_there, Stepped, less_early}
 use Rattle.laws_debt.proofs.Tracking.{tracks_self}
-use Rattle.laws_debt.proofs.Tree.{InTree, tree_same, tree_leads, settled_tree, closing_found}
+use Rattle.laws_debt.proofs.Tree.{InTree, tree_same, tree_leads, settled_tree}
 use Rattle.laws_debt.proofs.Turning.{go_on_went, went_leads, all_resumed}
 
 pub flag_was : (s : Scopes) (t : Scopes) (b : ℕ) → AllByRecursion (OldFlag s) t.bundles → is_closing t b ≡ true → is_closing s b ≡ true

@@ -28,7 +28,7 @@ use Rattle.laws_sound.specs.Laws.{is_closing, is_timed}
 use Rattle.laws_debt.specs.Closing.{IsStable}
 use Rattle.laws_debt.specs.Says.{IsLowering}
 use Rattle.laws_debt.specs.Steady.{HasStamps, LowersInside}
-use Rattle.laws_debt.proofs.Beginning.{OldFlag, old_flags, settle_flags}
+use Rattle.laws_debt.proofs.Beginning.{old_flags, settle_flags}
 use Rattle.laws_debt.proofs.Bounded.{each_found, queued_early}
 use Rattle.laws_debt.proofs.Evolving.{Suits, evolves_calm}
 use Rattle.laws_debt.proofs.Falling.{LowersAt, owed_tree, lowers_tree, tree_self, settle_falls}
@@ -43,7 +43,7 @@ use Rattle.laws_debt.proofs.Unmet.{cancels_some, unanswered}
 use Rattle.laws_debt.proofs.Shutting.{settle_shut, AllHold, Lasts, expire_one_shut, IsShutAs}
 use Rattle.laws_debt.proofs.Stepwise.{StampOk, stamp_lasts, stamps_self, Stepped, less_early}
 use Rattle.laws_debt.proofs.Tree.{InTree, tree_off}
-use Rattle.laws_sound.proofs.Stepping.{order_root_closed}
+use Rattle.laws_sound.proofs.Stepping.{order_root_closed, calls_lined}
 
 -- nobody's answer is taken
 abbrev pub none_gone : ℕ → Bool
@@ -188,14 +188,6 @@ module _ {V : Type 0} (p : Program V) (law : IsLawful p) (unlinked : MakesLinkle
   hushed_expire w x a t h n call c e =
       let l = expire_leaves w x a t in
       h n call (subst (λ (s : Scopes). scopes.is_cancelled s n ≡ true) l.scopes_same c) (l.calls_were n call e)
-
-  pub calls_lined : (cs : List (Coroutine V)) (n : ℕ) → if_some (find (is_coroutine n) (map lined cs)) None (λ c. pending_call c.mode) ≡ if_some (find (is_coroutine n) cs) None (λ c. pending_call c.mode)
-  calls_lined [] n = refl
-  calls_lined (c ∷ cs) n = at (is_coroutine n c) (calls_lined cs n)
-    where
-      at : (b : Bool) → if_some (find (is_coroutine n) (map lined cs)) None (λ d. pending_call d.mode) ≡ if_some (find (is_coroutine n) cs) None (λ d. pending_call d.mode) → if_some (cond b (Some (lined c)) (find (is_coroutine n) (map lined cs))) None (λ d. pending_call d.mode) ≡ if_some (cond b (Some c) (find (is_coroutine n) cs)) None (λ d. pending_call d.mode)
-      at true r = lined_pending c.mode
-      at false r = r
 
   pub hushed_queued : (v : World V) (ready : List ℕ) (early : ℕ) → Hushed v → Hushed (queued v ready early).world
   hushed_queued v ready early h n call c e = h n call c (sym (calls_lined v.coroutines n) ∙ e)

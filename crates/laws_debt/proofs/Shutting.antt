@@ -1,5 +1,5 @@
 -- What holds of each bundle under every owner stays so, whatever is called, and so do the notes of closings.
-use Rattle.std.proofs.Common.{◌≡◌, ◌∙◌, ◌+◌, ◌≤◌, ℕ, List, [], ◌∷◌, Bool, true, false, cond, Option, Some, refl, arith, ◌==◌, ap, sym}
+use Rattle.std.proofs.Common.{◌≡◌, ◌∙◌, ◌+◌, ◌≤◌, ℕ, List, [], ◌∷◌, Bool, true, false, cond, Option, Some, refl, arith, ◌==◌}
 use Rattle.std.specs.List.{AllByRecursion}
 use Rattle.dill_base.specs.Maps.{change}
 use Rattle.dill_calls.specs.declared.ran.LackPlace.{LackPlace}

@@ -13,6 +13,7 @@ use Rattle.dill_rules.specs.declared.coroutine.Mode.TheVariants as modes
 use Rattle.dill_rules.specs.Debts.{is_early, debt}
 use Rattle.dill_rules.specs.State.{State, Stamp, is_stamp_of, stamp_of, stamped, lined_mode, lined, fresh, line_up}
 use Rattle.dill_rules.specs.World.{World, is_coroutine, is_ending, is_answered}
+use Rattle.laws_sound.proofs.Sound.{closing_found}
 use Rattle.laws_sound.specs.Linkless.{MakesLinkless}
 use Rattle.laws_queue.specs.Kept.{Kept, queued}
 use Rattle.laws_queue.specs.Lending.{wordless}
@@ -34,7 +35,6 @@ use Rattle.laws_queue.proofs.Lists.{all_found, all_append, all_to, found_passes,
 use Rattle.laws_debt.proofs.Shutting.{AllHold, Lasts}
 use Rattle.laws_debt.proofs.Stamping.{stamped_from, find_behind, is_less, came, came_before, queued_stamp, unqueued, new_closings, closing_stamped, open_unstamped, stamps_low}
 use Rattle.laws_debt.proofs.Tracking.{all_by_key}
-use Rattle.laws_debt.proofs.Tree.{closing_found}
 use Rattle.laws_debt.proofs.Walking.{unlike}
 use Rattle.laws_queue.proofs.Numbers.{find_append}
 use Rattle.laws_sound.specs.Orderly.{weigh}

@@ -162,13 +162,13 @@ inside_same s b t tracks old new who there =
 
 -- each of a list whose keys rise is found by its key
 module _ {X : Type 0} (key : X → ℕ) where
-  rising_tail : (x : ℕ) (xs : List ℕ) → IsStrictlyIncreasing (x ∷ xs) → IsStrictlyIncreasing xs
+  pub rising_tail : (x : ℕ) (xs : List ℕ) → IsStrictlyIncreasing (x ∷ xs) → IsStrictlyIncreasing xs
   rising_tail x xs i k h =
       let r = i (suc k) (omega (arith, h)) in
       let e : suc k + 1 ≡ suc (k + 1) = omega arith in
       rw e at r
 
-  all_higher : (low : ℕ) (x : X) (xs : List X) → IsStrictlyIncreasing (map key (x ∷ xs)) → low ≤ key x → AllByRecursion (λ y. low < key y) xs
+  pub all_higher : (low : ℕ) (x : X) (xs : List X) → IsStrictlyIncreasing (map key (x ∷ xs)) → low ≤ key x → AllByRecursion (λ y. low < key y) xs
   all_higher low x [] i l = tt
   all_higher low x (y ∷ ys) i l =
       let s = i 0 (omega arith) in

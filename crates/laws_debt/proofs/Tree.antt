@@ -1,41 +1,33 @@
 -- The worlds of a step in which a bundle is closing: who is inside it stays the same, but for who is gone, and is cancelled.
-use Rattle.std.proofs.Common.{◌≡◌, ◌∙◌, ◌⊎◌, inl, inr, ◌+◌, ◌≤◌, ◌==◌, ℕ, zero, suc, List, [], ◌∷◌, length, map, fold, filter, reverse, find, Bool, true, false, ◌&&◌, Option, Some, None, option_map, is_some, nat_le, if◌then◌else◌, refl, sym, ap, subst, arith}
+use Rattle.std.proofs.Common.{◌≡◌, ◌∙◌, ◌⊎◌, inl, inr, ◌+◌, ◌≤◌, ◌==◌, ℕ, zero, suc, List, [], ◌∷◌, length, map, find, Bool, true, false, ◌&&◌, Option, Some, None, option_map, is_some, nat_le, if◌then◌else◌, refl, sym, ap, subst, arith}
 use Rattle.std.proofs.lemmas.Bool.{and_parts}
 use Rattle.std.specs.Prelude.{option_and_then}
 use Rattle.std.specs.List.{AllByRecursion}
-use Rattle.dill_calls.specs.declared.answer.Answer.{Answer}
 use Rattle.dill_calls.specs.declared.answer.Answer.TheVariants.{Fault}
-use Rattle.dill_calls.specs.declared.call.Call.{Call}
-use Rattle.dill_calls.specs.declared.call.Call.TheVariants as calls
 use Rattle.dill_calls.specs.declared.ran.LackPlace.{LackPlace}
-use Rattle.dill_calls.specs.declared.ran.Note.TheVariants.{Freed}
 use Rattle.dill_calls.specs.CallTable.{word_of, build_takes_memory}
 use Rattle.dill_calls.specs.Program.{Program, Move, Calls, Ends}
 use Rattle.dill_handles.specs.Handles as handles
 use Rattle.dill_handles.specs.declared.entry.Entry.{Entry}
 use Rattle.dill_scope.specs.declared.forest.Bundle.{Bundle}
 use Rattle.dill_scope.specs.declared.forest.Home.{Home}
-use Rattle.dill_scope.specs.Scopes as scopes
 use Rattle.dill_scope.specs.Scopes.{Scopes, is_bundle, owner_of, is_inside}
 use Rattle.dill_scope.specs.Forest.{Inside, lives, under, Rooted, at_root, below, IsForest}
 use Rattle.dill_scope.specs.Keeping.{IsThere}
 use Rattle.dill_scope.proofs.Carrying.{parent_told}
 use Rattle.dill_scope.proofs.Chains.{search_is_inside}
 use Rattle.dill_scope.proofs.Numbered.{none_below}
-use Rattle.dill_base.specs.Maps.{if_some, first_some}
-use Rattle.dill_rules.specs.declared.coroutine.Closing.{Closing}
+use Rattle.dill_base.specs.Maps.{if_some}
 use Rattle.dill_rules.specs.declared.coroutine.Coroutine.{Coroutine}
 use Rattle.dill_rules.specs.declared.thing.Thing.{Thing}
-use Rattle.dill_rules.specs.declared.thing.Thing.TheVariants as things
-use Rattle.dill_rules.specs.World.{World, coroutine_of, reply, note}
+use Rattle.dill_rules.specs.World.{World, coroutine_of, reply}
 use Rattle.dill_rules.specs.Entering.{entered, lack_fault}
-use Rattle.dill_rules.specs.Giving.{give}
-use Rattle.dill_rules.specs.Owning.{entry_of, drop, release, free_bundle, is_dead_as}
+use Rattle.dill_rules.specs.Owning.{entry_of}
 use Rattle.dill_rules.specs.Taking.{bundle_of, is_cancelled}
-use Rattle.dill_rules.specs.Settling.{can_finish, end, highest_first, is_owned_by, free_all, release_all, finish, answer_due, give_first, settle_one, settle_within, settle}
+use Rattle.dill_rules.specs.Settling.{end, settle_one, settle_within, settle}
 use Rattle.dill_rules.specs.Turning.{is_build, is_entry, may_lack_build, resume, answer_given, move_of, make_move, lack_move, go_on}
-use Rattle.laws_sound.specs.Linkless.{MovesLinkless, may_wait, IsLinkless}
-use Rattle.laws_queue.specs.Well.{Numbered, bit, occurs}
+use Rattle.laws_sound.specs.Linkless.{MovesLinkless, IsLinkless}
+use Rattle.laws_queue.specs.Well.{bit, occurs}
 use Rattle.laws_sound.proofs.Lists.{all_found}
 use Rattle.laws_sound.proofs.Steps.{settle_one_linkless, pass_linkless}
 use Rattle.laws_sound.specs.Laws.{is_closing}
@@ -45,7 +37,7 @@ use Rattle.laws_sound.proofs.Counting.{holds, weigh_filter, weighs_found}
 use Rattle.laws_sound.proofs.Fitting.{next_is_new, there_is}
 use Rattle.laws_sound.proofs.Answering.{settle_one_good}
 use Rattle.laws_sound.proofs.Owners.{owned_no_root}
-use Rattle.laws_sound.proofs.Sound.{owner_is, inside_cancelled}
+use Rattle.laws_sound.proofs.Sound.{owner_is, inside_cancelled, closing_found}
 use Rattle.laws_debt.specs.Flags.{IsFlagged, HasFlags}
 use Rattle.laws_sound.proofs.Turns.{entered_linkless}
 use Rattle.laws_debt.proofs.Flagging.{closed_names}
@@ -56,7 +48,6 @@ use Rattle.laws_queue.proofs.Lists.{equal_number, number_of, all_to}
 use Rattle.laws_debt.proofs.Walking.{AllSit, leads_sits, settle_one_calm, settle_calm, Leads}
 use Rattle.laws_debt.proofs.Shutting.{AllHold, settle_one_shut, IsShutAs, shut_lasts}
 use Rattle.laws_debt.proofs.Tracking.{Tracks, inside_same}
-use Rattle.laws_queue.proofs.Stepping.{due_first}
 
 -- ---- what is known of a world in order
 
@@ -83,14 +74,6 @@ module _ {X : Type 0} (key : X → ℕ) where
 
       later : (y : X) → find (λ z. key z == key y) xs ≡ Some y → find (λ z. key z == key y) (x ∷ xs) ≡ Some y
       later y e = rw (pick y (key x == key y) refl (counted y xs e)) e
-
--- a bundle that is closing is there
-pub closing_found : (s : Scopes) (name : ℕ) → is_closing s name ≡ true → (x : Bundle) × (find (is_bundle name) s.bundles ≡ Some x) × (x.closing ≡ true)
-closing_found s name e = at (find (is_bundle name) s.bundles) refl e
-  where
-    at : (o : Option Bundle) → find (is_bundle name) s.bundles ≡ o → if_some o false (λ x. x.closing) ≡ true → (x : Bundle) × (find (is_bundle name) s.bundles ≡ Some x) × (x.closing ≡ true)
-    at None f g = cc
-    at (Some x) f g = (x, f, g)
 
 bit_small : (c : Bool) → bit c ≤ 1
 bit_small true = omega arith

@@ -29,7 +29,7 @@ use Rattle.laws_debt.proofs.Walking.{Sits, AllSit, MaySay, change_calls, Leads, 
 use Rattle.laws_queue.proofs.Stepping.{Runs}
 use Rattle.dill_rules.specs.Naming.{bears}
 use Rattle.dill_rules.specs.Refusals.{refuse}
-use Rattle.laws_queue.proofs.Lists.{all_change, found_passes, number_of, some_same, above_other}
+use Rattle.laws_queue.proofs.Lists.{all_change, number_of, some_same, above_other}
 use Rattle.laws_queue.proofs.Numbers.{found_changed}
 use Rattle.laws_sound.specs.Orderly.{weigh}
 

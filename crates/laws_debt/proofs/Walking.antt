@@ -1,5 +1,5 @@
 -- The one walk over coroutines, where what the calm are answered lowers: every call, settling and expiring go so.
-use Rattle.std.proofs.Common.{◌≡◌, ◌∙◌, ◌+◌, ℕ, List, [], ◌∷◌, find, Bool, true, false, cond, Option, Some, None, refl, sym, ap, subst}
+use Rattle.std.proofs.Common.{◌≡◌, ◌∙◌, ℕ, List, [], ◌∷◌, find, Bool, true, false, cond, Option, Some, None, refl, sym, ap}
 use Rattle.std.specs.List.{AllByRecursion}
 use Rattle.dill_calls.specs.declared.answer.Answer.{Answer}
 use Rattle.dill_calls.specs.declared.call.Call.{Call}

@@ -1,15 +1,11 @@
 -- As the coroutines change from step to step, those who may go on still may, and those who have an answer stay the same.
-use Rattle.std.proofs.Common.{◌≡◌, ◌∙◌, ℕ, ◌+◌, ◌<◌, ◌≤◌, ◌==◌, List, [], ◌∷◌, ◌++◌, find, Bool, true, false, cond, Option, Some, None, refl, sym, ap, subst, arith}
-use Rattle.std.proofs.lemmas.Bool.Decides.{nat_tests}
-use Rattle.dill_calls.specs.declared.answer.Answer.TheVariants.{Number}
-use Rattle.dill_calls.specs.declared.word.Word.TheVariants.{Start}
+use Rattle.std.proofs.Common.{◌≡◌, ◌∙◌, ℕ, ◌+◌, ◌≤◌, ◌==◌, List, [], ◌∷◌, ◌++◌, find, Bool, true, false, cond, Option, Some, None, refl, sym, ap, arith}
 use Rattle.dill_calls.specs.Program.{Program}
 use Rattle.dill_base.specs.Maps.{if_some, change, without}
 use Rattle.dill_rules.specs.declared.coroutine.Coroutine.{Coroutine}
 use Rattle.dill_rules.specs.declared.coroutine.Mode.{Mode}
-use Rattle.dill_rules.specs.declared.coroutine.Mode.TheVariants as modes
 use Rattle.dill_rules.specs.World.{is_coroutine, with_mode, is_answered}
-use Rattle.laws_queue.specs.Well.{has_more, IsAlive, Lives, Numbered, bit, is_at, counts}
+use Rattle.laws_queue.specs.Well.{has_more, Numbered, bit, is_at, counts}
 use Rattle.laws_queue.proofs.Evolving.{Evolves, newborn, stays, turns, leaves, begins, goes_on, evolves_numbered}
 use Rattle.laws_queue.proofs.Lists.{some_same, number_of, above_other}
 

@@ -1,5 +1,5 @@
 -- How the coroutines of a world change from step to step, and what stays of them.
-use Rattle.std.proofs.Common.{◌≡◌, ℕ, ◌+◌, ◌≤◌, List, [], ◌∷◌, ◌++◌, find, true, false, Some, refl, arith}
+use Rattle.std.proofs.Common.{◌≡◌, ℕ, ◌+◌, List, [], ◌∷◌, ◌++◌, find, Some, refl, arith}
 use Rattle.std.specs.List.{AllByRecursion}
 use Rattle.dill_calls.specs.declared.answer.Answer.TheVariants.{Number}
 use Rattle.dill_calls.specs.declared.word.Word.TheVariants.{Start}

@@ -1,5 +1,5 @@
 -- Coroutines by number: how their numbers rise, and who is found.
-use Rattle.std.proofs.Common.{◌≡◌, ◌∙◌, ◌<◌, ◌≤◌, ◌==◌, ℕ, List, [], ◌∷◌, ◌++◌, find, Bool, true, false, cond, Option, Some, refl, sym, ap, subst, arith}
+use Rattle.std.proofs.Common.{◌≡◌, ◌∙◌, ◌<◌, ◌≤◌, ℕ, List, [], ◌∷◌, ◌++◌, find, Bool, true, false, cond, Some, refl, sym, ap, subst, arith}
 use Rattle.dill_base.specs.Maps.{change, without}
 use Rattle.dill_rules.specs.declared.coroutine.Coroutine.{Coroutine}
 use Rattle.dill_rules.specs.World.{is_coroutine}

@@ -1,27 +1,17 @@
 -- The program that a call starts is known, and its coroutine begins.
-use Rattle.std.proofs.Common.{◌≡◌, ◌∙◌, ◌+◌, ◌≤◌, ℕ, suc, List, [], ◌∷◌, ◌++◌, length, find, Bool, true, false, not, ◌&&◌, ◌||◌, cond, Option, Some, None, refl, sym, ap, subst}
+use Rattle.std.proofs.Common.{◌≡◌, ◌∙◌, ◌+◌, ℕ, suc, List, [], ◌∷◌, ◌++◌, length, find, Bool, true, false, not, ◌&&◌, ◌||◌, cond, Option, Some, None, refl, ap}
 use Rattle.dill_base.specs.declared.errno.Errno.{Errno}
 use Rattle.dill_base.specs.declared.errno.Errno.TheVariants as errnos
-use Rattle.dill_calls.specs.declared.answer.Answer.{Answer}
-use Rattle.dill_calls.specs.declared.answer.Answer.TheVariants.{Number}
 use Rattle.dill_calls.specs.declared.call.Call.{Call}
 use Rattle.dill_calls.specs.declared.call.Call.TheVariants as calls
 use Rattle.dill_calls.specs.declared.lists.Arg.{Arg}
 use Rattle.dill_calls.specs.declared.lists.Arg.TheVariants.{Show, Give}
-use Rattle.dill_calls.specs.declared.word.Word.{Word}
-use Rattle.dill_calls.specs.declared.word.Word.TheVariants as words
 use Rattle.dill_calls.specs.Program.{Program, IsLawful, Begins}
-use Rattle.dill_base.specs.Maps.{change}
-use Rattle.dill_rules.specs.declared.coroutine.Coroutine.{Coroutine}
-use Rattle.dill_rules.specs.declared.coroutine.Mode.{Mode}
-use Rattle.dill_rules.specs.declared.coroutine.Mode.TheVariants as modes
-use Rattle.dill_rules.specs.World.{World, is_coroutine, coroutine_of, with_mode, set_mode, reply, pend, is_answered}
+use Rattle.dill_rules.specs.World.{World}
 use Rattle.dill_rules.specs.Naming.{gifts_of}
 use Rattle.dill_rules.specs.Refusals.{order, refuse, has_twice, holds, is_invalid, is_refused_by_stack}
-use Rattle.dill_rules.specs.Effects.{told, bear}
-use Rattle.laws_queue.proofs.Crew.{SameCrew}
+use Rattle.dill_rules.specs.Effects.{told}
 use Rattle.laws_queue.proofs.Acting.{Bearing}
-use Rattle.laws_queue.proofs.Numbers.{find_append}
 
 pub told_length : (next : ℕ) (args : List Arg) → length (told next args) ≡ length args
 told_length next [] = refl

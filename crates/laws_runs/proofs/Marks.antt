@@ -38,6 +38,7 @@ use Rattle.laws_queue.specs.Well.{bit, occurs}
 use Rattle.laws_sound.specs.Laws.{is_closing, KeepsOrder}
 use Rattle.laws_sound.specs.Order.{IsInOrder}
 use Rattle.laws_sound.proofs.Lists.{occurs_found}
+use Rattle.laws_debt.proofs.Debting.{bit_falls}
 use Rattle.laws_debt.specs.Debts.{Step, Turn, Expire, Shut, Wake, step, is_turn_inside, DebtFalls}
 use Rattle.laws_debt.specs.Laws.{KeepsStable}
 use Rattle.laws_debt.specs.Steady.{IsSteady}
@@ -190,10 +191,6 @@ module _ {V : Type 0} (tie : Closing) (p : Program V) (law : IsLawful p) (unlink
       dead_closing tie (wordless s.world) order h.marked number name e
 
 -- ---- how long an `hclose` waits
-
-bit_falls : (b : Bool) (rest now was : ℕ) → rest ≤ now → (b ≡ true → now < was) → now ≤ was → bit b + rest ≤ was
-bit_falls true rest now was l f m = let less = f refl in omega (arith, l, less)
-bit_falls false rest now was l f m = omega (arith, l, m)
 
 hclose_of : (number : ℕ) (call : Call) → is_hclose_of number call ≡ true → call ≡ calls.Hclose number
 hclose_of number (calls.Hclose closed) e = ap (λ n. calls.Hclose n) (number_of closed number e)

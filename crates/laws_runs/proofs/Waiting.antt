@@ -24,63 +24,27 @@ use Rattle.dill_rules.specs.World.{World, call_of, coroutine_of, is_coroutine, i
 use Rattle.laws_queue.specs.Lending.{wordless}
 use Rattle.laws_sound.proofs.Lists.{all_found}
 use Rattle.laws_sound.specs.Order.{closes, has_bundle, has_closing, IsInOrder}
-use Rattle.laws_sound.proofs.Going.{its_number, or_none}
+use Rattle.laws_sound.proofs.Going.{or_none, none_when, none_passes, none_given, ending_deeper}
+use Rattle.laws_queue.proofs.Numbers.{found_number}
 use Rattle.laws_sound.proofs.Sound.{owner_is}
 use Rattle.laws_debt.proofs.Tracking.{all_by_key}
 use Rattle.laws_runs.specs.Waits.{AwaitsLived, ClosesLived, OwnsLived, WaitsForSomebody, WaitingIsForSomebody}
 
-none_when : (b : Bool) (answer : Answer) → when b answer ≡ None → b ≡ false
-none_when true answer e = cc
-none_when false answer e = refl
-
-module _ {V : Type 0} where
-  none_passes : (test pick : Coroutine V → Bool) (cs : List (Coroutine V)) (c : Coroutine V) → find test cs ≡ None → find pick cs ≡ Some c → test c ≡ false
-  none_passes test pick [] c e f = cc
-  none_passes test pick (x ∷ cs) c e f = at (test x) (pick x) refl e f (none_passes test pick cs c)
-    where
-      at : (t u : Bool) → test x ≡ t → cond t (Some x) (find test cs) ≡ None → cond u (Some x) (find pick cs) ≡ Some c → (find test cs ≡ None → find pick cs ≡ Some c → test c ≡ false) → test c ≡ false
-      at true u g h i rest = cc
-      at false true g h i rest = let it : x ≡ c = cc in ap test (sym it) ∙ g
-      at false false g h i rest = rest h i
-
-  none_given : {A : Type 0} (f : Coroutine V → Option A) (pick : Coroutine V → Bool) (cs : List (Coroutine V)) (c : Coroutine V) → first_some f cs ≡ None → find pick cs ≡ Some c → f c ≡ None
-  none_given f pick [] c e g = cc
-  none_given f pick (x ∷ cs) c e g = at (pick x) g (or_none (f x) (first_some f cs) e) (none_given f pick cs c)
-    where
-      at : (u : Bool) → cond u (Some x) (find pick cs) ≡ Some c → (f x ≡ None) × (first_some f cs ≡ None) → (first_some f cs ≡ None → find pick cs ≡ Some c → f c ≡ None) → f c ≡ None
-      at true i h rest = let it : x ≡ c = cc in ap f (sym it) ∙ h.0
-      at false i h rest = rest h.1 i
-
 -- ---- who is ending
-
-abbrev is_owners : ℕ → Bundle → Bool
-is_owners who x = if_some x.owner false (λ o. o == who)
-
-module _ {V : Type 0} (w : World V) (who : ℕ) where
-  lived_in : (bs : List Bundle) → AllByRecursion (λ x. find (is_bundle x.name) w.scopes.bundles ≡ Some x) bs → list_all (is_empty w.scopes) (map (λ x. x.name) (filter (is_owners who) bs)) ≡ false → OwnsLived w who
-  lived_in [] a e = cc
-  lived_in (x ∷ bs) a e = at (is_owners who x) (is_empty w.scopes x.name) refl refl e (lived_in bs a.1)
-    where
-      rest : List Bundle
-      rest = filter (is_owners who) bs
-
-      at : (t u : Bool) → is_owners who x ≡ t → is_empty w.scopes x.name ≡ u → list_all (is_empty w.scopes) (map (λ y. y.name) (cond t (x ∷ rest) rest)) ≡ false → (list_all (is_empty w.scopes) (map (λ y. y.name) rest) ≡ false → OwnsLived w who) → OwnsLived w who
-      at true true f g h more = more (ap (λ b. b && list_all (is_empty w.scopes) (map (λ y. y.name) rest)) (sym g) ∙ h)
-      at true false f g h more = record { name = x.name; owned = ap (option_and_then (λ (y : Bundle). y.owner)) a.0 ∙ owner_is x.owner who f; lived = g }
-      at false u f g h more = more h
 
 module _ {V : Type 0} (w : World V) (order : IsInOrder w) (settled : IsSettled w) where
   ends_lived : (who : ℕ) (c : Coroutine V) (outcome : Option Errno) → coroutine_of w who ≡ Some c → c.mode ≡ modes.Ending outcome → OwnsLived w who
   ends_lived who c outcome e f =
       let none : can_finish w c ≡ false = none_passes (can_finish w) (is_coroutine who) w.coroutines c settled.endings e in
       let clear : is_clear w c.number ≡ false = ap (λ m. is_ending m && is_clear w c.number) (sym f) ∙ none in
-      lived_in w who w.scopes.bundles (all_by_key (λ (x : Bundle). x.name) w.scopes.bundles order.fits.forest.ordered.bundles) (ap (is_clear w) (sym (its_number w who c e)) ∙ clear)
+      let d = ending_deeper w who order.fits (ap (is_clear w) (sym (found_number who w.coroutines c e)) ∙ clear) in
+      record { name = d.name; owned = d.owned; lived = d.lived }
 
   -- ---- who is pending
 
   -- nothing is answered
   none_answered : (who : ℕ) (c : Coroutine V) (call : Call) → coroutine_of w who ≡ Some c → c.mode ≡ modes.Pending call → answer_of w who call ≡ None
-  none_answered who c call e f = ap (λ n. answer_of w n call) (sym (its_number w who c e)) ∙ at (answer_of w c.number call) (ap (λ m. if_some (pending_call m) None (λ d. if_some (answer_of w c.number d) None (λ a. Some (c.number, d, a)))) (sym f) ∙ none_given (answer_due w) (is_coroutine who) w.coroutines c settled.answers e)
+  none_answered who c call e f = ap (λ n. answer_of w n call) (sym (found_number who w.coroutines c e)) ∙ at (answer_of w c.number call) (ap (λ m. if_some (pending_call m) None (λ d. if_some (answer_of w c.number d) None (λ a. Some (c.number, d, a)))) (sym f) ∙ none_given (answer_due w) (is_coroutine who) w.coroutines c settled.answers e)
     where
       at : (o : Option Answer) → ◌≡◌ {A = Option (ℕ × Call × Answer)} (if_some o None (λ a. Some (c.number, call, a))) None → o ≡ None
       at None g = refl
@@ -117,7 +81,7 @@ module _ {V : Type 0} (w : World V) (order : IsInOrder w) (settled : IsSettled w
       let it = pends who (calls.Hclose number) e in
       let has : if_some (closes it.one.mode) true (λ n. if_some (find (is_dead_as n) w.closings) false (λ x. has_bundle w it.one.number x.bundle)) ≡ true = all_found (has_closing w) (is_coroutine who) w.coroutines it.one order.waiters it.found in
       let held : if_some (find (is_dead_as number) w.closings) false (λ x. has_bundle w it.one.number x.bundle) ≡ true = ap (λ m. if_some (closes m) true (λ n. if_some (find (is_dead_as n) w.closings) false (λ x. has_bundle w it.one.number x.bundle))) (sym it.mode) ∙ has in
-      closes_at who number (ap (λ n. if_some (find (is_dead_as number) w.closings) false (λ x. has_bundle w n x.bundle)) (sym (its_number w who it.one it.found)) ∙ held) (none_answered who it.one (calls.Hclose number) it.found it.mode)
+      closes_at who number (ap (λ n. if_some (find (is_dead_as number) w.closings) false (λ x. has_bundle w n x.bundle)) (sym (found_number who w.coroutines it.one it.found)) ∙ held) (none_answered who it.one (calls.Hclose number) it.found it.mode)
 
   awaits_lived : (who number : ℕ) (deadline : Deadline) → call_of w who ≡ Some (calls.BundleWait number deadline) → AwaitsLived w who number
   awaits_lived who number deadline e =

@@ -1,5 +1,5 @@
 -- After each step that settles nothing is due, and all are at rest.
-use Rattle.std.proofs.Common.{◌≡◌, ◌∙◌, ℕ, ◌-◌, List, [], ◌∷◌, length, map, find, fold, Bool, true, false, ◌&&◌, cond, Option, Some, None, refl, sym, ap, subst}
+use Rattle.std.proofs.Common.{◌≡◌, ◌∙◌, ℕ, ◌-◌, List, [], ◌∷◌, length, map, find, fold, Bool, true, false, ◌&&◌, cond, Option, Some, None, refl, ap, subst}
 use Rattle.std.specs.Prelude.{max}
 use Rattle.std.specs.List.{list_all}
 use Rattle.std.specs.Option.{option_or}
@@ -17,7 +17,7 @@ use Rattle.dill_rules.specs.Links.{Links}
 use Rattle.dill_rules.specs.Settling.{can_finish, is_clear, answer_due, settle, IsSettled}
 use Rattle.dill_rules.specs.State.{lined}
 use Rattle.dill_rules.specs.Turning.{go_on, move_of, answer_given}
-use Rattle.dill_rules.specs.World.{World, Place, at_start, begin, pending_call}
+use Rattle.dill_rules.specs.World.{World, Place, at_start, begin}
 use Rattle.laws_queue.specs.Kept.{Kept, queued, turn_first, kept_turn, kept_expire_next, kept_late, kept_expired, kept_shut, kept_woke, root_closed}
 use Rattle.laws_queue.specs.Laws.{KeepsWell}
 use Rattle.laws_sound.specs.Linkless.{MovesLinkless, MakesLinkless, waits_linkless, IsLinkless}

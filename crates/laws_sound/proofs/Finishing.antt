@@ -31,7 +31,7 @@ use Rattle.laws_sound.specs.Orderly.{weigh}
 use Rattle.laws_sound.proofs.Counting.{weightless, weighs_found, heavy_found, weigh_found, none_left, only_found, small_bit}
 use Rattle.laws_sound.proofs.Crews.{change_here}
 use Rattle.laws_sound.proofs.Fitting.{names_it, closes_it, died_as, used_is, named, named_is}
-use Rattle.laws_sound.proofs.Going.{its_number}
+use Rattle.laws_queue.proofs.Numbers.{found_number as number_found}
 use Rattle.laws_sound.proofs.Handing.{equal, unequal, same_number}
 use Rattle.laws_sound.proofs.Nearly.{Nearly, nearly, near_set, settle_in}
 use Rattle.laws_sound.proofs.Ordering.{apart, all_true, order_anyway, going_open}
@@ -61,7 +61,7 @@ module _ {V : Type 0} where
     where
       at : (p : Option Closing) → find (is_dead_as number) w.closings ≡ p → if_some p false (λ x. has_bundle w c.number x.bundle) ≡ true → Held w who number
       at None f g = cc
-      at (Some x) f g = record { one = x; found = f; owned = owner_is (owner_of w.scopes x.bundle) c.number g ∙ ap (λ n. Some n) (its_number w who c e) }
+      at (Some x) f g = record { one = x; found = f; owned = owner_is (owner_of w.scopes x.bundle) c.number g ∙ ap (λ n. Some n) (number_found who w.coroutines c e) }
 
   -- no other closing is its own
   not_waiting : (w : World V) (who number : ℕ) (c : Coroutine V) (y : Closing) → coroutine_of w who ≡ Some c → c.mode ≡ modes.Pending (calls.Hclose number) → has_waiter w y ≡ true → not (died_as number y) ≡ true → not (owns w.scopes who y.bundle) ≡ true

@@ -33,7 +33,7 @@ use Rattle.laws_sound.specs.Linkless.{may_wait, waits_linkless, IsLinkless}
 use Rattle.laws_queue.specs.Kept.{has_answer}
 use Rattle.laws_queue.specs.Well.{Numbered, bit, occurs}
 use Rattle.laws_sound.proofs.Lists.{all_found, all_follow}
-use Rattle.laws_queue.proofs.Lists.{found_passes}
+use Rattle.laws_queue.proofs.Numbers.{found_number}
 use Rattle.dill_calls.specs.CallTable.{word_of, blocks}
 use Rattle.laws_sound.specs.Laws.{is_closing, is_resting, waits_long, WaitsLong, IsAtRest, HasGoing, GoesOn, RootGoesOn, BundleGoesOn}
 use Rattle.laws_sound.specs.Order.{is_there, has_bundle, has_closing, closes, FitsTogether, IsInOrder}
@@ -113,7 +113,7 @@ not_not : (b : Bool) → not b ≡ false → b ≡ true
 not_not true e = refl
 not_not false e = cc
 
-none_when : (b : Bool) (answer : Answer) → when b answer ≡ None → b ≡ false
+pub none_when : (b : Bool) (answer : Answer) → when b answer ≡ None → b ≡ false
 none_when true answer e = cc
 none_when false answer e = refl
 
@@ -122,7 +122,7 @@ or_none None p e = (refl, e)
 or_none (Some a) p e = cc
 
 module _ {V : Type 0} where
-  none_passes : (test : Coroutine V → Bool) (pick : Coroutine V → Bool) (cs : List (Coroutine V)) (c : Coroutine V) → find test cs ≡ None → find pick cs ≡ Some c → test c ≡ false
+  pub none_passes : (test : Coroutine V → Bool) (pick : Coroutine V → Bool) (cs : List (Coroutine V)) (c : Coroutine V) → find test cs ≡ None → find pick cs ≡ Some c → test c ≡ false
   none_passes test pick [] c e f = cc
   none_passes test pick (x ∷ cs) c e f = at (test x) (pick x) refl e f (none_passes test pick cs c)
     where
@@ -131,7 +131,7 @@ module _ {V : Type 0} where
       at false true g h i rest = let it : x ≡ c = cc in ap test (sym it) ∙ g
       at false false g h i rest = rest h i
 
-  none_given : {A : Type 0} (f : Coroutine V → Option A) (pick : Coroutine V → Bool) (cs : List (Coroutine V)) (c : Coroutine V) → first_some f cs ≡ None → find pick cs ≡ Some c → f c ≡ None
+  pub none_given : {A : Type 0} (f : Coroutine V → Option A) (pick : Coroutine V → Bool) (cs : List (Coroutine V)) (c : Coroutine V) → first_some f cs ≡ None → find pick cs ≡ Some c → f c ≡ None
   none_given f pick [] c e g = cc
   none_given f pick (x ∷ cs) c e g = at (pick x) g (or_none (f x) (first_some f cs) e) (none_given f pick cs c)
     where
@@ -148,9 +148,6 @@ module _ {V : Type 0} where
 
   pub found_there : (w : World V) (who : ℕ) (c : Coroutine V) → coroutine_of w who ≡ Some c → is_there w who ≡ true
   found_there w who c e = ap is_some e
-
-  pub its_number : (w : World V) (who : ℕ) (c : Coroutine V) → coroutine_of w who ≡ Some c → c.number ≡ who
-  its_number w who c e = number_is c.number who (found_passes (is_coroutine who) w.coroutines c e)
 
   -- somebody lives there
   record Resident (w : World V) (name : ℕ) : Type 0 where
@@ -172,10 +169,10 @@ module _ {V : Type 0} where
       }
 
   -- somebody lives in a bundle of this coroutine
-  record Deeper (w : World V) (who : ℕ) : Type 0 where
-    name : ℕ
-    owned : owner_of w.scopes name ≡ Some who
-    lived : is_empty w.scopes name ≡ false
+  pub record Deeper (w : World V) (who : ℕ) : Type 0 where
+    pub name : ℕ
+    pub owned : owner_of w.scopes name ≡ Some who
+    pub lived : is_empty w.scopes name ≡ false
 
   no_answer : (w : World V) (who : ℕ) (c : Coroutine V) (call : Call) → IsSettled w → coroutine_of w who ≡ Some c → c.mode ≡ modes.Pending call → answer_of w c.number call ≡ None
   no_answer w who c call settled e f = at (answer_of w c.number call) (ap (λ m. if_some (pending_call m) None (λ d. if_some (answer_of w c.number d) None (λ a. Some (c.number, d, a)))) (sym f) ∙ none_given (answer_due w) (is_coroutine who) w.coroutines c settled.answers e)
@@ -213,7 +210,7 @@ lived_in s who (x ∷ bs) e = at (has_owner who x) (is_empty s x.name) refl refl
     at false u f g h rest = rest h
 
 module _ {V : Type 0} where
-  ending_deeper : (w : World V) (who : ℕ) → FitsTogether w → is_clear w who ≡ false → Deeper w who
+  pub ending_deeper : (w : World V) (who : ℕ) → FitsTogether w → is_clear w who ≡ false → Deeper w who
   unfolding has_owner
   ending_deeper w who fits e =
       let any = lived_in w.scopes who w.scopes.bundles e in
@@ -240,16 +237,16 @@ module _ {V : Type 0} where
   stands w who c (modes.Answered word answer) h e f g = inl refl
   stands w who c (modes.Ending outcome) h e f g =
       let n : can_finish w c ≡ false = none_passes (can_finish w) (is_coroutine who) w.coroutines c h.settled.endings e in
-      inr (ending_deeper w who h.order.fits (ap (is_clear w) (sym (its_number w who c e)) ∙ ap (λ m. is_ending m && is_clear w c.number) (sym g) ∙ n))
+      inr (ending_deeper w who h.order.fits (ap (is_clear w) (sym (found_number who w.coroutines c e)) ∙ ap (λ m. is_ending m && is_clear w c.number) (sym g) ∙ n))
   stands w who c (modes.Pending call) h e f g = inr (pending call g (ap waits_long (sym g) ∙ all_found (λ d. waits_long d.mode) (is_coroutine who) w.coroutines c h.long e))
     where
       none : (call : Call) → c.mode ≡ modes.Pending call → answer_of w who call ≡ None
-      none call i = ap (λ n. answer_of w n call) (sym (its_number w who c e)) ∙ no_answer w who c call h.settled e i
+      none call i = ap (λ n. answer_of w n call) (sym (found_number who w.coroutines c e)) ∙ no_answer w who c call h.settled e i
 
       pending : (call : Call) → c.mode ≡ modes.Pending call → waits_long (modes.Pending call) ≡ true → Deeper w who
       pending (calls.Hclose number) i j =
           let held : if_some (find (is_dead_as number) w.closings) false (λ x. has_bundle w c.number x.bundle) ≡ true = ap (λ m. if_some (closes m) true (λ n. if_some (find (is_dead_as n) w.closings) false (λ x. has_bundle w c.number x.bundle))) (sym i) ∙ all_found (has_closing w) (is_coroutine who) w.coroutines c h.order.waiters e in
-          closes_deeper w who number (ap (λ n. if_some (find (is_dead_as number) w.closings) false (λ x. has_bundle w n x.bundle)) (sym (its_number w who c e)) ∙ held) (none (calls.Hclose number) i)
+          closes_deeper w who number (ap (λ n. if_some (find (is_dead_as number) w.closings) false (λ x. has_bundle w n x.bundle)) (sym (found_number who w.coroutines c e)) ∙ held) (none (calls.Hclose number) i)
       pending call i j = absurd (not_cancelled w who call (none call i) f (or_last (blocks (word_of call)) j))
   stands w who c modes.Running h e f g = let r : is_resting c.mode ≡ true = all_found (λ d. is_resting d.mode) (is_coroutine who) w.coroutines c h.rest e in cc
   stands w who c (modes.Fresh word answer) h e f g = let r : is_resting c.mode ≡ true = all_found (λ d. is_resting d.mode) (is_coroutine who) w.coroutines c h.rest e in cc

@@ -1,17 +1,15 @@
 -- What keeps a world without links.
-use Rattle.std.proofs.Common.{◌≡◌, ◌∙◌, ◌+◌, ℕ, List, [], ◌∷◌, fold, true, Option, Some, None, refl}
+use Rattle.std.proofs.Common.{◌≡◌, ◌∙◌, ◌+◌, ℕ, List, [], ◌∷◌, true, refl}
 use Rattle.std.proofs.lemmas.Bool.{and_from}
 use Rattle.std.specs.List.{list_all}
 use Rattle.dill_calls.specs.declared.answer.Answer.{Answer}
 use Rattle.dill_calls.specs.declared.answer.Answer.TheVariants.{Number}
 use Rattle.dill_calls.specs.declared.call.Call.{Call}
 use Rattle.dill_calls.specs.declared.ran.Note.{Note}
-use Rattle.dill_calls.specs.declared.ran.Note.TheVariants.{Moved, Freed}
 use Rattle.dill_calls.specs.declared.word.Word.{Word}
 use Rattle.dill_calls.specs.declared.word.Word.TheVariants as words
 use Rattle.dill_handles.specs.Handles as handles
-use Rattle.dill_handles.specs.declared.entry.Entry.{Entry}
-use Rattle.dill_base.specs.Maps.{if_some, change, without}
+use Rattle.dill_base.specs.Maps.{if_some, change}
 use Rattle.dill_rules.specs.declared.coroutine.Closing.{Closing}
 use Rattle.dill_rules.specs.declared.coroutine.Coroutine.{Coroutine}
 use Rattle.dill_rules.specs.declared.coroutine.Mode.{Mode}
@@ -19,10 +17,10 @@ use Rattle.dill_rules.specs.declared.coroutine.Mode.TheVariants as modes
 use Rattle.dill_rules.specs.declared.thing.Thing.{Thing}
 use Rattle.dill_rules.specs.declared.thing.Thing.TheVariants as things
 use Rattle.dill_rules.specs.World.{World, is_coroutine, set_mode, with_mode, reply, pend, note, begin, pending_call}
-use Rattle.dill_rules.specs.Owning.{entry_of, take_thing, move, drop, release, close_bundle, free_bundle}
-use Rattle.dill_rules.specs.Effects.{make, add_bundle, bear, give_all}
+use Rattle.dill_rules.specs.Owning.{close_bundle, free_bundle}
+use Rattle.dill_rules.specs.Effects.{make, add_bundle, bear}
 use Rattle.laws_sound.specs.Linkless.{may_wait, waits_linkless, is_linkless_thing, is_linkless_entry, IsLinkless}
-use Rattle.laws_sound.proofs.Lists.{all_append, all_without, all_change, all_found}
+use Rattle.laws_sound.proofs.Lists.{all_append, all_without, all_change}
 
 module _ {V : Type 0} where
   -- a step that touches no links

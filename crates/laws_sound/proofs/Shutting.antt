@@ -28,7 +28,8 @@ use Rattle.laws_sound.specs.Orderly.{weigh}
 use Rattle.laws_sound.proofs.Counting.{weightless, weightless_none, weighs_found, found_push, pushed_found, found_without, none_left, small_bit, all_push, filter_first, filter_none, filter_both}
 use Rattle.laws_sound.proofs.Crews.{change_here}
 use Rattle.laws_sound.proofs.Fitting.{names_it, closes_it, has_number, died_as, used_is, named, named_is, fits_anyway}
-use Rattle.laws_sound.proofs.Going.{its_number, found_there}
+use Rattle.laws_sound.proofs.Going.{found_there}
+use Rattle.laws_queue.proofs.Numbers.{found_number as number_found}
 use Rattle.laws_sound.proofs.Handing.{equal, unequal, same_number, tell, live}
 use Rattle.laws_sound.proofs.Moving.{fits_shut, fits_freed}
 use Rattle.laws_sound.proofs.Nearly.{is_free, mine_or, Nearly, nearly, near_set, settle_in}
@@ -133,7 +134,7 @@ module _ {V : Type 0} where
       let dead : Closing = record { bundle = name; number = number } in
       let l = live w number name x o.fits f t in
       let here : coroutine_of v who ≡ Some (with_mode mode c) = change_here (with_mode mode) (λ d. refl) who w.coroutines c e in
-      let mine : owner_of s name ≡ Some c.number = shut_here w.scopes name who x.owner l.owned ∙ ap (λ n. Some n) (sym (its_number w who c e)) in
+      let mine : owner_of s name ≡ Some c.number = shut_here w.scopes name who x.owner l.owned ∙ ap (λ n. Some n) (sym (number_found who w.coroutines c e)) in
       settle_in v who (with_mode mode c) (near_set shut who mode (near_shut w who number name x (nearly w who o) f t (found_there w who c e) out)) here
       (all_push (λ y. not (owns s who y.bundle) || waits_for y.number mode) w.closings dead
       (all_from (λ y. not (closes_it name y)) (λ y. not (owns w.scopes who y.bundle)) (λ y. not (owns s who y.bundle) || waits_for y.number mode) w.closings

@@ -76,7 +76,8 @@ home_known s who e = at (find (is_home who) s.homes) refl e
     at None f g = cc
     at (Some x) f g = (x.bundle, ap (option_map (λ y. y.bundle)) f)
 
-closing_found : (s : Scopes) (name : ℕ) → is_closing s name ≡ true → (x : Bundle) × (find (is_bundle name) s.bundles ≡ Some x) × (x.closing ≡ true)
+-- a bundle that is closing is there
+pub closing_found : (s : Scopes) (name : ℕ) → is_closing s name ≡ true → (x : Bundle) × (find (is_bundle name) s.bundles ≡ Some x) × (x.closing ≡ true)
 closing_found s name e = at (find (is_bundle name) s.bundles) refl e
   where
     at : (o : Option Bundle) → find (is_bundle name) s.bundles ≡ o → if_some o false (λ x. x.closing) ≡ true → (x : Bundle) × (find (is_bundle name) s.bundles ≡ Some x) × (x.closing ≡ true)

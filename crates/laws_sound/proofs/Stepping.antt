@@ -83,7 +83,7 @@ opening_free false x e = omega arith
 module _ {V : Type 0} where
   -- ---- deadlines
 
-  calls_lined : (cs : List (Coroutine V)) (n : ℕ) → if_some (find (is_coroutine n) (map lined cs)) None (λ c. pending_call c.mode) ≡ if_some (find (is_coroutine n) cs) None (λ c. pending_call c.mode)
+  pub calls_lined : (cs : List (Coroutine V)) (n : ℕ) → if_some (find (is_coroutine n) (map lined cs)) None (λ c. pending_call c.mode) ≡ if_some (find (is_coroutine n) cs) None (λ c. pending_call c.mode)
   calls_lined [] n = refl
   calls_lined (c ∷ cs) n = at (is_coroutine n c) (calls_lined cs n)
     where
