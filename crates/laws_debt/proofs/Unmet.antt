@@ -13,6 +13,8 @@ use Rattle.dill_rules.specs.Answers.{answer_of}
 use Rattle.dill_rules.specs.Settling.{answer_due, IsSettled}
 use Rattle.dill_rules.specs.Taking.{is_cancelled}
 use Rattle.dill_rules.specs.World.{World, is_coroutine, coroutine_of, call_of, pending_call}
+use Rattle.laws_queue.proofs.Numbers.{found_number}
+use Rattle.laws_sound.proofs.Going.{no_answer, pending_in}
 use Rattle.laws_sound.specs.Linkless.{may_wait}
 use Rattle.laws_queue.proofs.Lists.{all_found, found_passes, number_of}
 use Rattle.laws_debt.proofs.Walking.{AllSit, PendsIn, call_pends, pending_waits}
@@ -22,27 +24,9 @@ cancels_some true x rest e f = let it : ◌≡◌ {A = Option Answer} (Some x) N
 cancels_some false x rest e f = cc
 
 module _ {V : Type 0} where
-  first_none : (w : World V) (cs : List (Coroutine V)) → first_some (answer_due w) cs ≡ None → AllByRecursion (λ c. answer_due w c ≡ None) cs
-  first_none w [] e = tt
-  first_none w (c ∷ cs) e = at (answer_due w c) refl e (first_none w cs)
-    where
-      at : (o : Option (ℕ × Call × Answer)) → answer_due w c ≡ o → option_or o (first_some (answer_due w) cs) ≡ None → (first_some (answer_due w) cs ≡ None → AllByRecursion (λ d. answer_due w d ≡ None) cs) → (answer_due w c ≡ None) × AllByRecursion (λ d. answer_due w d ≡ None) cs
-      at None i f rest = (i, rest f)
-      at (Some x) i f rest = cc
-
-  due_none : (w : World V) (c : Coroutine V) (call : Call) → pending_call c.mode ≡ Some call → answer_due w c ≡ None → answer_of w c.number call ≡ None
-  due_none w c call e f = at (answer_of w c.number call) refl (sym (ap (λ o. if_some o None (λ d. if_some (answer_of w c.number d) None (λ a. Some (c.number, d, a)))) e) ∙ f)
-    where
-      at : (o : Option Answer) → answer_of w c.number call ≡ o → ◌≡◌ {A = Option (ℕ × Call × Answer)} (if_some o None (λ a. Some (c.number, call, a))) None → answer_of w c.number call ≡ None
-      at None i g = i
-      at (Some a) i g = cc
-
   -- nothing is due of who is pending
   pub unanswered : (w : World V) (n : ℕ) (call : Call) → IsSettled w → PendsIn w n call → answer_of w n call ≡ None
-  unanswered w n call settled d =
-      let none = all_found (λ x. answer_due w x ≡ None) (is_coroutine n) d.one w.coroutines d.found (first_none w w.coroutines settled.answers) in
-      let number : d.one.number ≡ n = number_of d.one.number n (found_passes (is_coroutine n) w.coroutines d.one d.found) in
-      subst (λ m. answer_of w m call ≡ None) number (due_none w d.one call d.pends none)
+  unanswered w n call settled d = ap (λ m. answer_of w m call) (sym (found_number n w.coroutines d.one d.found)) ∙ no_answer w n d.one call settled d.found (pending_in d.one.mode call d.pends)
 
   lowers_unmet : (w : World V) (n : ℕ) (call : Call) (answer : Answer) → may_wait call ≡ true → is_cancelled w n ≡ true → answer_of w n call ≡ None → Lowers (word_of call) answer
   lowers_unmet w n (calls.Msleep deadline) answer m c e = absurd (cancels_some (is_cancelled w n) _ _ c e)

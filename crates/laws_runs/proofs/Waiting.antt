@@ -24,7 +24,7 @@ use Rattle.dill_rules.specs.World.{World, call_of, coroutine_of, is_coroutine, i
 use Rattle.laws_queue.specs.Lending.{wordless}
 use Rattle.laws_sound.proofs.Lists.{all_found}
 use Rattle.laws_sound.specs.Order.{closes, has_bundle, has_closing, IsInOrder}
-use Rattle.laws_sound.proofs.Going.{or_none, none_when, none_passes, none_given, ending_deeper}
+use Rattle.laws_sound.proofs.Going.{or_none, none_when, none_passes, ending_deeper, no_answer, pending_in}
 use Rattle.laws_queue.proofs.Numbers.{found_number}
 use Rattle.laws_sound.proofs.Sound.{owner_is}
 use Rattle.laws_debt.proofs.Tracking.{all_by_key}
@@ -44,18 +44,7 @@ module _ {V : Type 0} (w : World V) (order : IsInOrder w) (settled : IsSettled w
 
   -- nothing is answered
   none_answered : (who : ℕ) (c : Coroutine V) (call : Call) → coroutine_of w who ≡ Some c → c.mode ≡ modes.Pending call → answer_of w who call ≡ None
-  none_answered who c call e f = ap (λ n. answer_of w n call) (sym (found_number who w.coroutines c e)) ∙ at (answer_of w c.number call) (ap (λ m. if_some (pending_call m) None (λ d. if_some (answer_of w c.number d) None (λ a. Some (c.number, d, a)))) (sym f) ∙ none_given (answer_due w) (is_coroutine who) w.coroutines c settled.answers e)
-    where
-      at : (o : Option Answer) → ◌≡◌ {A = Option (ℕ × Call × Answer)} (if_some o None (λ a. Some (c.number, call, a))) None → o ≡ None
-      at None g = refl
-      at (Some a) g = cc
-
-  pending_in : (mode : Mode) (call : Call) → pending_call mode ≡ Some call → mode ≡ modes.Pending call
-  pending_in (modes.Pending other) call e = let it : other ≡ call = cc in ap (λ x. modes.Pending x) it
-  pending_in modes.Running call e = cc
-  pending_in (modes.Fresh word answer) call e = cc
-  pending_in (modes.Answered word answer) call e = cc
-  pending_in (modes.Ending outcome) call e = cc
+  none_answered who c call e f = ap (λ n. answer_of w n call) (sym (found_number who w.coroutines c e)) ∙ no_answer w who c call settled e f
 
   record Pends (who : ℕ) (call : Call) : Type 0 where
     one : Coroutine V

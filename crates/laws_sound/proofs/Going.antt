@@ -121,6 +121,13 @@ pub or_none : {A : Type 0} (o p : Option A) → option_or o p ≡ None → (o �
 or_none None p e = (refl, e)
 or_none (Some a) p e = cc
 
+pub pending_in : (mode : Mode) (call : Call) → pending_call mode ≡ Some call → mode ≡ modes.Pending call
+pending_in (modes.Pending other) call e = let it : other ≡ call = cc in ap (λ x. modes.Pending x) it
+pending_in modes.Running call e = cc
+pending_in (modes.Fresh word answer) call e = cc
+pending_in (modes.Answered word answer) call e = cc
+pending_in (modes.Ending outcome) call e = cc
+
 module _ {V : Type 0} where
   pub none_passes : (test : Coroutine V → Bool) (pick : Coroutine V → Bool) (cs : List (Coroutine V)) (c : Coroutine V) → find test cs ≡ None → find pick cs ≡ Some c → test c ≡ false
   none_passes test pick [] c e f = cc
@@ -174,7 +181,7 @@ module _ {V : Type 0} where
     pub owned : owner_of w.scopes name ≡ Some who
     pub lived : is_empty w.scopes name ≡ false
 
-  no_answer : (w : World V) (who : ℕ) (c : Coroutine V) (call : Call) → IsSettled w → coroutine_of w who ≡ Some c → c.mode ≡ modes.Pending call → answer_of w c.number call ≡ None
+  pub no_answer : (w : World V) (who : ℕ) (c : Coroutine V) (call : Call) → IsSettled w → coroutine_of w who ≡ Some c → c.mode ≡ modes.Pending call → answer_of w c.number call ≡ None
   no_answer w who c call settled e f = at (answer_of w c.number call) (ap (λ m. if_some (pending_call m) None (λ d. if_some (answer_of w c.number d) None (λ a. Some (c.number, d, a)))) (sym f) ∙ none_given (answer_due w) (is_coroutine who) w.coroutines c settled.answers e)
     where
       at : (o : Option Answer) → ◌≡◌ {A = Option (ℕ × Call × Answer)} (if_some o None (λ a. Some (c.number, call, a))) None → o ≡ None
