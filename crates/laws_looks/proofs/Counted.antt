@@ -40,13 +40,13 @@ use Rattle.laws_queue.proofs.Acting.{give_gives}
 use Rattle.laws_queue.proofs.Crew.{SameCrew, bare_crew}
 use Rattle.laws_queue.proofs.Besides.{pass_all_besides}
 use Rattle.laws_queue.proofs.Numbers.{numbered_change, numbered_without}
-use Rattle.laws_queue.proofs.Stepping.{due_first, by_number, passes}
+use Rattle.laws_queue.proofs.Stepping.{due_first, by_number}
 use Rattle.laws_sound.specs.Orderly.{weigh}
 use Rattle.laws_sound.proofs.Counting.{weigh_found, weigh_change, none_weightless, small_bit}
 use Rattle.laws_sound.proofs.Crews.{change_here, change_other, other_without}
 use Rattle.laws_looks.specs.Readers.{Rising, LooksApart}
 use Rattle.laws_looks.specs.Kept.{connects_for, is_connect, connects, awaits, KeepsLinks}
-use Rattle.laws_looks.proofs.Lists.{itself, equal_is, unequal_is, less_unequal, more_unequal, true_false}
+use Rattle.laws_looks.proofs.Lists.{itself, equal_is, unequal_is, less_unequal, more_unequal, true_false, find_passes}
 use Rattle.laws_looks.proofs.Stays.{is_open, Soft, on_named_stays, look_stays, pass_all_stays}
 use Rattle.laws_looks.proofs.Fewer.{links_to, weigh_linked, fewer_release, fewer_give, fewer_finish, fewer_apart, fewer_parts, fewer_same, fewer_each, fewer_looked}
 
@@ -443,7 +443,7 @@ module _ {V : Type 0} where
       found = by_number 0 w.last_coroutine (can_finish w) w.coroutines c e l.numbered
 
       idle : is_making c.mode ≡ false
-      idle = ending_idle c.mode (is_clear w c.number) (passes (can_finish w) w.coroutines c e)
+      idle = ending_idle c.mode (is_clear w c.number) (find_passes (can_finish w) w.coroutines c e)
 
       even : Even w.links (finish w c).links
       even =

@@ -13,3 +13,4 @@ pub mod Counted
 pub mod Asked
 pub mod Counting
 pub mod Linking
+pub mod Shorts

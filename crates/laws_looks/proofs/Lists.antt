@@ -164,3 +164,11 @@ in_picked f (x ∷ xs) y i = at (f x) refl (subst (In y) (picked f x xs) i) (in_
     at None e j rest = let r = rest j in (r.0, inr r.1, r.2)
     at (Some z) e (inl same) rest = (x, inl refl, e ∙ ap Some (sym same))
     at (Some z) e (inr j) rest = let r = rest j in (r.0, inr r.1, r.2)
+
+pub find_passes : {X : Type 0} (test : X → Bool) (xs : List X) (x : X) → find test xs ≡ Some x → test x ≡ true
+find_passes test [] x e = cc
+find_passes test (y ∷ ys) x e = at (test y) refl e (find_passes test ys x)
+  where
+    at : (b : Bool) → test y ≡ b → cond b (Some y) (find test ys) ≡ Some x → (find test ys ≡ Some x → test x ≡ true) → test x ≡ true
+    at true f g rest = let it : y ≡ x = cc in ap test (sym it) ∙ f
+    at false f g rest = rest g

@@ -1,9 +1,13 @@
 ghost use Rattle.laws_looks.specs.Calm.{DrawsNothing, KeepsCalm};
 ghost use Rattle.laws_looks.specs.Kept.{CountsLinks};
 ghost use Rattle.laws_looks.specs.Readers.{KeepsApart, LooksSettle};
+ghost use Rattle.laws_looks.specs.Short.{NeedsAreShort};
 
 use dill_calls::Body;
+use dill_frames::{prefix_laws, suffix_laws};
+use dill_http::http_laws;
 use dill_stack::again_laws;
+use dill_ws::handshake_laws;
 
 /// Where nothing is due and one pending call at most looks at each stack, nothing is due behind these looks either, and a
 /// second round of looks changes nothing.
@@ -38,3 +42,13 @@ pub fn steps_keep_calm<B: Body>()
 pub fn steps_count_links<B: Body>()
     ensures { CountsLinks B.means }
 {}
+
+/// Where no look finds anything, fewer bytes are unread on a stack than the call needs that is pending on it.
+pub fn needs_are_short<B: Body>()
+    ensures { NeedsAreShort B }
+{
+    prefix_laws();
+    suffix_laws();
+    http_laws();
+    handshake_laws();
+}
