@@ -38,8 +38,8 @@ use Rattle.laws_queue.proofs.Numbers.{numbered_change}
 use Rattle.laws_sound.specs.Orderly.{weigh}
 use Rattle.laws_sound.proofs.Counting.{weigh_found, weigh_change, weigh_push, small_bit}
 use Rattle.laws_looks.specs.Readers.{In, Rising}
-use Rattle.laws_looks.specs.Kept.{connects_for, is_connect, awaits, KeepsLinks}
-use Rattle.laws_looks.specs.Kept as waiting
+use Rattle.laws_looks.specs.Keeping.{connects_for, is_connect, awaits, KeepsLinks}
+use Rattle.laws_looks.specs.Keeping as waiting
 use Rattle.laws_looks.proofs.Lists.{itself, less_unequal, in_append, in_filter, in_picked, in_map, find_in, first_in}
 use Rattle.laws_looks.proofs.Stays.{soft_change}
 use Rattle.laws_looks.proofs.Fewer.{fewer_same, fewer_apart}

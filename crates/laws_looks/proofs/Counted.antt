@@ -45,7 +45,7 @@ use Rattle.laws_sound.specs.Orderly.{weigh}
 use Rattle.laws_sound.proofs.Counting.{weigh_found, weigh_change, none_weightless, small_bit}
 use Rattle.laws_sound.proofs.Crews.{change_here, change_other, other_without}
 use Rattle.laws_looks.specs.Readers.{Rising, LooksApart}
-use Rattle.laws_looks.specs.Kept.{connects_for, is_connect, connects, awaits, KeepsLinks}
+use Rattle.laws_looks.specs.Keeping.{connects_for, is_connect, connects, awaits, KeepsLinks}
 use Rattle.laws_looks.proofs.Lists.{itself, equal_is, unequal_is, less_unequal, more_unequal, true_false, find_passes}
 use Rattle.laws_looks.proofs.Stays.{is_open, Soft, on_named_stays, look_stays, pass_all_stays}
 use Rattle.laws_looks.proofs.Fewer.{links_to, weigh_linked, fewer_release, fewer_give, fewer_finish, fewer_apart, fewer_parts, fewer_same, fewer_each, fewer_looked}

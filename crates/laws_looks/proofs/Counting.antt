@@ -56,7 +56,7 @@ use Rattle.laws_sound.proofs.Crews.{change_here, change_other}
 use Rattle.laws_sound.proofs.Performing.{first_meets}
 use Rattle.laws_sound.proofs.Making.{begins}
 use Rattle.laws_looks.specs.Readers.{LooksApart}
-use Rattle.laws_looks.specs.Kept.{connects_for, connects, awaits, KeepsLinks}
+use Rattle.laws_looks.specs.Keeping.{connects_for, connects, awaits, KeepsLinks}
 use Rattle.laws_looks.proofs.Lists.{some_same, true_false}
 use Rattle.laws_looks.proofs.Stays.{heat_stays, ask_stays, queue_stays, dropped_stays}
 use Rattle.laws_looks.proofs.Fewer.{fewer_same, fewer_besides, fewer_then, fewer_some, fewer_change, fewer_apart}

@@ -24,7 +24,7 @@ use Rattle.laws_sound.proofs.Calling.{turn_is}
 use Rattle.laws_sound.proofs.Counting.{weigh_alike}
 use Rattle.laws_sound.proofs.Crews.{map_at}
 use Rattle.laws_looks.specs.Readers.{LooksApart}
-use Rattle.laws_looks.specs.Kept.{connects_for, is_connect, connects, awaits, KeepsLinks, StepsCountLinks}
+use Rattle.laws_looks.specs.Keeping.{connects_for, is_connect, connects, awaits, KeepsLinks, StepsCountLinks}
 use Rattle.laws_looks.proofs.Stays.{Soft, heat_all_stays, soft_same}
 use Rattle.laws_looks.proofs.Fewer.{fewer_lined, fewer_apart}
 use Rattle.laws_looks.proofs.Counted.{Lasts, soft_lasts, settle_lasts, expire_lasts}

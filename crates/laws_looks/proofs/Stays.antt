@@ -29,7 +29,7 @@ use Rattle.dill_rules.specs.World.{World, pending_call}
 use Rattle.laws_queue.specs.Well.{bit}
 use Rattle.laws_sound.specs.Orderly.{weigh}
 use Rattle.laws_looks.specs.Readers.{Rising, may_name}
-use Rattle.laws_looks.specs.Kept.{connects_for}
+use Rattle.laws_looks.specs.Keeping.{connects_for}
 use Rattle.laws_queue.proofs.Numbers.{found_changed}
 use Rattle.laws_looks.proofs.Lists.{equal_is, less_unequal, itself, some_none}
 

@@ -1,5 +1,5 @@
 ghost use Rattle.laws_looks.specs.Calm.{DrawsNothing, KeepsCalm};
-ghost use Rattle.laws_looks.specs.Kept.{CountsLinks};
+ghost use Rattle.laws_looks.specs.Keeping.{CountsLinks};
 ghost use Rattle.laws_looks.specs.Readers.{KeepsApart, LooksSettle};
 ghost use Rattle.laws_looks.specs.Short.{NeedsAreShort};
 
