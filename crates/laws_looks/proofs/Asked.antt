@@ -36,9 +36,9 @@ use Rattle.laws_queue.specs.Well.{bit, is_at, Numbered}
 use Rattle.laws_queue.proofs.Acting.{Hears, nobody, one, heard_hears}
 use Rattle.laws_queue.proofs.Numbers.{numbered_change}
 use Rattle.laws_sound.specs.Orderly.{weigh}
-use Rattle.laws_sound.proofs.Counting.{weigh_found, weigh_change, weigh_push, small_bit}
+use Rattle.laws_sound.proofs.Counting.{weigh_found, weigh_change, weigh_push, none_weightless, small_bit}
 use Rattle.laws_looks.specs.Readers.{In, Rising}
-use Rattle.laws_looks.specs.Keeping.{connects_for, is_connect, awaits, KeepsLinks}
+use Rattle.laws_looks.specs.Keeping.{connects_for, is_connect, awaits, KeepsLinks, LinksAreKept}
 use Rattle.laws_looks.specs.Keeping as waiting
 use Rattle.laws_looks.proofs.Lists.{itself, less_unequal, in_append, in_filter, in_picked, in_map, find_in, first_in}
 use Rattle.laws_looks.proofs.Stays.{soft_change}
@@ -459,3 +459,22 @@ module _ {V : Type 0} where
         apart = heard_apart w x said l.apart;
         keeps = now_asked v x (fitting x.ask said) (find_in (is_next w) (tries_now w) x e) here;
       }
+
+  pub some_kept : (w : World V) (who : ℕ) (call : Call) → KeepsLinks w → call_of w who ≡ Some call → links (word_of call) ≡ true → (is_connect (word_of call) ≡ false) ⊎ (find (is_connecting_for who) w.links.all ≡ None) → 1 ≤ w.links.kept
+  some_kept w who call k e makes free = at (coroutine_of w who) refl e
+    where
+      none : (c : Coroutine V) → In_call w who c call → (is_connect (word_of call) ≡ false) ⊎ (find (is_connecting_for who) w.links.all ≡ None) → connects_for w.links who ≡ 0
+      none c h (inl plain) = without_link w who c call h plain k
+      none c h (inr free_of) = none_weightless (is_connecting_for who) w.links.all free_of
+
+      at : (o : Option (Coroutine V)) → coroutine_of w who ≡ o → if_some o None (λ c. pending_call c.mode) ≡ Some call → 1 ≤ w.links.kept
+      at None f g = cc
+      at (Some c) f g =
+          let h : In_call w who c call = record { found = f; mode = g } in
+          let a = one_kept w who c f k in
+          let b = waits_one w who c call h makes in
+          let d = none c h free in
+          omega (arith, a, b, d)
+
+pub links_are_kept : (V : Type 0) → LinksAreKept V
+links_are_kept V = some_kept

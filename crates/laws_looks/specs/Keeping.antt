@@ -1,16 +1,17 @@
 -- How many links are kept: one for each pending call that makes a link and has none yet.
-use Rattle.std.specs.Prelude.{◌≡◌, ℕ, ◌-◌, ◌≤◌, List, Bool, true, false, Option, if◌then◌else◌}
+use Rattle.std.specs.Prelude.{◌≡◌, ◌⊎◌, ℕ, ◌-◌, ◌≤◌, List, find, Bool, true, false, Option, Some, None, if◌then◌else◌}
 use Rattle.dill_base.specs.Maps.{if_some}
 use Rattle.dill_calls.specs.declared.ran.LackPlace.{LackPlace}
 use Rattle.dill_calls.specs.Program.{Program, IsLawful}
 use Rattle.dill_kernel.specs.declared.ready.Ready.{Ready}
+use Rattle.dill_calls.specs.declared.call.Call.{Call}
 use Rattle.dill_calls.specs.declared.word.Word.{Word}
 use Rattle.dill_calls.specs.declared.word.Word.TheVariants as words
 use Rattle.dill_calls.specs.CallTable.{word_of}
 use Rattle.dill_kernel.specs.declared.replies.KernelReply.{KernelReply}
 use Rattle.dill_rules.specs.declared.coroutine.Coroutine.{Coroutine}
 use Rattle.dill_rules.specs.declared.coroutine.Mode.{Mode}
-use Rattle.dill_rules.specs.World.{World, pending_call, begin}
+use Rattle.dill_rules.specs.World.{World, call_of, pending_call, begin}
 use Rattle.dill_rules.specs.Giving.{is_connecting_for}
 use Rattle.dill_rules.specs.Links.{Links}
 use Rattle.dill_rules.specs.Naming.{links}
@@ -40,6 +41,10 @@ awaits l c = if_some (pending_call c.mode) 0 (λ call. if links (word_of call) t
 pub record KeepsLinks {V : Type 0} (w : World V) : Type 0 where
   pub kept : weigh (awaits w.links) w.coroutines ≡ w.links.kept
   pub once : (who : ℕ) → connects_for w.links who ≤ bit (is_at connects w.coroutines who)
+
+-- So one is kept, as a link is made or given back, where somebody is pending in a listen or an accept, or in a connect without a link.
+abbrev pub LinksAreKept : (V : Type 0) → Type 0
+LinksAreKept V = (w : World V) (who : ℕ) (call : Call) → KeepsLinks w → call_of w who ≡ Some call → links (word_of call) ≡ true → (is_connect (word_of call) ≡ false) ⊎ (find (is_connecting_for who) w.links.all ≡ None) → 1 ≤ w.links.kept
 
 -- so it is between two steps of programs that keep their law, whatever they call and whatever the kernel replies
 pub record CountsLinks {V : Type 0} (p : Program V) : Type 0 where

@@ -1,5 +1,5 @@
 ghost use Rattle.laws_looks.specs.Calm.{DrawsNothing, KeepsCalm};
-ghost use Rattle.laws_looks.specs.Keeping.{CountsLinks};
+ghost use Rattle.laws_looks.specs.Keeping.{CountsLinks, LinksAreKept};
 ghost use Rattle.laws_looks.specs.Readers.{KeepsApart, LooksSettle};
 ghost use Rattle.laws_looks.specs.Short.{NeedsAreShort};
 
@@ -41,6 +41,11 @@ pub fn steps_keep_calm<B: Body>()
 /// of a pending connect, at most one for each.
 pub fn steps_count_links<B: Body>()
     ensures { CountsLinks B.means }
+{}
+
+/// So a link is kept for whoever is pending in a listen or an accept, or in a connect without a link.
+pub fn links_are_kept<B: Body>()
+    ensures { LinksAreKept B }
 {}
 
 /// Where no look finds anything, fewer bytes are unread on a stack than the call needs that is pending on it.

@@ -4,4 +4,7 @@
 
 mod laws;
 
-pub use laws::{draws_nothing, looks_settle, steps_count_links, steps_keep_apart, steps_keep_calm};
+pub use laws::{
+    draws_nothing, links_are_kept, looks_settle, steps_count_links, steps_keep_apart,
+    steps_keep_calm,
+};
