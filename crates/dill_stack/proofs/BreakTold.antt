@@ -50,11 +50,11 @@ no_utf8 : (m : List ℕ) → is_utf8 m ≡ false → IsUtf8 m → ⊥
 no_utf8 m e k = no_answer (sym e ∙ is_utf8-from_IsUtf8 m k)
 
 -- what is shown where nothing is passed, whether the list goes on or ended
-data Tells (limit : ℕ) (ws : WsLayer) (v : List ℕ) : Type 0 where
+pub data Tells (limit : ℕ) (ws : WsLayer) (v : List ℕ) : Type 0 where
   Gives : (m : List ℕ) → ((b : Bool) → (shown limit b ws v).said ≡ Given (Bytes m)) → Tells limit ws v
   Meets : ((b : Bool) → (shown limit b ws v).said ≡ Fault Epipe) → Tells limit ws v
   Breaks : (e : Errno) → (e ≡ Epipe → ⊥) → ((b : Bool) → (shown limit b ws v).said ≡ Fault e) → ((b : Bool) → (shown limit b ws v).used ≡ 0) → IsShown (FrameShows limit ws) v e → Tells limit ws v
-  Opens : ((b : Bool) → (shown limit b ws v).said ≡ (if b then at_end ws v else Need)) → Tells limit ws v
+  Opens : ((b : Bool) → (shown limit b ws v).said ≡ (if b then at_end ws v else Need)) → ((b : Bool) → (shown limit b ws v).ws ≡ ws) → Tells limit ws v
 
 shown_is : (limit : ℕ) (b : Bool) (ws : WsLayer) (v : List ℕ) (f : WsFront) → ws_front limit ws v ≡ f → shown limit b ws v ≡ shown_by b ws v f
 unfolding shown
@@ -80,7 +80,7 @@ tells : (laws : FrameLaws) (limit : ℕ) (ws : WsLayer) (v : List ℕ) → AreBy
 tells laws limit ws v b stops = by (ws_front limit ws v) refl
   where
     by : (f : WsFront) → ws_front limit ws v ≡ f → Tells limit ws v
-    by Short f = Opens (λ x. ap (λ (s : Shown). s.said) (shown_is limit x ws v Short f))
+    by Short f = Opens (λ x. ap (λ (s : Shown). s.said) (shown_is limit x ws v Short f)) (λ x. ap (λ (s : Shown). s.ws) (shown_is limit x ws v Short f))
     by (Refused e) f = Breaks e (front_refused limit ws v e f) (λ x. ap (λ (s : Shown). s.said) (shown_is limit x ws v (Refused e) f)) (λ x. ap (λ (s : Shown). s.used) (shown_is limit x ws v (Refused e) f)) (front_shown laws limit ws v e b f)
     by (Whole last used) f = at (last.opcode == 8) (is_some (close_of last.payload)) (text_bad ws last) refl refl refl
       where
@@ -123,14 +123,14 @@ tells laws limit ws v b stops = by (ws_front limit ws v) refl
 -- ---- what is read
 
 -- what is read where no close frame was met
-read_unmet : (limit : ℕ) (below : List Placed) (ws : WsLayer) (u : List ℕ) (ended : Bool) → ws.met ≡ false → read_ws below ws u ended limit ≡ behind_passed below (passed limit ws u) (shown limit ended (passed limit ws u).ws (drop (passed limit ws u).used u))
+pub read_unmet : (limit : ℕ) (below : List Placed) (ws : WsLayer) (u : List ℕ) (ended : Bool) → ws.met ≡ false → read_ws below ws u ended limit ≡ behind_passed below (passed limit ws u) (shown limit ended (passed limit ws u).ws (drop (passed limit ws u).used u))
 read_unmet limit below ws u ended met = ap (λ b. if b then outcome 0 (Ws ws ∷ below) (Fault Epipe) else behind_passed below (passed limit ws u) (shown limit ended (passed limit ws u).ws (drop (passed limit ws u).used u))) met
 
 -- its answer
-said_unmet : (limit : ℕ) (below : List Placed) (ws : WsLayer) (u : List ℕ) (ended : Bool) (said : ReadOut) → ws.met ≡ false → (shown limit ended (passed limit ws u).ws (drop (passed limit ws u).used u)).said ≡ said → (read_ws below ws u ended limit).said ≡ said
+pub said_unmet : (limit : ℕ) (below : List Placed) (ws : WsLayer) (u : List ℕ) (ended : Bool) (said : ReadOut) → ws.met ≡ false → (shown limit ended (passed limit ws u).ws (drop (passed limit ws u).used u)).said ≡ said → (read_ws below ws u ended limit).said ≡ said
 said_unmet limit below ws u ended said met e = ap (λ (o : Outcome). o.said) (read_unmet limit below ws u ended met) ∙ e
 
-break_stands : (limit : ℕ) (ws : WsLayer) (u : List ℕ) (e : Errno) (p : Passed) → IsPassed limit ws u p → IsShown (FrameShows limit p.ws) (drop p.used u) e → BreakStands limit ws u p.used e
+pub break_stands : (limit : ℕ) (ws : WsLayer) (u : List ℕ) (e : Errno) (p : Passed) → IsPassed limit ws u p → IsShown (FrameShows limit p.ws) (drop p.used u) e → BreakStands limit ws u p.used e
 break_stands limit ws u e p i k = record { before = i.parts; there = i.there; frames = i.frames; follows = i.follows; passing = i.passing; within = i.within; shown = subst (λ (x : WsLayer). IsShown (FrameShows limit x) (drop p.used u) e) i.layer k }
 
 need_bytes : {A : Type 0} (m : List ℕ) → Given (Bytes m) ≡ Need → A
@@ -155,7 +155,7 @@ same_fault : (x e : Errno) → Fault x ≡ Fault e → x ≡ e
 same_fault x e q = cc
 
 -- where more is awaited nothing whole stands there
-nothing_joined : (laws : FrameLaws) (stays : FrontStays) (limit : ℕ) (past : List Part) (below : List Placed) (ws : WsLayer) (u : List ℕ) → AreBytes u → HasPassed past ws → ws.met ≡ false → (read_ws below ws u false limit).said ≡ Need → NothingJoined past limit ws u
+pub nothing_joined : (laws : FrameLaws) (stays : FrontStays) (limit : ℕ) (past : List Part) (below : List Placed) (ws : WsLayer) (u : List ℕ) → AreBytes u → HasPassed past ws → ws.met ≡ false → (read_ws below ws u false limit).said ≡ Need → NothingJoined past limit ws u
 nothing_joined laws stays limit past below ws u b h met n =
     record {
       unjoined = λ k m s. need_bytes m (ap (λ (o : Outcome). o.said) (sym (joined_gives laws limit past below ws u m k false h met s)) ∙ n);
@@ -163,14 +163,14 @@ nothing_joined laws stays limit past below ws u b h met n =
       unshown = λ k e s. need_fault e (ap (λ (o : Outcome). o.said) (sym (break_read laws stays limit below ws u k e false b met s)) ∙ n);
     }
 
-at_end_fault : (ws : WsLayer) (v : List ℕ) → (at_end ws v ≡ Fault Epipe) ⊎ (at_end ws v ≡ Fault Eproto)
+pub at_end_fault : (ws : WsLayer) (v : List ℕ) → (at_end ws v ≡ Fault Epipe) ⊎ (at_end ws v ≡ Fault Eproto)
 at_end_fault ws v = by (length v == 0 && is_none ws.joining)
   where
     by : (b : Bool) → ((if b then Fault Epipe else Fault Eproto) ≡ Fault Epipe) ⊎ ((if b then Fault Epipe else Fault Eproto) ≡ Fault Eproto)
     by true = inl refl
     by false = inr refl
 
-tells_here : (laws : FrameLaws) (limit : ℕ) (ws : WsLayer) (u : List ℕ) → AreBytes u → Tells limit (passed limit ws u).ws (drop (passed limit ws u).used u)
+pub tells_here : (laws : FrameLaws) (limit : ℕ) (ws : WsLayer) (u : List ℕ) → AreBytes u → Tells limit (passed limit ws u).ws (drop (passed limit ws u).used u)
 tells_here laws limit ws u b =
     let p : Passed = passed limit ws u in
     let i : IsPassed limit ws u p = passes_frames laws limit ws u b in
@@ -196,7 +196,7 @@ open_said laws limit past below ws u ended b h met n k = by (tells_here laws lim
     by (Gives m s) = absurd (n.unjoined (read_ws below ws u ended limit).used m (gives_joined laws limit past below ws u m ended b h (said_unmet limit below ws u ended (Given (Bytes m)) met (s ended))))
     by (Meets s) = absurd (no_end_there laws limit past below ws u ended b met n k (said_unmet limit below ws u ended (Fault Epipe) met (s ended)))
     by (Breaks e q s x w) = absurd (n.unshown p.used e (break_stands limit ws u e p (passes_frames laws limit ws u b) w))
-    by (Opens s) = said_unmet limit below ws u ended (if ended then at_end p.ws (drop p.used u) else Need) met (s ended) ∙ at ended refl
+    by (Opens s y) = said_unmet limit below ws u ended (if ended then at_end p.ws (drop p.used u) else Need) met (s ended) ∙ at ended refl
       where
         at : (c : Bool) → ended ≡ c → (if c then at_end p.ws (drop p.used u) else Need) ≡ (if c then Fault Eproto else Need)
         at false q = refl
@@ -235,7 +235,7 @@ needs_nothing laws stays limit past below ws u ended b h e = by ws.met refl
             told (Gives m s) = need_bytes m (here (Given (Bytes m)) (s ended))
             told (Meets s) = need_fault Epipe (here (Fault Epipe) (s ended))
             told (Breaks x y s z w) = need_fault x (here (Fault x) (s ended))
-            told (Opens s) = over (at_end_fault p.ws (drop p.used u)) (here (at_end p.ws (drop p.used u)) (s ended ∙ ap (λ c. if c then at_end p.ws (drop p.used u) else Need) q))
+            told (Opens s y) = over (at_end_fault p.ws (drop p.used u)) (here (at_end p.ws (drop p.used u)) (s ended ∙ ap (λ c. if c then at_end p.ws (drop p.used u) else Need) q))
 
         at : (c : Bool) → ended ≡ c → (ended ≡ false) × (ws.met ≡ false) × NothingJoined past limit ws u
         at c q =
@@ -279,7 +279,7 @@ broken_told laws stays limit past below ws u e ended b h q r = by ws.met refl
           where
             none : (n : ℕ) → n + 0 ≡ n
             none n = omega arith
-        told (Opens s) = inr (opened s ended refl)
+        told (Opens s y) = inr (opened s ended refl)
 
 pub breaking_laws : FrameLaws → FrontStays → BreakingLaws
 breaking_laws laws stays = record {

@@ -46,3 +46,4 @@ pub mod Cuttings
 pub mod DropCuts
 pub mod GreetCuts
 pub mod DropTold
+pub mod FrameDrops

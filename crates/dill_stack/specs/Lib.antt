@@ -21,6 +21,7 @@ pub mod Ending
 pub mod Breaking
 pub mod LineReading
 pub mod DropReading
+pub mod FrameDropping
 pub mod Interface
 pub mod RowTerms
 pub mod Rows

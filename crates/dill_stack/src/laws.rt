@@ -3,6 +3,7 @@ ghost use Rattle.dill_stack.specs.Breaking.{BreakingLaws};
 ghost use Rattle.dill_stack.specs.Cutting.{FinishesAlike, GreetsAlike, ReadsAlike};
 ghost use Rattle.dill_stack.specs.DropReading.{DropLaws};
 ghost use Rattle.dill_stack.specs.Ending.{EndingLaws};
+ghost use Rattle.dill_stack.specs.FrameDropping.{FrameDropLaws};
 ghost use Rattle.dill_stack.specs.Joining.{JoiningLaws};
 ghost use Rattle.dill_stack.specs.LineReading.{LineReadLaws};
 ghost use Rattle.dill_stack.specs.Messages.{MessageLaws};
@@ -104,6 +105,18 @@ pub fn drop_laws()
     suffix_laws();
     message_laws();
     http_laws();
+}
+
+/// A detach of a WebSocket layer drops the messages that stand one behind the other, and is answered by what stands behind
+/// them: exactly where that is the peer's close frame, it meets its end.
+pub fn frame_drop_laws()
+    ensures { FrameDropLaws }
+{
+    prefix_laws();
+    suffix_laws();
+    http_laws();
+    frame_laws();
+    front_laws();
 }
 
 /// What stands at the front for a WebSocket layer stays when more bytes come.
