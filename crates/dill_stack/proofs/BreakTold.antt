@@ -22,7 +22,7 @@ use Rattle.dill_stack.specs.Staying.{FrontStays}
 use Rattle.dill_stack.specs.Joining.{HasPassed}
 use Rattle.dill_stack.specs.Ending.{CloseStands, IsBetween}
 use Rattle.dill_stack.specs.Breaking.{IsBadClose, IsBadText, FrameShows, BreakStands, NothingJoined, BreakingLaws}
-use Rattle.dill_stack.proofs.Breakings.{break_read, front_shown}
+use Rattle.dill_stack.proofs.Breakings.{break_read, front_shown, break_least}
 use Rattle.dill_stack.proofs.EndReads.{close_some, close_read, over_read}
 use Rattle.dill_stack.proofs.EndTold.{end_told, front_refused}
 use Rattle.dill_stack.proofs.JoinedReads.{joined_gives}
@@ -283,6 +283,7 @@ broken_told laws stays limit past below ws u e ended b h q r = by ws.met refl
 
 pub breaking_laws : FrameLaws → FrontStays → BreakingLaws
 breaking_laws laws stays = record {
+  least = break_least laws stays;
   breaks = break_read laws stays;
   broken = broken_told laws stays;
   cuts = λ limit past below ws u b h met n k. open_said laws limit past below ws u true b h met n (λ q. k);

@@ -1,12 +1,12 @@
 -- Which bytes show a refusal of a WebSocket layer.
-use Rattle.std.proofs.Common.{◌≡◌, ◌⊎◌, inl, inr, ◌≤◌, ◌<◌, ◌+◌, ◌%◌, [], ◌∷◌, ◌++◌, List, ℕ, zero, suc, length, take, drop, slice_index, ltb, arith, sym, ap, ◌∙◌, refl, subst, Bool, true, false, not, ◌&&◌, le-ltb, lt-ltb, append-nil, length-append, Option, Some, None, if◌then◌else◌}
+use Rattle.std.proofs.Common.{◌≡◌, ◌⊎◌, inl, inr, ◌≤◌, ◌<◌, ◌+◌, ◌%◌, [], ◌∷◌, ◌++◌, List, ℕ, zero, suc, length, take, drop, slice_index, ltb, arith, sym, ap, ◌∙◌, refl, subst, Bool, true, false, not, ◌&&◌, le-ltb, lt-ltb, append-nil, append_assoc, length-append, Option, Some, None, if◌then◌else◌}
 use Rattle.std.specs.Prelude.{◌==◌, is_some, nat_lt, nat_le, IsUtf8}
 use Rattle.std.specs.Option.{unwrap_or}
 use Rattle.std.specs.Str.{is_utf8}
 use Rattle.std.proofs.lemmas.Bool.{le-leb, leb-true, eqb-true, ltb-true}
 use Rattle.std.proofs.lemmas.Str.{IsUtf8-from_is_utf8}
 use Rattle.std.proofs.lemmas.List.{take-append-le, length-take-le, take-append-drop}
-use Rattle.std.proofs.Math.Seq.{take-add}
+use Rattle.std.proofs.Math.Seq.{take-add, take-append_seam}
 use Rattle.dill_base.specs.declared.errno.Errno.{Errno}
 use Rattle.dill_base.specs.declared.errno.Errno.TheVariants.{Epipe, Eproto, Emsgsize}
 use Rattle.dill_base.specs.Reading.{IsShown}
@@ -17,7 +17,7 @@ use Rattle.dill_ws.specs.declared.head.HeadFront.{HeadFront}
 use Rattle.dill_ws.specs.declared.head.HeadFront.TheVariants as head
 use Rattle.dill_ws.specs.Closing.{ClosePayload, close_of}
 use Rattle.dill_ws.specs.Frames.{Part, HasKeyOf, key_bytes, peer_of}
-use Rattle.dill_ws.specs.Fronts.{HeadSpells, IsHead, IsRefusedHead, IsHeadFront, head_front, head_at, may_start, bits_of, length_size, told, is_least, key_size}
+use Rattle.dill_ws.specs.Fronts.{HeadSpells, HeadShows, IsJudged, NoneBegins, IsHead, IsRefusedHead, IsHeadFront, head_front, head_at, may_start, bits_of, length_size, told, is_least, key_size}
 use Rattle.dill_ws.specs.FrameLaws.{FrameLaws, AreBytes}
 use Rattle.dill_calls.specs.declared.answer.Answer.TheVariants.{Bytes}
 use Rattle.dill_stack.specs.declared.want.ReadOut.TheVariants.{Given, Fault}
@@ -67,6 +67,15 @@ told_here limit ws (a ∷ b ∷ x) key h s l d o =
     let over : nat_lt limit (length ws.joined + length_at (w ++ key)) ≡ true = lt-ltb limit (length ws.joined + length_at (w ++ key)) (omega (arith, o, size)) in
     let both : passes_limit limit ws (w ++ key) ≡ true = and_true (has_length (w ++ key) && is_data (slice_index (w ++ key) 0 % 16)) (nat_lt limit (length ws.joined + length_at (w ++ key))) (and_true (has_length (w ++ key)) (is_data (slice_index (w ++ key) 0 % 16)) has_all opcode) over in
     sym (limit_same limit ws w key has) ∙ both
+
+-- w ends with its length
+limit_size : (laws : FrameLaws) (limit : ℕ) (ws : WsLayer) (e : Errno) (w : List ℕ) (k : LimitShows limit ws e w) → length w ≡ 2 + length_size (bits_of (slice_index (w ++ key_bytes k.head.key) 1))
+limit_size laws limit ws e w k =
+    let key : List ℕ = key_bytes k.head.key in
+    let joining : Bool = is_some ws.joining in
+    let read : head_front ws.side joining (w ++ key) ≡ head.Whole k.head = ap (head_front ws.side joining) (sym (append-nil (w ++ key))) ∙ laws.again ws.side joining k.head (w ++ key) [] k.spelled in
+    let start : 2 + length_size (bits_of (slice_index (w ++ key) 1)) + key_size ws.side ≡ length (w ++ key) = ap (λ (g : Head). g.start) (head_shown ws.side joining (w ++ key) k.head read).same ∙ k.spelled.start in
+    omega (arith, start, length-append w key, key_length ws.side k.head.key k.spelled.keyed)
 
 pub limit_front : (laws : FrameLaws) (limit : ℕ) (ws : WsLayer) (e : Errno) (w : List ℕ) → LimitShows limit ws e w → ws_front limit ws w ≡ Refused Emsgsize
 unfolding ws_front
@@ -259,18 +268,22 @@ text_refused limit ended ws v part used f k =
       stops = ap (pass_by_front ws) f ∙ last_stays ws part used k.carries k.last;
     }
 
+close_no_data : (limit : ℕ) (ws : WsLayer) (part : Part) → part.opcode ≡ 8 → is_data part.opcode ≡ true → length ws.joined + length part.payload ≤ limit
+close_no_data limit ws part q d = let l : part.opcode ≤ 2 = leb-true part.opcode 2 d in absurd (omega (arith, q, l))
+
+payload_within : (limit : ℕ) (ws : WsLayer) (part : Part) → IsBadClose part ⊎ IsBadText limit ws part → is_data part.opcode ≡ true → length ws.joined + length part.payload ≤ limit
+payload_within limit ws part (inl c) d = close_no_data limit ws part c.0 d
+payload_within limit ws part (inr t) d = t.within
+
+payload_front : (laws : FrameLaws) (limit : ℕ) (ws : WsLayer) (w rest : List ℕ) (e : Errno) (k : PayloadShows limit ws e w) → ws_front limit ws (w ++ rest) ≡ Whole k.part (length w)
+payload_front laws limit ws w rest e k = front_whole laws limit ws k.part w rest k.frame k.follows (payload_within limit ws k.part k.bad)
+
 payload_refused : (laws : FrameLaws) (limit : ℕ) (ended : Bool) (ws : WsLayer) (w rest : List ℕ) (e : Errno) → PayloadShows limit ws e w → IsRefused limit ended ws (w ++ rest) e
 payload_refused laws limit ended ws w rest e k = subst (IsRefused limit ended ws (w ++ rest)) (sym k.errno) (by k.bad)
   where
-    front : (is_data k.part.opcode ≡ true → length ws.joined + length k.part.payload ≤ limit) → ws_front limit ws (w ++ rest) ≡ Whole k.part (length w)
-    front l = front_whole laws limit ws k.part w rest k.frame k.follows l
-
-    no_data : k.part.opcode ≡ 8 → is_data k.part.opcode ≡ true → length ws.joined + length k.part.payload ≤ limit
-    no_data q d = let l : k.part.opcode ≤ 2 = leb-true k.part.opcode 2 d in absurd (omega (arith, q, l))
-
     by : IsBadClose k.part ⊎ IsBadText limit ws k.part → IsRefused limit ended ws (w ++ rest) Eproto
-    by (inl c) = close_refused limit ended ws (w ++ rest) k.part (length w) (front (no_data c.0)) c
-    by (inr t) = text_refused limit ended ws (w ++ rest) k.part (length w) (front (λ d. t.within)) t
+    by (inl c) = close_refused limit ended ws (w ++ rest) k.part (length w) (payload_front laws limit ws w rest e k) c
+    by (inr t) = text_refused limit ended ws (w ++ rest) k.part (length w) (payload_front laws limit ws w rest e k) t
 
 frame_refused : (laws : FrameLaws) (stays : FrontStays) (limit : ℕ) (ended : Bool) (ws : WsLayer) (w rest : List ℕ) (e : Errno) → AreBytes w → FrameShows limit ws e w → IsRefused limit ended ws (w ++ rest) e
 frame_refused laws stays limit ended ws w rest e b (inl k) = refused_so limit ended ws (w ++ rest) e (head_refused limit ws (w ++ rest) e (laws.refused ws.side (is_some ws.joining) e w rest b k))
@@ -323,3 +336,94 @@ front_shown laws limit ws v e b h = by (head_front ws.side (is_some ws.joining) 
     by (head.Whole h) false r o q = absurd (short_not h (nat_lt (length v) (h.start + h.length)) q)
     by head.Need true r o q = let same : Emsgsize ≡ e = cc in limits (ap is_fault r) o same
     by head.Need false r o q = cc
+
+-- ---- the least front
+
+whole_not : {A : Type 0} (part : Part) (n : ℕ) (e : Errno) → Whole part n ≡ Refused e → A
+whole_not part n e q = cc
+
+nothing_behind : (w rest : List ℕ) → length (w ++ rest) ≤ length w → rest ≡ []
+nothing_behind w [] l = refl
+nothing_behind w (x ∷ rest) l = absurd (omega (arith, l, length-append w (x ∷ rest)))
+
+bytes_left : (w rest : List ℕ) → AreBytes (w ++ rest) → AreBytes w
+bytes_left w rest b = subst AreBytes (take-append_seam w rest) (bytes_front (length w) (w ++ rest) b)
+
+second_same : (w rest : List ℕ) → 2 ≤ length w → slice_index (w ++ rest) 1 ≡ slice_index w 1
+second_same [] rest l = absurd (omega (arith, l))
+second_same (a ∷ []) rest l = absurd (omega (arith, l))
+second_same (a ∷ b ∷ x) rest l = refl
+
+-- how long such a front is, by its second byte
+limit_length : (laws : FrameLaws) (limit : ℕ) (ws : WsLayer) (e : Errno) (w : List ℕ) → LimitShows limit ws e w → length w ≡ 2 + length_size (bits_of (slice_index w 1))
+limit_length laws limit ws e w k =
+    let size = limit_size laws limit ws e w k in
+    size ∙ ap (λ b. 2 + length_size (bits_of b)) (second_same w (key_bytes k.head.key) (omega (arith, size)))
+
+heads_least : (ws : WsLayer) (e f : Errno) (w rest : List ℕ) → HeadShows ws.side (is_some ws.joining) e w → HeadShows ws.side (is_some ws.joining) f (w ++ rest) → rest ≡ []
+heads_least ws e f w [] k j = refl
+heads_least ws e f w (x ∷ rest) k j =
+    let front : take (length w) (w ++ x ∷ rest) ≡ w = take-append_seam w (x ∷ rest) in
+    absurd (j.least (length w) (omega (arith, length-append w (x ∷ rest))) (subst IsJudged (sym front) k.judged) (subst (NoneBegins ws.side (is_some ws.joining)) (sym front) k.none))
+
+limit_head : (laws : FrameLaws) (limit : ℕ) (ws : WsLayer) (e f : Errno) (w rest : List ℕ) → LimitShows limit ws e w → HeadShows ws.side (is_some ws.joining) f (w ++ rest) → rest ≡ []
+limit_head laws limit ws e f w rest k j = nothing_behind w rest (by j.judged)
+  where
+    size : length w ≡ 2 + length_size (bits_of (slice_index w 1))
+    size = limit_length laws limit ws e w k
+
+    same : slice_index (w ++ rest) 1 ≡ slice_index w 1
+    same = second_same w rest (omega (arith, size))
+
+    by : (length (w ++ rest) ≡ 2) ⊎ (length (w ++ rest) ≡ 2 + length_size (bits_of (slice_index (w ++ rest) 1))) → length (w ++ rest) ≤ length w
+    by (inl q) = omega (arith, q, size)
+    by (inr q) = let long : length (w ++ rest) ≡ 2 + length_size (bits_of (slice_index w 1)) = q ∙ ap (λ b. 2 + length_size (bits_of b)) same in omega (arith, long, size)
+
+limits_least : (laws : FrameLaws) (limit : ℕ) (ws : WsLayer) (e f : Errno) (w rest : List ℕ) → LimitShows limit ws e w → LimitShows limit ws f (w ++ rest) → rest ≡ []
+limits_least laws limit ws e f w rest k j =
+    let size : length w ≡ 2 + length_size (bits_of (slice_index w 1)) = limit_length laws limit ws e w k in
+    let long : length (w ++ rest) ≡ 2 + length_size (bits_of (slice_index w 1)) = limit_length laws limit ws f (w ++ rest) j ∙ ap (λ b. 2 + length_size (bits_of b)) (second_same w rest (omega (arith, size))) in
+    nothing_behind w rest (omega (arith, size, long))
+
+head_limit : (laws : FrameLaws) (limit : ℕ) (ws : WsLayer) (e f : Errno) (w rest : List ℕ) → AreBytes w → HeadShows ws.side (is_some ws.joining) e w → LimitShows limit ws f (w ++ rest) → rest ≡ []
+head_limit laws limit ws e f w rest b k j =
+    let key : List ℕ = key_bytes j.head.key in
+    let joining : Bool = is_some ws.joining in
+    let whole : head_front ws.side joining ((w ++ rest) ++ key) ≡ head.Whole j.head = ap (head_front ws.side joining) (sym (append-nil ((w ++ rest) ++ key))) ∙ laws.again ws.side joining j.head ((w ++ rest) ++ key) [] j.spelled in
+    let bad : head_front ws.side joining ((w ++ rest) ++ key) ≡ head.Fault e = ap (head_front ws.side joining) (append_assoc w rest key) ∙ laws.refused ws.side joining e w (rest ++ key) b k in
+    never (sym bad ∙ whole)
+  where
+    never : head.Fault e ≡ head.Whole j.head → rest ≡ []
+    never q = cc
+
+-- what shows a refusal by its head or its length
+early_front : (laws : FrameLaws) (stays : FrontStays) (limit : ℕ) (ws : WsLayer) (e : Errno) (w rest : List ℕ) → AreBytes w → HeadShows ws.side (is_some ws.joining) e w ⊎ LimitShows limit ws e w → (f : Errno) × (ws_front limit ws (w ++ rest) ≡ Refused f)
+early_front laws stays limit ws e w rest b (inl k) = (e, head_refused limit ws (w ++ rest) e (laws.refused ws.side (is_some ws.joining) e w rest b k))
+early_front laws stays limit ws e w rest b (inr k) = (Emsgsize, stays limit ws w rest (Refused Emsgsize) (limit_front laws limit ws e w k) tt)
+
+early_payload : (laws : FrameLaws) (stays : FrontStays) (limit : ℕ) (ws : WsLayer) (e f : Errno) (w rest : List ℕ) → AreBytes w → HeadShows ws.side (is_some ws.joining) e w ⊎ LimitShows limit ws e w → PayloadShows limit ws f (w ++ rest) → rest ≡ []
+early_payload laws stays limit ws e f w rest b k j =
+    let refused = early_front laws stays limit ws e w rest b k in
+    whole_not j.part (length (w ++ rest)) refused.0 (sym (payload_front laws limit ws (w ++ rest) [] f j) ∙ ap (ws_front limit ws) (append-nil (w ++ rest)) ∙ refused.1)
+
+payload_early : (laws : FrameLaws) (stays : FrontStays) (limit : ℕ) (ws : WsLayer) (e f : Errno) (w rest : List ℕ) → AreBytes (w ++ rest) → PayloadShows limit ws e w → HeadShows ws.side (is_some ws.joining) f (w ++ rest) ⊎ LimitShows limit ws f (w ++ rest) → rest ≡ []
+payload_early laws stays limit ws e f w rest b k j =
+    let refused = early_front laws stays limit ws f (w ++ rest) [] b j in
+    whole_not k.part (length w) refused.0 (sym (payload_front laws limit ws w rest e k) ∙ ap (ws_front limit ws) (sym (append-nil (w ++ rest))) ∙ refused.1)
+
+payloads_least : (laws : FrameLaws) (limit : ℕ) (ws : WsLayer) (e f : Errno) (w rest : List ℕ) → PayloadShows limit ws e w → PayloadShows limit ws f (w ++ rest) → rest ≡ []
+payloads_least laws limit ws e f w rest k j =
+    let both : Whole k.part (length w) ≡ Whole j.part (length (w ++ rest)) = sym (payload_front laws limit ws w rest e k) ∙ ap (ws_front limit ws) (sym (append-nil (w ++ rest))) ∙ payload_front laws limit ws (w ++ rest) [] f j in
+    let same : length w ≡ length (w ++ rest) = cc in
+    nothing_behind w rest (omega (arith, same))
+
+pub break_least : (laws : FrameLaws) (stays : FrontStays) (limit : ℕ) (ws : WsLayer) (e f : Errno) (w rest : List ℕ) → AreBytes (w ++ rest) → FrameShows limit ws e w → FrameShows limit ws f (w ++ rest) → rest ≡ []
+break_least laws stays limit ws e f w rest b (inl k) (inl j) = heads_least ws e f w rest k j
+break_least laws stays limit ws e f w rest b (inl k) (inr (inl j)) = head_limit laws limit ws e f w rest (bytes_left w rest b) k j
+break_least laws stays limit ws e f w rest b (inl k) (inr (inr j)) = early_payload laws stays limit ws e f w rest (bytes_left w rest b) (inl k) j
+break_least laws stays limit ws e f w rest b (inr (inl k)) (inl j) = limit_head laws limit ws e f w rest k j
+break_least laws stays limit ws e f w rest b (inr (inl k)) (inr (inl j)) = limits_least laws limit ws e f w rest k j
+break_least laws stays limit ws e f w rest b (inr (inl k)) (inr (inr j)) = early_payload laws stays limit ws e f w rest (bytes_left w rest b) (inr k) j
+break_least laws stays limit ws e f w rest b (inr (inr k)) (inl j) = payload_early laws stays limit ws e f w rest b k (inl j)
+break_least laws stays limit ws e f w rest b (inr (inr k)) (inr (inl j)) = payload_early laws stays limit ws e f w rest b k (inr j)
+break_least laws stays limit ws e f w rest b (inr (inr k)) (inr (inr j)) = payloads_least laws limit ws e f w rest k j

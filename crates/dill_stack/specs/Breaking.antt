@@ -1,5 +1,5 @@
 -- Which bytes show a refusal of a WebSocket layer, and where it awaits more of them (RFC 6455, sections 5.1 to 5.6).
-use Rattle.std.specs.Prelude.{◌≡◌, ◌⊎◌, ◌≤◌, ◌<◌, ◌+◌, ℕ, List, ◌∷◌, ◌++◌, Bool, true, false, IsUtf8, length, take, drop, is_some}
+use Rattle.std.specs.Prelude.{◌≡◌, ◌⊎◌, ◌≤◌, ◌<◌, ◌+◌, ℕ, List, [], ◌∷◌, ◌++◌, Bool, true, false, IsUtf8, length, take, drop, is_some}
 use Rattle.std.specs.List.{list_all}
 use Rattle.std.specs.Option.{unwrap_or}
 use Rattle.dill_base.specs.declared.errno.Errno.{Errno}
@@ -46,7 +46,7 @@ pub record PayloadShows (limit : ℕ) (ws : WsLayer) (e : Errno) (w : List ℕ) 
   pub follows : may_follow (is_some ws.joining) part.fin part.opcode (length part.payload) ≡ true
   pub bad : IsBadClose part ⊎ IsBadText limit ws part
 
--- w is the least front that shows the refusal: of a head that may not come, of a length, or of a whole payload.
+-- w shows the refusal with its last byte: of a head that may not come, of a length, or of a whole payload.
 abbrev pub FrameShows : ℕ → WsLayer → Errno → List ℕ → Type 0
 FrameShows limit ws e w = HeadShows ws.side (is_some ws.joining) e w ⊎ (LimitShows limit ws e w ⊎ PayloadShows limit ws e w)
 
@@ -72,6 +72,8 @@ broken_outcome below ws n parts e = record { used = n; layers = Ws ws ∷ below;
 
 -- refusals and waits of a WebSocket layer of which no close frame was met
 pub record BreakingLaws : Type 0 where
+  -- No bytes that show a refusal begin others that show one: the least front is refused.
+  pub least : (limit : ℕ) (ws : WsLayer) (e f : Errno) (w rest : List ℕ) → AreBytes (w ++ rest) → FrameShows limit ws e w → FrameShows limit ws f (w ++ rest) → rest ≡ []
   -- A refusal is answered exactly where it stands there, or where the list ended inside a message.
   pub breaks : (limit : ℕ) (below : List Placed) (ws : WsLayer) (u : List ℕ) (n : ℕ) (e : Errno) (ended : Bool) → AreBytes u → ws.met ≡ false → (stands : BreakStands limit ws u n e)
       → read_ws below ws u ended limit ≡ broken_outcome below (with_parts stands.before ws) n stands.before e
