@@ -1,4 +1,4 @@
--- Programs whose calls are those of printing, time, coroutines and handles of their own, and none of channels, links or layers.
+-- Programs whose calls are those of printing, time, coroutines, channels and handles of their own, and none of links or layers.
 use Rattle.std.specs.Prelude.{◌≡◌, ◌≤◌, Bool, true}
 use Rattle.dill_calls.specs.declared.answer.Answer.{Answer}
 use Rattle.dill_calls.specs.declared.call.Call.{Call}

@@ -1,4 +1,4 @@
-//! Programs that make no call of channels, links or layers: so far a core runs these alone.
+//! Programs that make no call of links or layers: so far a core runs these alone.
 #![tactic(auto)]
 
 mod body;

@@ -1,4 +1,5 @@
 pub mod Bearing
+pub mod Channeled
 pub mod Closing
 pub mod Each
 pub mod Finding

@@ -1,3 +1,4 @@
+pub mod Channeled
 pub mod Closings
 pub mod Freeings
 pub mod Gathering

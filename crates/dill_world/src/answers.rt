@@ -1,4 +1,4 @@
-ghost use Rattle.std.specs.Prelude.{◌≡◌, [], ◌≤◌, length, true, Some, None, IfSome};
+ghost use Rattle.std.specs.Prelude.{◌≡◌, [], ◌≤◌, length, true, Some, None, IfOk, IfSome};
 ghost use Rattle.dill_base.specs.Maps.{if_some};
 ghost use Rattle.dill_calls.specs.declared.answer.Answer.TheVariants.{Chosen, Fault};
 ghost use Rattle.dill_chan.specs.declared.end.Want.TheVariants.{Send, Recv};
@@ -8,9 +8,10 @@ ghost use Rattle.dill_world.specs.Store.{world_of, may_wait, is_short_answer};
 
 use crate::rows::find_dead_as;
 use crate::world::World;
-use dill_base::{Errno, Octets};
+use dill_base::{Errno, NoMemory, Octets};
 use dill_calls::{Answer, Call, Clause, Word};
 use dill_rules::Thing;
+use std::alloc::Global;
 
 /// A copy of an answer without bytes.
 pub fn copy_answer(answer: &Answer) -> Answer
@@ -42,6 +43,52 @@ fn copy_choice(index: u32, fault: Option<Errno>, bytes: &Option<Octets>) -> Answ
             bytes: None,
         },
         Some(_) => Answer::Number(0),
+    }
+}
+
+/// A copy of bytes that may be there.
+fn copy_bytes(alloc: Global, bytes: &Option<Octets>) -> Result<Option<Octets>, NoMemory>
+    ensures { IfOk result (λ copy. copy ≡ bytes.now) }
+{
+    match bytes {
+        None => Ok(None),
+        Some(all) => Ok(Some(Octets::from_slice(alloc, all.as_slice())?)),
+    }
+}
+
+/// A copy of an answer, with its bytes.
+pub(crate) fn copy_whole(alloc: Global, answer: &Answer) -> Result<Answer, NoMemory>
+    ensures { IfOk result (λ copy. copy ≡ answer.now) }
+{
+    match answer {
+        Answer::Number(n) => Ok(Answer::Number(*n)),
+        Answer::Pair(m, n) => Ok(Answer::Pair(*m, *n)),
+        Answer::Bytes(bytes) => {
+            let copy = Octets::from_slice(alloc, bytes.as_slice())?;
+            Ok(Answer::Bytes(copy))
+        }
+        Answer::Two(first, second) => {
+            let one = Octets::from_slice(alloc, first.as_slice())?;
+            let two = Octets::from_slice(alloc, second.as_slice())?;
+            Ok(Answer::Two(one, two))
+        }
+        Answer::Coded(code, bytes) => {
+            let copy = Octets::from_slice(alloc, bytes.as_slice())?;
+            Ok(Answer::Coded(*code, copy))
+        }
+        Answer::Chosen {
+            index,
+            fault,
+            bytes,
+        } => {
+            let copy = copy_bytes(alloc, bytes)?;
+            Ok(Answer::Chosen {
+                index: *index,
+                fault: *fault,
+                bytes: copy,
+            })
+        }
+        Answer::Fault(errno) => Ok(Answer::Fault(*errno)),
     }
 }
 

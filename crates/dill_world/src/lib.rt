@@ -1,8 +1,9 @@
 //! The rules of the machine as calls on what it keeps: each one equals its definition, and takes no memory where none is
-//! said to be wanting. Calls of channels may be pending, and none is entered yet; those of links are no part of it.
+//! said to be wanting. Calls of links are no part of it.
 #![tactic(auto)]
 
 mod answers;
+mod channeling;
 mod ending;
 mod kinds;
 mod lining;
