@@ -2,14 +2,23 @@
 use Rattle.std.proofs.Common.{◌≡◌, ◌∙◌, ◌+◌, ◌≤◌, ℕ, suc, List, [], ◌∷◌, length, length-append, fold, filter, reverse, find, Bool, true, false, cond, Option, Some, None, if◌then◌else◌, MatchOption, refl, ap, subst, arith}
 use Rattle.dill_base.specs.declared.errno.Errno.{Errno}
 use Rattle.dill_calls.specs.declared.answer.Answer.{Answer}
-use Rattle.dill_calls.specs.declared.answer.Answer.TheVariants.{Number}
+use Rattle.dill_calls.specs.declared.answer.Answer.TheVariants.{Number, Fault}
 use Rattle.dill_calls.specs.declared.body.Next.{Next}
 use Rattle.dill_calls.specs.declared.call.Call.{Call}
 use Rattle.dill_calls.specs.declared.call.Call.TheVariants as calls
 use Rattle.dill_calls.specs.declared.lists.Arg.{Arg}
 use Rattle.dill_calls.specs.declared.ran.Note.TheVariants.{Moved, Freed}
 use Rattle.dill_calls.specs.declared.word.Word.{Word}
-use Rattle.dill_calls.specs.declared.word.Word.TheVariants.{Start}
+use Rattle.dill_calls.specs.declared.word.Word.TheVariants.{Start, Chdone}
+use Rattle.dill_calls.specs.declared.lists.Clause.{Clause}
+use Rattle.dill_base.specs.declared.errno.Errno.TheVariants.{Epipe}
+use Rattle.dill_chan.specs.Channels as channels
+use Rattle.dill_chan.specs.Meetings.{has_ended}
+use Rattle.dill_chan.specs.declared.end.Want.TheVariants.{Send}
+use Rattle.dill_chan.specs.declared.meeting.Meeting.{Meeting}
+use Rattle.dill_chan.specs.declared.meeting.Meeting.TheVariants as meetings
+use Rattle.dill_rules.specs.Answers.{want_of, end_named}
+use Rattle.dill_rules.specs.Channeling.{done_at, answer_clause, clause_answer, meet, wait_at, wait_all, first_done, clauses_of, without_bytes, enter_channel}
 use Rattle.dill_calls.specs.CallTable.{word_of}
 use Rattle.dill_calls.specs.Program.{Program}
 use Rattle.dill_handles.specs.Handles as handles
@@ -20,11 +29,11 @@ use Rattle.dill_rules.specs.declared.coroutine.Mode.{Mode}
 use Rattle.dill_rules.specs.declared.coroutine.Mode.TheVariants as modes
 use Rattle.dill_rules.specs.declared.thing.Thing.{Thing}
 use Rattle.dill_rules.specs.declared.thing.Thing.TheVariants as things
-use Rattle.dill_rules.specs.World.{World, is_coroutine, with_mode, set_mode, reply, note, call_of, coroutine_of}
+use Rattle.dill_rules.specs.World.{World, is_coroutine, with_mode, set_mode, reply, pend, note, call_of, coroutine_of}
 use Rattle.dill_rules.specs.Kinds.{value_of}
 use Rattle.dill_rules.specs.Owning.{entry_of, take_thing, move, drop, release, close_bundle, free_bundle, is_dead_as}
 use Rattle.dill_rules.specs.Taking.{bundle_of, bundle_named}
-use Rattle.dill_rules.specs.Naming.{gifts_of}
+use Rattle.dill_rules.specs.Naming.{gifts_of, end_of_clause}
 use Rattle.dill_rules.specs.Effects.{make, add_bundle, next_number, told, give_all, start, close_thing}
 use Rattle.dill_rules.specs.Entering.{perform, is_too_late, late_answer, meet_deadline}
 use Rattle.dill_rules.specs.Settling.{close_owned, close_all, end, highest_first, is_owned_by, free_all, release_all}
@@ -148,6 +157,29 @@ module _ {V : Type 0} where
   some_more None w f h = omega arith
   some_more (Some a) w f h = let r = h a in omega (arith, r)
 
+  done_there : (b : Bool) (w : World V) (who end : ℕ) → crew (if b then reply w who Chdone (Fault Epipe) else reply (record w { channels = channels.done w.channels end }) who Chdone (Number 0)) ≡ crew w
+  done_there true w who end = replied w who _ _
+  done_there false w who end = replied (record w { channels = channels.done w.channels end }) who _ _
+
+  -- clauses at channels make nobody
+  met_there : (w : World V) (who : ℕ) (call : Call) (index : ℕ) (m : Meeting) → crew (meet w who call index m) ≡ crew w
+  met_there w who call index (meetings.Met x) =
+      replied (answer_clause w x.other x.clause x.others) who _ _
+      ∙ some_same (call_of w x.other) w (λ other. reply w x.other (word_of other) (clause_answer other x.clause x.others)) (λ other. replied w x.other _ _)
+  met_there w who call index meetings.Ended = replied w who _ _
+  met_there w who call index meetings.Waits = refl
+
+  waited : (w : World V) (who n : ℕ) (xs : List Clause) → crew (wait_all w who n xs) ≡ crew w
+  waited w who n [] = refl
+  waited w who n (x ∷ xs) = waited (wait_at w who n x) who (n + 1) xs ∙ some_same (end_named w (end_of_clause x)) w (λ end. record w { channels = channels.wait w.channels (record { who = who; clause = n; end = end; want = want_of x }) }) (λ end. refl)
+
+  entered_at : (o : Option (ℕ × Meeting)) (w : World V) (who : ℕ) (call : Call) → crew (if_some o (wait_all (pend w who (without_bytes call)) who 0 (clauses_of call)) (λ x. meet w who call x.0 x.1)) ≡ crew w
+  entered_at None w who call = waited (pend w who (without_bytes call)) who 0 (clauses_of call) ∙ stands w who _
+  entered_at (Some x) w who call = met_there w who call x.0 x.1
+
+  entered : (w : World V) (who : ℕ) (call : Call) → crew (enter_channel w who call) ≡ crew w
+  entered w who call = entered_at (first_done w who 0 (clauses_of call)) w who call
+
   -- what wants no memory makes nobody
   pub performed : (p : Program V) (w : World V) (who : ℕ) (view : V) (call : Call) → is_plain call ≡ true → needs_memory call ≡ false → crew (perform p w who view call) ≡ crew w
   performed p w who view (calls.Print text) e n = replied w who _ _
@@ -157,6 +189,7 @@ module _ {V : Type 0} where
   performed p w who view (calls.Hquery number kind) e n = some_same (entry_of w number) w (λ x. reply w who (word_of (calls.Hquery number kind)) (Number (value_of x.thing))) (λ x. replied w who _ _)
   performed p w who view (calls.Hclose number) e n = some_same (entry_of w number) w (λ x. close_thing w who number x.thing) (λ x. closed_thing w who number x.thing)
   performed p w who view (calls.BundleWait number deadline) e n = stands w who _
+  performed p w who view (calls.Chdone number) e n = some_same (end_named w number) w (λ end. done_at w who end) (λ end. done_there (has_ended w.channels end (Send [])) w who end)
   performed p w who view (calls.Pass word fault) e n = replied w who _ _
   performed p w who view (calls.Hmake kind value) e n = cc
   performed p w who view (calls.Hown number) e n = cc
@@ -178,6 +211,9 @@ module _ {V : Type 0} where
       some_more (bundle_named w number) w (λ home. reply (start p w view home program args) who (word_of (calls.BundleGo number program args)) (Number 0))
       (λ home. replied (start p w view home program args) who _ _ ∙ started p w view home program args)
   performed_with p w who view calls.Chmake n = let r : crew (perform p w who view calls.Chmake) ≡ crew w = replied (add_channel w who) who _ _ in omega (arith, r)
+  performed_with p w who view (calls.Chsend number bytes deadline) n = let r : crew (perform p w who view (calls.Chsend number bytes deadline)) ≡ crew w = entered w who (calls.Chsend number bytes deadline) in omega (arith, r)
+  performed_with p w who view (calls.Chrecv number size deadline) n = let r : crew (perform p w who view (calls.Chrecv number size deadline)) ≡ crew w = entered w who (calls.Chrecv number size deadline) in omega (arith, r)
+  performed_with p w who view (calls.Choose deadline all) n = let r : crew (perform p w who view (calls.Choose deadline all)) ≡ crew w = entered w who (calls.Choose deadline all) in omega (arith, r)
   performed_with p w who view _ n = cc
 
   ran : (p : Program V) (old mid : World V) (who : ℕ) (given : Answer) (said : Option Next) (c : Coroutine V) → WentOn p c given said (λ view. mid ≡ resume old who view) → crew mid ≡ crew old

@@ -13,7 +13,7 @@ use Rattle.dill_rules.specs.World.{World, reply}
 use Rattle.dill_rules.specs.Entering.{enter, done, keep_for, may_lack_entry}
 use Rattle.dill_rules.specs.Naming.{draws_of}
 use Rattle.dill_rules.specs.Refusals.{refuse}
-use Rattle.dill_steps.specs.Needs.{needs_memory}
+use Rattle.dill_steps.specs.Needs.{needs_memory, is_at_channel}
 
 pub some_of : {A : Type 0} {x y : A} → Some x ≡ Some y → x ≡ y
 some_of e = cc
@@ -26,6 +26,9 @@ needs_takes calls.Bundle n = refl
 needs_takes (calls.Go program args) n = refl
 needs_takes (calls.BundleGo number program args) n = refl
 needs_takes calls.Chmake n = refl
+needs_takes (calls.Chsend number bytes deadline) n = refl
+needs_takes (calls.Chrecv number size deadline) n = refl
+needs_takes (calls.Choose deadline all) n = refl
 needs_takes _ n = cc
 
 -- what wants none draws no number
@@ -37,6 +40,7 @@ draws_none (calls.Msleep deadline) plain n = refl
 draws_none (calls.Hquery number kind) plain n = refl
 draws_none (calls.Hclose number) plain n = refl
 draws_none (calls.BundleWait number deadline) plain n = refl
+draws_none (calls.Chdone number) plain n = refl
 draws_none (calls.Pass word fault) plain n = refl
 draws_none (calls.Hmake kind value) plain n = cc
 draws_none (calls.Hown number) plain n = cc
@@ -45,12 +49,25 @@ draws_none (calls.Go program args) plain n = cc
 draws_none (calls.BundleGo number program args) plain n = cc
 draws_none _ plain n = cc
 
+-- nor does what enters clauses at channels
+clauses_draw_none : (call : Call) → is_at_channel call ≡ true → draws_of call ≡ 0
+clauses_draw_none (calls.Chsend number bytes deadline) at = refl
+clauses_draw_none (calls.Chrecv number size deadline) at = refl
+clauses_draw_none (calls.Choose deadline all) at = refl
+clauses_draw_none _ at = cc
+
+keeps_as_many : {V : Type 0} (w : World V) (call : Call) → draws_of call ≡ 0 → keep_for w call ≡ w
+keeps_as_many w call e =
+    let none : w.handles.kept + draws_of call ≡ w.handles.kept = omega (arith, e) in
+    ap (λ k. record w { handles = record w.handles { kept = k } }) none
+
+pub clauses_keep_none : {V : Type 0} (w : World V) (call : Call) → is_at_channel call ≡ true → keep_for w call ≡ w
+clauses_keep_none w call at = keeps_as_many w call (clauses_draw_none call at)
+
 module _ {V : Type 0} (p : Program V) (w : World V) (who : ℕ) (view : V) (call : Call) where
   -- .. and keeps none
   pub keeps_none : is_plain call ≡ true → needs_memory call ≡ false → keep_for w call ≡ w
-  keeps_none plain n =
-      let none : w.handles.kept + draws_of call ≡ w.handles.kept = omega (arith, draws_none call plain n) in
-      ap (λ k. record w { handles = record w.handles { kept = k } }) none
+  keeps_none plain n = keeps_as_many w call (draws_none call plain n)
 
   pub enters_refused : (lacks : Bool) (e : Errno) → refuse p w who view call ≡ Some e → reply w who (word_of call) (Fault e) ≡ enter p lacks w who view call
   enters_refused lacks e h = sym (ap (λ o. if_some o (if lacks && takes_memory (word_of call) then reply w who (word_of call) (Fault Enomem) else done p w who view call) (λ x. reply w who (word_of call) (Fault x))) h)

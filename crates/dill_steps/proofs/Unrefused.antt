@@ -1,5 +1,7 @@
 -- What a call that isn't refused may rely on: there is room, and the program that it starts is known.
 use Rattle.std.proofs.Common.{◌≡◌, ◌+◌, ◌<◌, ◌≤◌, ◌^◌, ℕ, List, [], ◌∷◌, length, find, Bool, true, false, not, ◌&&◌, ◌||◌, cond, Option, Some, None, refl, ap, sym, ◌∙◌, nat_le, arith}
+use Rattle.std.specs.Prelude.{◌==◌, nat_lt}
+use Rattle.std.specs.List.{list_any}
 use Rattle.std.proofs.lemmas.Bool.{or_parts}
 use Rattle.std.proofs.lemmas.Bool.Decides.{nat_tests}
 use Rattle.dill_base.specs.declared.errno.Errno.{Errno}
@@ -12,8 +14,9 @@ use Rattle.dill_calls.specs.Program.{Program}
 use Rattle.dill_handles.specs.Handles as handles
 use Rattle.dill_rules.specs.World.{World}
 use Rattle.dill_rules.specs.Naming.{gifts_of, draws_of, bears, links}
-use Rattle.dill_rules.specs.Refusals.{refuse, order, holds, is_invalid, is_short, is_refused_by_stack, has_twice, has_no_coroutine, has_no_link}
-use Rattle.dill_steps.specs.Needs.{needs_memory}
+use Rattle.dill_rules.specs.Refusals.{refuse, order, holds, is_invalid, is_short, is_refused_by_stack, is_over_limit, has_twice, has_no_coroutine, has_no_link}
+use Rattle.dill_steps.specs.Needs.{needs_memory, is_at_channel}
+use Rattle.dill_world.specs.Channeled.{enters_channel}
 
 picks_none : {A : Type 0} (b : Bool) (x : A) (rest : Option A) → cond b (Some x) rest ≡ None → (b ≡ false) × (rest ≡ None)
 picks_none true x rest e = cc
@@ -59,6 +62,9 @@ module _ {V : Type 0} (p : Program V) (w : World V) (who : ℕ) (view : V) where
   unrefused_room (calls.Go program args) n e = room_of (calls.Go program args) e
   unrefused_room (calls.BundleGo number program args) n e = room_of (calls.BundleGo number program args) e
   unrefused_room calls.Chmake n e = room_of calls.Chmake e
+  unrefused_room (calls.Chsend number bytes deadline) n e = room_of (calls.Chsend number bytes deadline) e
+  unrefused_room (calls.Chrecv number size deadline) n e = room_of (calls.Chrecv number size deadline) e
+  unrefused_room (calls.Choose deadline all) n e = room_of (calls.Choose deadline all) e
   unrefused_room _ n e = cc
 
   below_last : (a : ℕ) (b : Bool) → (b || nat_le 18446744073709551615 a) ≡ false → a + 1 < 18446744073709551616
@@ -84,6 +90,19 @@ module _ {V : Type 0} (p : Program V) (w : World V) (who : ℕ) (view : V) where
 
   pub bundle_go_known : (number program : ℕ) (args : List Arg) → refuse p w who view (calls.BundleGo number program args) ≡ None → p.knows view program (length args) ≡ true
   bundle_go_known number program args e = not_both (p.knows view program (length args)) (has_twice (gifts_of args)) (invalid_none (calls.BundleGo number program args) e)
+
+not_more : (n : ℕ) → nat_lt 16 n ≡ false → nat_le n 16 ≡ true
+not_more n e = grind (arith, nat_tests)
+
+few_clauses : (a c : Bool) (n : ℕ) → (a || (nat_lt 16 n || c)) ≡ false → nat_le n 16 ≡ true
+few_clauses a c n e = not_more n (or_parts (nat_lt 16 n) c (or_parts a (nat_lt 16 n || c) e).1).0
+
+-- a choice has at most 16 clauses
+pub enters_few : {V : Type 0} (p : Program V) (w : World V) (who : ℕ) (view : V) (call : Call) → is_at_channel call ≡ true → refuse p w who view call ≡ None → enters_channel call ≡ true
+enters_few p w who view (calls.Chsend number bytes deadline) at e = refl
+enters_few p w who view (calls.Chrecv number size deadline) at e = refl
+enters_few p w who view (calls.Choose deadline all) at e = few_clauses (length all == 0) (list_any is_over_limit all) (length all) (invalid_none p w who view (calls.Choose deadline all) e)
+enters_few p w who view _ at e = cc
 
 room_small : (a k n : ℕ) (b : Bool) → (b && nat_le (a + k + n) 2147483647) ≡ true → a + n ≤ 2147483647
 room_small a k n true e = grind (arith, nat_tests)

@@ -7,7 +7,14 @@ use Rattle.dill_rules.specs.declared.coroutine.Coroutine.{Coroutine}
 use Rattle.dill_rules.specs.Refusals.{refuse}
 use Rattle.dill_rules.specs.World.{World, coroutine_of}
 
--- it makes handles or a coroutine, or gives a handle another number
+-- it enters clauses at channels
+abbrev pub is_at_channel : Call → Bool
+is_at_channel (calls.Chsend number bytes deadline) = true
+is_at_channel (calls.Chrecv number size deadline) = true
+is_at_channel (calls.Choose deadline all) = true
+is_at_channel call = false
+
+-- it makes handles or a coroutine, gives a handle another number, or enters clauses at channels
 abbrev pub needs_memory : Call → Bool
 needs_memory (calls.Hmake kind value) = true
 needs_memory (calls.Hown number) = true
@@ -15,6 +22,9 @@ needs_memory calls.Bundle = true
 needs_memory (calls.Go program args) = true
 needs_memory (calls.BundleGo number program args) = true
 needs_memory calls.Chmake = true
+needs_memory (calls.Chsend number bytes deadline) = true
+needs_memory (calls.Chrecv number size deadline) = true
+needs_memory (calls.Choose deadline all) = true
 needs_memory call = false
 
 -- the coroutine is there, and its program has this view

@@ -8,7 +8,7 @@ ghost use Rattle.dill_rules.specs.Entering as entering;
 ghost use Rattle.dill_rules.specs.Naming as naming;
 ghost use Rattle.dill_rules.specs.Owning as owning;
 ghost use Rattle.dill_rules.specs.Refusals as refusals;
-ghost use Rattle.dill_steps.specs.Needs.{needs_memory, HasView, Enters};
+ghost use Rattle.dill_steps.specs.Needs.{needs_memory, is_at_channel, HasView, Enters};
 ghost use Rattle.dill_world.specs.Store.{world_of, may_wait, is_short_answer};
 ghost use Rattle.dill_base.specs.declared.errno.Errno.TheVariants.{Enomem};
 ghost use Rattle.dill_calls.specs.declared.answer.Answer.TheVariants.{Fault};
@@ -30,6 +30,13 @@ pub fn entered(moment: u64, call: Call) -> Call
     match call {
         Call::Msleep(deadline) => Call::Msleep(deadline.entered(moment)),
         Call::BundleWait(number, deadline) => Call::BundleWait(number, deadline.entered(moment)),
+        Call::Chsend(number, bytes, deadline) => {
+            Call::Chsend(number, bytes, deadline.entered(moment))
+        }
+        Call::Chrecv(number, size, deadline) => {
+            Call::Chrecv(number, size, deadline.entered(moment))
+        }
+        Call::Choose(deadline, clauses) => Call::Choose(deadline.entered(moment), clauses),
         other => other,
     }
 }
@@ -303,6 +310,21 @@ fn bundle_go<B: Body>(
     Ok(())
 }
 
+/// The clauses of a call are entered at channels. Refused, nothing changes.
+fn enter_channel<B: Body>(
+    alloc: Global,
+    world: &mut World<B>,
+    who: u64,
+    call: &Call,
+) -> Result<(), NoMemory>
+    requires at { is_at_channel call.now ≡ true }
+    requires enters { Enters B.means (world_of world.old) who call.now }
+    ensures ok { OnOk result (world_of world.new ≡ channeling.enter_channel (entering.keep_for (world_of world.old) call.now) who call.now) }
+    ensures err { OnErr result (world_of world.new ≡ world_of world.old) }
+{
+    world.enter_channel(alloc, who, call)
+}
+
 /// Whether the entry of a call may want memory.
 fn needs_memory(call: &Call) -> bool
     ensures { result ≡ needs_memory call.now }
@@ -315,6 +337,9 @@ fn needs_memory(call: &Call) -> bool
             | Call::Go(_, _)
             | Call::BundleGo(_, _, _)
             | Call::Chmake
+            | Call::Chsend(_, _, _)
+            | Call::Chrecv(_, _, _)
+            | Call::Choose(_, _)
     )
 }
 
@@ -339,6 +364,9 @@ fn perform_with<B: Body>(
             bundle_go(alloc, world, who, call, *bundle, *program, args.as_slice())
         }
         Call::Chmake => make_channel(world, who, call),
+        Call::Chsend(_, _, _) => enter_channel(alloc, world, who, call),
+        Call::Chrecv(_, _, _) => enter_channel(alloc, world, who, call),
+        Call::Choose(_, _) => enter_channel(alloc, world, who, call),
         _ => Ok(()),
     }
 }

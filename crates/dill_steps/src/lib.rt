@@ -1,5 +1,5 @@
 //! The steps of the machine on what it keeps: a call is entered, endings finish and answers are given, deadlines pass, and a
-//! coroutine has its turn. Each one equals its definition. The calls of channels and links are no part of it yet.
+//! coroutine has its turn. Each one equals its definition. The calls of links are no part of it yet.
 #![tactic(auto)]
 
 mod entering;
