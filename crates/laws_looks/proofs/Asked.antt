@@ -27,7 +27,9 @@ use Rattle.dill_rules.specs.Effects.{make, next_number}
 use Rattle.dill_rules.specs.Giving.{is_connecting_for, give}
 use Rattle.dill_rules.specs.Hearing.{fitting, listen_fault, connect_fault, accept_fault, linking_call, fail, give_handle, made, connector_of, heard_listen, heard_connect, heard_finish, heard_accept, heard_write, heard_shut, heard_read, heard_ask, heard}
 use Rattle.dill_rules.specs.Links as link
-use Rattle.dill_rules.specs.Links.{Link, Links, Sort, Listening, Connecting, Stream, look, is_link, is_listening, is_stream, connector, with_stack, as_stream, as_shut, read_cold, write_cold}
+use Rattle.dill_rules.specs.Links.{Link, Links, look, is_link, is_listening, is_stream, connector, with_stack, as_stream, as_shut, read_cold, write_cold}
+use Rattle.dill_rules.specs.declared.link.Sort.{Sort}
+use Rattle.dill_rules.specs.declared.link.Sort.TheVariants.{Listening, Connecting, Stream}
 use Rattle.dill_rules.specs.Naming.{links}
 use Rattle.dill_rules.specs.Refusals.{is_accept}
 use Rattle.dill_rules.specs.Sockets.{on_link}

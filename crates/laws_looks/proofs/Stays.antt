@@ -21,7 +21,8 @@ use Rattle.dill_rules.specs.Hearing.{heat_ready}
 use Rattle.dill_rules.specs.LinkAnswers.{is_on_stack, look_of}
 use Rattle.dill_rules.specs.Linking.{if_ok, with_random, put, ask_stack, heat, queue, queue_end, queue_line, queue_message, dropped_for}
 use Rattle.dill_rules.specs.Links as link
-use Rattle.dill_rules.specs.Links.{Link, Links, Sort, is_link, change_link, connector, with_stack, as_closing, as_stream, heated}
+use Rattle.dill_rules.specs.Links.{Link, Links, is_link, change_link, connector, with_stack, as_closing, as_stream, heated}
+use Rattle.dill_rules.specs.declared.link.Sort.{Sort}
 use Rattle.dill_rules.specs.Owning.{drop}
 use Rattle.dill_rules.specs.Settling.{pass_one, pass_all}
 use Rattle.dill_rules.specs.Sockets.{link_number, stack_of, on_link, on_named}
