@@ -1,5 +1,5 @@
 -- The closing of the root, an expiry and a settling, as steps of a state.
-use Rattle.std.proofs.Common.{◌≡◌, ◌∙◌, ◌≤◌, ◌<◌, ◌==◌, ℕ, List, [], ◌∷◌, map, find, Bool, true, false, cond, Option, Some, None, is_some, refl, sym, ap, subst, arith}
+use Rattle.std.proofs.Common.{◌≡◌, ◌∙◌, ◌≤◌, ◌<◌, ◌==◌, ℕ, List, find, Bool, true, false, Option, Some, None, is_some, refl, sym, ap, subst, arith}
 use Rattle.std.specs.List.{AllByRecursion, list_any}
 use Rattle.dill_calls.specs.declared.answer.Answer.{Answer}
 use Rattle.dill_calls.specs.declared.call.Call.{Call}
@@ -12,8 +12,8 @@ use Rattle.dill_rules.specs.declared.coroutine.Coroutine.{Coroutine}
 use Rattle.dill_rules.specs.declared.coroutine.Mode.{Mode}
 use Rattle.dill_rules.specs.declared.coroutine.Mode.TheVariants as modes
 use Rattle.dill_rules.specs.Debts.{is_early}
-use Rattle.dill_rules.specs.State.{State, Stamp, stamp_of, lined}
-use Rattle.dill_rules.specs.World.{World, is_coroutine, call_of, with_mode, pending_call, is_answered}
+use Rattle.dill_rules.specs.State.{State, Stamp, stamp_of}
+use Rattle.dill_rules.specs.World.{World, is_coroutine, call_of, with_mode, is_answered}
 use Rattle.dill_rules.specs.Answers.{answer_of}
 use Rattle.dill_rules.specs.Entering.{late_answer}
 use Rattle.dill_rules.specs.Expiring.{due_of, expire_one}
@@ -35,7 +35,6 @@ use Rattle.laws_debt.proofs.Falling.{LowersAt, owed_tree, lowers_tree, tree_self
 use Rattle.laws_debt.proofs.Flagging.{all_picked}
 use Rattle.laws_debt.proofs.Holding.{tracks_close}
 use Rattle.laws_debt.proofs.Keeping.{nobody_calm, AnyBundle, good_stable, root_flags, settles}
-use Rattle.laws_queue.proofs.Lining.{lined_pending}
 use Rattle.laws_queue.proofs.Lists.{all_to}
 use Rattle.laws_debt.proofs.Moving.{unfresh_all as all_unfresh_of, begun_settles, flag_was}
 use Rattle.laws_debt.proofs.Walking.{AllSit, call_pends, pending_waits, expire_calm, change_calls, Leads, unlike}

@@ -1,8 +1,6 @@
 -- Once nothing is due, nobody who is cancelled is pending in a call that blocks. So whoever is met is not cancelled, or its call is an `hclose`, of which each answer lowers.
-use Rattle.std.proofs.Common.{◌≡◌, ◌∙◌, inl, inr, ℕ, List, [], ◌∷◌, Bool, true, false, Option, Some, None, if◌then◌else◌, refl, sym, ap, subst}
-use Rattle.std.specs.List.{AllByRecursion}
+use Rattle.std.proofs.Common.{◌≡◌, ◌∙◌, inl, inr, ℕ, Bool, true, false, Option, Some, None, if◌then◌else◌, refl, sym, ap}
 use Rattle.std.specs.Option.{option_or}
-use Rattle.dill_base.specs.Maps.{if_some, first_some}
 use Rattle.dill_calls.specs.declared.answer.Answer.{Answer}
 use Rattle.dill_calls.specs.declared.call.Call.{Call}
 use Rattle.dill_calls.specs.declared.call.Call.TheVariants as calls
@@ -10,13 +8,12 @@ use Rattle.dill_calls.specs.CallTable.{word_of}
 use Rattle.dill_calls.specs.Program.{Program, Lowers}
 use Rattle.dill_rules.specs.declared.coroutine.Coroutine.{Coroutine}
 use Rattle.dill_rules.specs.Answers.{answer_of}
-use Rattle.dill_rules.specs.Settling.{answer_due, IsSettled}
+use Rattle.dill_rules.specs.Settling.{IsSettled}
 use Rattle.dill_rules.specs.Taking.{is_cancelled}
-use Rattle.dill_rules.specs.World.{World, is_coroutine, coroutine_of, call_of, pending_call}
+use Rattle.dill_rules.specs.World.{World, coroutine_of, call_of}
 use Rattle.laws_queue.proofs.Numbers.{found_number}
 use Rattle.laws_sound.proofs.Going.{no_answer, pending_in}
 use Rattle.laws_sound.specs.Linkless.{may_wait}
-use Rattle.laws_queue.proofs.Lists.{all_found, found_passes, number_of}
 use Rattle.laws_debt.proofs.Walking.{AllSit, PendsIn, call_pends, pending_waits}
 
 pub cancels_some : (c : Bool) (x : Answer) (rest : Option Answer) → c ≡ true → option_or (if c then Some x else None) rest ≡ None → ⊥

@@ -1,21 +1,21 @@
 -- Closing the root once more changes nothing but the notes.
-use Rattle.std.proofs.Common.{◌≡◌, ◌∙◌, ℕ, zero, suc, List, [], ◌∷◌, ◌++◌, length, map, find, filter, Bool, true, false, cond, Option, Some, None, refl, sym, ap, subst}
+use Rattle.std.proofs.Common.{◌≡◌, ◌∙◌, ℕ, List, [], ◌∷◌, ◌++◌, length, map, find, filter, Bool, true, false, cond, Some, refl, sym, ap, subst}
 use Rattle.std.proofs.lemmas.Bool.{and_parts}
 use Rattle.std.proofs.lemmas.List.{append-nil}
 use Rattle.std.specs.List.{list_all}
 use Rattle.dill_calls.specs.Program.{Program}
 use Rattle.dill_scope.specs.declared.forest.Bundle.{Bundle}
 use Rattle.dill_scope.specs.Scopes as scopes
-use Rattle.dill_base.specs.Maps.{if_some, change, first_some}
+use Rattle.dill_base.specs.Maps.{if_some, change}
 use Rattle.dill_rules.specs.declared.coroutine.Coroutine.{Coroutine}
 use Rattle.dill_rules.specs.declared.coroutine.Mode.{Mode}
 use Rattle.dill_rules.specs.declared.coroutine.Mode.TheVariants as modes
-use Rattle.dill_rules.specs.World.{World, begin, from_start, pending_call}
-use Rattle.dill_rules.specs.Settling.{answer_due, finish, give_first, settle, settle_one, settle_within, IsSettled}
+use Rattle.dill_rules.specs.World.{World, begin, from_start}
+use Rattle.dill_rules.specs.Settling.{finish, give_first, settle, settle_one, settle_within, IsSettled}
 use Rattle.dill_rules.specs.Giving.{give}
 use Rattle.dill_rules.specs.State.{lined, lined_mode, is_fresh, fresh}
 use Rattle.laws_queue.specs.Kept.{Kept, queued, kept_shut}
-use Rattle.laws_sound.specs.Linkless.{IsLinkless, may_wait, waits_linkless}
+use Rattle.laws_sound.specs.Linkless.{IsLinkless}
 use Rattle.laws_queue.proofs.Settling.{within_same}
 use Rattle.laws_sound.proofs.Calming.{begin_settled}
 use Rattle.laws_sound.proofs.Linkless.{begin_linkless}

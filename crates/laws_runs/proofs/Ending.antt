@@ -1,5 +1,5 @@
 -- From a stop on each step brings the run nearer to its end.
-use Rattle.std.proofs.Common.{◌≡◌, ◌⊎◌, inl, inr, ◌∙◌, ℕ, zero, suc, ◌+◌, ◌*◌, ◌≤◌, is_some, Bool, true, false, refl, sym, ap, subst, arith}
+use Rattle.std.proofs.Common.{◌≡◌, ◌⊎◌, inl, inr, ℕ, zero, suc, ◌+◌, ◌*◌, ◌≤◌, is_some, Bool, true, refl, sym, ap, subst, arith}
 use Rattle.dill_calls.specs.Program.{Program}
 use Rattle.dill_rules.specs.State.{State}
 use Rattle.dill_drive.specs.ByRules.{machine_of}

@@ -1,5 +1,5 @@
 -- Each state of a run is steady and marked: the bundle of each noted closing is closing.
-use Rattle.std.proofs.Common.{◌≡◌, ◌∙◌, ℕ, ◌+◌, ◌≤◌, ◌<◌, ◌==◌, List, [], ◌∷◌, map, fold, find, Bool, true, false, cond, if◌then◌else◌, Option, Some, None, is_some, nat_le, refl, sym, ap, subst, arith}
+use Rattle.std.proofs.Common.{◌≡◌, ◌∙◌, ℕ, ◌+◌, ◌≤◌, ◌==◌, List, [], ◌∷◌, map, fold, find, Bool, true, false, cond, if◌then◌else◌, Option, Some, None, is_some, nat_le, refl, sym, ap, subst, arith}
 use Rattle.std.proofs.lemmas.Bool.Decides.{nat_tests}
 use Rattle.std.specs.List.{AllByRecursion}
 use Rattle.std.specs.Prelude.{option_and_then}

@@ -1,5 +1,5 @@
 -- Each step of a run behind its stop keeps: what was counted and what is owed are together no more than was owed.
-use Rattle.std.proofs.Common.{◌≡◌, ◌⊎◌, inl, inr, ◌∙◌, ℕ, zero, suc, ◌+◌, ◌≤◌, List, [], ◌++◌, length, Option, Some, None, Bool, true, false, ◌||◌, if◌then◌else◌, is_some, refl, sym, ap, subst, arith}
+use Rattle.std.proofs.Common.{◌≡◌, ◌⊎◌, inl, inr, ◌∙◌, ℕ, zero, suc, ◌+◌, ◌≤◌, length, Option, None, Bool, true, false, is_some, sym, ap, subst, arith}
 use Rattle.rand_core.specs.Stream.{Stream}
 use Rattle.dill_calls.specs.declared.ran.LackPlace.{LackPlace}
 use Rattle.dill_calls.specs.Program.{Program}

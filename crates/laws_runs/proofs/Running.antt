@@ -1,5 +1,5 @@
 -- Each step of a run up to its stop keeps: a stable core stands for the state, and nothing is counted. Or it is the stop.
-use Rattle.std.proofs.Common.{◌≡◌, ◌⊎◌, inl, inr, ◌∙◌, ℕ, zero, suc, ◌-◌, ◌≤◌, ◌^◌, ◌==◌, List, [], ◌∷◌, ◌++◌, length, Option, Some, None, Bool, true, false, not, ◌||◌, if◌then◌else◌, cond, find, refl, sym, ap, subst}
+use Rattle.std.proofs.Common.{◌≡◌, ◌⊎◌, inl, inr, ◌∙◌, ℕ, zero, suc, ◌≤◌, ◌^◌, ◌==◌, List, [], ◌∷◌, Some, Bool, true, false, cond, find, refl, sym, ap, subst}
 use Rattle.std.specs.List.{AllByRecursion}
 use Rattle.dill_scope.specs.declared.forest.Bundle.{Bundle}
 use Rattle.dill_scope.specs.Scopes.{is_bundle}
@@ -11,7 +11,7 @@ use Rattle.dill_rules.specs.Debts.{debt}
 use Rattle.laws_queue.specs.Laws.{KeepsWell}
 use Rattle.laws_runs.proofs.Owing.{owed_is_debt}
 use Rattle.laws_runs.proofs.Unshut.{IsOpenRoot, IsUnshut, expired_unshut, opening_unshut, turned_unshut, woke_unshut}
-use Rattle.dill_rules.specs.State.{State, opening_state, shut}
+use Rattle.dill_rules.specs.State.{State, opening_state}
 use Rattle.dill_drive.specs.ByRules.{machine_of}
 use Rattle.dill_drive.specs.Machine.{Machine}
 use Rattle.dill_drive.specs.Play.{Playing, advance, opening, play}

@@ -1,24 +1,19 @@
 -- Where nothing is due, who waits for a bundle to be empty waits for somebody who lives in it.
-use Rattle.std.proofs.Common.{◌≡◌, ◌∙◌, ℕ, ◌==◌, List, [], ◌∷◌, map, filter, find, Bool, true, false, ◌&&◌, cond, Option, Some, None, refl, sym, ap, subst}
-use Rattle.std.specs.List.{AllByRecursion, list_all}
+use Rattle.std.proofs.Common.{◌≡◌, ◌∙◌, ℕ, find, true, false, ◌&&◌, Option, Some, None, refl, sym, ap, subst}
 use Rattle.std.specs.Option.{option_or}
-use Rattle.std.specs.Prelude.{option_and_then}
 use Rattle.dill_base.specs.declared.deadline.Deadline.{Deadline}
 use Rattle.dill_base.specs.declared.errno.Errno.{Errno}
-use Rattle.dill_calls.specs.declared.answer.Answer.{Answer}
 use Rattle.dill_calls.specs.declared.call.Call.{Call}
 use Rattle.dill_calls.specs.declared.call.Call.TheVariants as calls
 use Rattle.dill_calls.specs.Program.{Program}
-use Rattle.dill_scope.specs.declared.forest.Bundle.{Bundle}
-use Rattle.dill_scope.specs.Scopes.{is_bundle, is_empty, owner_of}
-use Rattle.dill_base.specs.Maps.{if_some, first_some}
+use Rattle.dill_scope.specs.Scopes.{is_empty, owner_of}
+use Rattle.dill_base.specs.Maps.{if_some}
 use Rattle.dill_rules.specs.declared.coroutine.Closing.{Closing}
 use Rattle.dill_rules.specs.declared.coroutine.Coroutine.{Coroutine}
-use Rattle.dill_rules.specs.declared.coroutine.Mode.{Mode}
 use Rattle.dill_rules.specs.declared.coroutine.Mode.TheVariants as modes
 use Rattle.dill_rules.specs.Answers.{answer_of, bundle_dead_as, lost_its_number, when, when_empty}
 use Rattle.dill_rules.specs.Owning.{is_dead_as}
-use Rattle.dill_rules.specs.Settling.{answer_due, can_finish, is_clear, IsSettled}
+use Rattle.dill_rules.specs.Settling.{can_finish, is_clear, IsSettled}
 use Rattle.dill_rules.specs.Taking.{bundle_named, is_cancelled}
 use Rattle.dill_rules.specs.World.{World, call_of, coroutine_of, is_coroutine, is_ending, pending_call}
 use Rattle.laws_queue.specs.Lending.{wordless}
@@ -27,7 +22,6 @@ use Rattle.laws_sound.specs.Order.{closes, has_bundle, has_closing, IsInOrder}
 use Rattle.laws_sound.proofs.Going.{or_none, none_when, none_passes, ending_deeper, no_answer, pending_in}
 use Rattle.laws_queue.proofs.Numbers.{found_number}
 use Rattle.laws_sound.proofs.Sound.{owner_is}
-use Rattle.laws_debt.proofs.Tracking.{all_by_key}
 use Rattle.laws_runs.specs.Waits.{AwaitsLived, ClosesLived, OwnsLived, WaitsForSomebody, WaitingIsForSomebody}
 
 -- ---- who is ending
