@@ -1,5 +1,5 @@
 //! The core of coroutines: the world and a queue of those who have an answer. It takes the steps of the machine one after
-//! the other, and the driver runs it. The calls of channels and links are no part of it yet.
+//! the other, and the driver runs it. The calls of links are no part of it yet.
 #![tactic(auto)]
 
 mod crew;
