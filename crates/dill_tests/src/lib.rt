@@ -9,6 +9,8 @@ mod bodies;
 #[cfg(test)]
 mod calls;
 #[cfg(test)]
+mod channels;
+#[cfg(test)]
 mod frames;
 #[cfg(test)]
 mod handles;
