@@ -11,7 +11,7 @@ use Rattle.dill_drive.specs.ByRules.{machine_of}
 use Rattle.dill_drive.specs.Play.{Playing, play, opening}
 use Rattle.dill_rules.specs.State.{State, opening_state}
 use Rattle.dill_rows.specs.Bundles.{sleepers, sleeper, renumbers, closed_whole}
-use Rattle.dill_rows.specs.Channels.{unequal, chooses}
+use Rattle.dill_rows.specs.Channels.{unequal, chooses, two_choices}
 use Rattle.dill_rows.specs.Closing.{own_bundle, crossed, nested, closes_nothing, keeps_handle, owns_its_bundle, sleeper_and_yielder}
 use Rattle.dill_rows.specs.Connecting.{over}
 use Rattle.dill_rows.specs.Play.{Text, Play}
@@ -74,6 +74,9 @@ unequal_script = codes "dill 1\nprogram s 1\ntry chsend n0 \"abc\" -1\ntry chdon
 abbrev pub choosing : List ℕ
 choosing = codes "dill 1\nprogram s 1\nchsend n0 \"x\" -1\nend\nprogram main 0\nn0 n1 = chmake\nn2 n3 = chmake\ntry choose 0\ntry choose 0 recv n1 1 recv n3 1\nn4 = go s n0\nn5 = go s n2\nyield\nn6 b0 = choose -1 recv n3 1 recv n1 1\nprint n6 b0\nend\n"
 
+abbrev pub choosing_both : List ℕ
+choosing_both = codes "dill 1\nprogram w 2\nchoose -1 recv n0 1 recv n1 1\nend\nprogram main 0\nn0 n1 = chmake\nn2 n3 = chmake\nn4 = go w n1 n3\nyield\nchoose -1 send n2 \"b\" send n0 \"a\"\nend\n"
+
 abbrev pub dead_number : List ℕ
 dead_number = codes "dill 1\nprogram main 0\nhclose 9\nend\n"
 
@@ -114,6 +117,7 @@ pub record ScriptsPlay : Type 0 where
   pub nested_close : plays_as nested_script 40 nested ≡ true
   pub unequal_sizes : plays_as unequal_script 40 unequal ≡ true
   pub chosen : plays_as choosing 60 chooses ≡ true
+  pub choices_meet : plays_as choosing_both 40 two_choices ≡ true
   pub fault : plays_as dead_number 20 closes_nothing ≡ true
   pub stuck : plays_as sleeping 20 sleeper ≡ true
   pub own_bundle : plays_as own_bundle_script 30 own_bundle ≡ true

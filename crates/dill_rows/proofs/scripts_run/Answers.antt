@@ -35,7 +35,7 @@ returns-clause-prints c = record { prints = refl; prints_traced = refl; sleeps =
 
 pub returns-clause-plays : goal.returns-clause-plays
 unfolding digits network_reply network_after is_utf8 chars encode next_u32 prefix_front prefix_due suffix_front suffix_due is_token_byte front_of_line request_cut status_cut field_cut head_front composed is_invalid is_refused is_too_long attach_fault send_fault line_fault done_fault read_fault detach_fault frame line done withdraw ws_front passed shown read_list dropped read attach greet_fault expect_greet parting_fault detach_start detach_finish first_words schedule rounds compress hash_after digest_bytes sha1 encode_symbols groups_error groups_bytes scan_steps decoded_of next_line lines_at behind head_stop head_front_by client_asks server_agrees key_of client_front server_front greet greeted
-returns-clause-plays c = record { equal_deadlines = refl; renumbered = refl; closed = refl; crossed_gifts = refl; nested_close = refl; unequal_sizes = refl; chosen = refl; fault = refl; stuck = refl; own_bundle = refl; renumbered_without_close = refl; own_bundle_without_close = refl; sleeper_closed = refl }
+returns-clause-plays c = record { equal_deadlines = refl; renumbered = refl; closed = refl; crossed_gifts = refl; nested_close = refl; unequal_sizes = refl; chosen = refl; choices_meet = refl; fault = refl; stuck = refl; own_bundle = refl; renumbered_without_close = refl; own_bundle_without_close = refl; sleeper_closed = refl }
 
 pub returns-clause-links : goal.returns-clause-links
 unfolding digits network_reply network_after is_utf8 chars encode next_u32 prefix_front prefix_due suffix_front suffix_due is_token_byte front_of_line request_cut status_cut field_cut head_front composed is_invalid is_refused is_too_long attach_fault send_fault line_fault done_fault read_fault detach_fault frame line done withdraw ws_front passed shown read_list dropped read attach greet_fault expect_greet parting_fault detach_start detach_finish first_words schedule rounds compress hash_after digest_bytes sha1 encode_symbols groups_error groups_bytes scan_steps decoded_of next_line lines_at behind head_stop head_front_by client_asks server_agrees key_of client_front server_front greet greeted
