@@ -47,3 +47,4 @@ pub mod DropCuts
 pub mod GreetCuts
 pub mod DropTold
 pub mod FrameDrops
+pub mod TermFrameDrops

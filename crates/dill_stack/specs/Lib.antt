@@ -22,6 +22,7 @@ pub mod Breaking
 pub mod LineReading
 pub mod DropReading
 pub mod FrameDropping
+pub mod TermFrameDropping
 pub mod Interface
 pub mod RowTerms
 pub mod Rows

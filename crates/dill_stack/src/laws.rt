@@ -9,6 +9,7 @@ ghost use Rattle.dill_stack.specs.LineReading.{LineReadLaws};
 ghost use Rattle.dill_stack.specs.Messages.{MessageLaws};
 ghost use Rattle.dill_stack.specs.Passing.{PassesFrames};
 ghost use Rattle.dill_stack.specs.Staying.{FrontStays};
+ghost use Rattle.dill_stack.specs.TermFrameDropping.{TermFrameDropLaws};
 ghost use Rattle.dill_stack.specs.Spelling.{FramingLaws};
 
 use dill_frames::{prefix_laws, suffix_laws};
@@ -111,6 +112,18 @@ pub fn drop_laws()
 /// them: exactly where that is the peer's close frame, it meets its end.
 pub fn frame_drop_laws()
     ensures { FrameDropLaws }
+{
+    prefix_laws();
+    suffix_laws();
+    http_laws();
+    frame_laws();
+    front_laws();
+}
+
+/// The same of an end by a terminal message over a WebSocket layer: exactly where the terminal message stands behind other
+/// messages, the detach meets its end.
+pub fn term_frame_drop_laws()
+    ensures { TermFrameDropLaws }
 {
     prefix_laws();
     suffix_laws();
