@@ -1,6 +1,6 @@
 use crate::bodies::Brief;
 use crate::values::octets;
-use dill_base::Deadline;
+use dill_base::{Deadline, Errno};
 use dill_calls::{Answer, Args, Call, Clause, Clauses};
 use dill_rules::Mode;
 use dill_steps::{enter, settle};
@@ -9,18 +9,28 @@ use std::alloc::Global;
 use std::process::Abort;
 use std::test::Fail;
 
-/// A call of a coroutine, what it is told of it, and what another is told then.
-#[derive(Drop)]
-struct Row {
-    who: u64,
-    call: Call,
-    told: &'static [u8],
-    other: u64,
-    others: &'static [u8],
+/// What a coroutine is told of its call: nothing yet, that it is well, an errno, or how many bytes and which is the first.
+#[derive(Clone, Copy, PartialEq, Eq)]
+enum Told {
+    Nobody,
+    Waits,
+    Well,
+    Fault(Errno),
+    Bytes(usize, u8),
 }
 
-fn row(who: u64, call: Call, told: &'static [u8], other: u64, others: &'static [u8]) -> Row {
-    Row {
+/// A call of a coroutine, what it is told of it, and what another is told then.
+#[derive(Drop)]
+struct Entry {
+    who: u64,
+    call: Call,
+    told: Told,
+    other: u64,
+    others: Told,
+}
+
+fn row(who: u64, call: Call, told: Told, other: u64, others: Told) -> Entry {
+    Entry {
         who,
         call,
         told,
@@ -39,45 +49,52 @@ fn two(rt: &impl Abort, alloc: Global) -> Result<World<Brief>, Fail> {
     Ok(world)
 }
 
-/// What an answer tells: bytes, the name of an errno, or nothing but that it is well.
-fn told_of(answer: &Answer) -> &[u8] {
+fn bytes_told(bytes: &[u8]) -> Told {
+    match bytes.first() {
+        None => Told::Bytes(0, 0),
+        Some(first) => Told::Bytes(bytes.len(), *first),
+    }
+}
+
+/// What an answer tells. Of a choice it is the bytes of the clause 1, or the errno of the clause 0.
+fn told_of(answer: &Answer) -> Told {
     match answer {
-        Answer::Bytes(bytes) => bytes.as_slice(),
-        Answer::Fault(errno) => errno.name(),
+        Answer::Bytes(bytes) => bytes_told(bytes.as_slice()),
+        Answer::Fault(errno) => Told::Fault(*errno),
         Answer::Chosen {
             index: 1,
             fault: None,
             bytes: Some(bytes),
-        } => bytes.as_slice(),
+        } => bytes_told(bytes.as_slice()),
         Answer::Chosen {
             index: 0,
             fault: Some(errno),
             bytes: None,
-        } => errno.name(),
-        _ => b"well",
+        } => Told::Fault(*errno),
+        _ => Told::Well,
     }
 }
 
 /// What a coroutine is told of its call.
-fn told(world: &World<Brief>, who: u64) -> &[u8] {
+fn told_to(world: &World<Brief>, who: u64) -> Told {
     match world.coroutine_of(who) {
-        None => b"nobody",
+        None => Told::Nobody,
         Some(one) => match one.mode() {
+            Mode::Pending(_) => Told::Waits,
             Mode::Fresh(_, answer) => told_of(answer),
-            Mode::Pending(_) => b"waits",
-            _ => b"runs",
+            _ => Told::Nobody,
         },
     }
 }
 
 /// The calls are entered one after the other, and each time all settles.
-fn enter_each(rt: &impl Abort, alloc: Global, world: &mut World<Brief>, rows: &[Row]) {
+fn enter_each(rt: &impl Abort, alloc: Global, world: &mut World<Brief>, rows: &[Entry]) {
     for row in rows {
         assert!(rt; row.call.word().is_built());
         assert!(rt; !enter(alloc, world, row.who, &row.call, true));
         settle(world);
-        assert!(rt; told(world, row.who) == row.told);
-        assert!(rt; told(world, row.other) == row.others);
+        assert!(rt; told_to(world, row.who) == row.told);
+        assert!(rt; told_to(world, row.other) == row.others);
     }
 }
 
@@ -105,18 +122,24 @@ fn who_sends_meets_who_receives_by_equal_sizes(rt: HostRuntime) -> Result<(), Fa
     let fit = send(alloc, 3, b"ab")?;
     let back = send(alloc, 2, b"x")?;
     let rows = [
-        row(2, recv(2, 1), b"waits", 2, b"waits"),
-        row(1, short, b"EMSGSIZE", 2, b"EMSGSIZE"),
-        row(2, recv(2, 2), b"waits", 1, b"EMSGSIZE"),
-        row(1, fit, b"well", 2, b"ab"),
-        row(2, back, b"waits", 1, b"well"),
-        row(1, recv(3, 1), b"x", 2, b"well"),
+        row(2, recv(2, 1), Told::Waits, 2, Told::Waits),
+        row(
+            1,
+            short,
+            Told::Fault(Errno::Emsgsize),
+            2,
+            Told::Fault(Errno::Emsgsize),
+        ),
+        row(2, recv(2, 2), Told::Waits, 1, Told::Fault(Errno::Emsgsize)),
+        row(1, fit, Told::Well, 2, Told::Bytes(2, 97)),
+        row(2, back, Told::Waits, 1, Told::Well),
+        row(1, recv(3, 1), Told::Bytes(1, 120), 2, Told::Well),
         row(
             1,
             Call::Chrecv(3, 1, Deadline::At(0)),
-            b"ETIMEDOUT",
+            Told::Fault(Errno::Etimedout),
             2,
-            b"well",
+            Told::Well,
         ),
     ];
     enter_each(&rt, alloc, &mut world, &rows);
@@ -129,11 +152,29 @@ fn a_direction_that_is_done_takes_and_gives_nothing(rt: HostRuntime) -> Result<(
     let mut world = two(&rt, alloc)?;
     let late = send(alloc, 3, b"")?;
     let rows = [
-        row(2, recv(2, 1), b"waits", 2, b"waits"),
-        row(1, Call::Chdone(3), b"well", 2, b"EPIPE"),
-        row(1, Call::Chdone(3), b"EPIPE", 2, b"EPIPE"),
-        row(1, late, b"EPIPE", 2, b"EPIPE"),
-        row(2, recv(2, 0), b"EPIPE", 1, b"EPIPE"),
+        row(2, recv(2, 1), Told::Waits, 2, Told::Waits),
+        row(1, Call::Chdone(3), Told::Well, 2, Told::Fault(Errno::Epipe)),
+        row(
+            1,
+            Call::Chdone(3),
+            Told::Fault(Errno::Epipe),
+            2,
+            Told::Fault(Errno::Epipe),
+        ),
+        row(
+            1,
+            late,
+            Told::Fault(Errno::Epipe),
+            2,
+            Told::Fault(Errno::Epipe),
+        ),
+        row(
+            2,
+            recv(2, 0),
+            Told::Fault(Errno::Epipe),
+            1,
+            Told::Fault(Errno::Epipe),
+        ),
     ];
     enter_each(&rt, alloc, &mut world, &rows);
     Ok(())
@@ -150,17 +191,17 @@ fn a_choice_takes_its_least_clause_that_can_be_done(rt: HostRuntime) -> Result<(
     let again = choice(alloc, Clause::Recv(4, 1), Clause::Recv(2, 1))?;
     let dead = choice(alloc, Clause::Recv(2, 1), Clause::Recv(4, 1))?;
     let rows = [
-        row(2, waiting, b"waits", 2, b"waits"),
-        row(1, sending, b"well", 2, b"b"),
-        row(2, again, b"waits", 1, b"well"),
-        row(1, Call::Hclose(4), b"well", 2, b"EBADF"),
-        row(2, dead, b"EBADF", 1, b"well"),
+        row(2, waiting, Told::Waits, 2, Told::Waits),
+        row(1, sending, Told::Well, 2, Told::Bytes(1, 98)),
+        row(2, again, Told::Waits, 1, Told::Well),
+        row(1, Call::Hclose(4), Told::Well, 2, Told::Fault(Errno::Ebadf)),
+        row(2, dead, Told::Fault(Errno::Ebadf), 1, Told::Well),
         row(
             2,
             Call::Choose(Deadline::Never, Clauses::new(alloc)),
-            b"EINVAL",
+            Told::Fault(Errno::Einval),
             1,
-            b"well",
+            Told::Well,
         ),
     ];
     enter_each(&rt, alloc, &mut world, &rows);
@@ -173,9 +214,15 @@ fn who_is_cancelled_receives_nothing(rt: HostRuntime) -> Result<(), Fail> {
     let mut world = two(&rt, alloc)?;
     let item = send(alloc, 3, b"a")?;
     let rows = [
-        row(2, recv(2, 1), b"waits", 2, b"waits"),
-        row(1, Call::Hclose(1), b"waits", 2, b"ECANCELED"),
-        row(2, recv(2, 1), b"ECANCELED", 1, b"waits"),
+        row(2, recv(2, 1), Told::Waits, 2, Told::Waits),
+        row(
+            1,
+            Call::Hclose(1),
+            Told::Waits,
+            2,
+            Told::Fault(Errno::Ecanceled),
+        ),
+        row(2, recv(2, 1), Told::Fault(Errno::Ecanceled), 1, Told::Waits),
     ];
     enter_each(&rt, alloc, &mut world, &rows);
     world.end(2, None);
@@ -184,7 +231,7 @@ fn who_is_cancelled_receives_nothing(rt: HostRuntime) -> Result<(), Fail> {
         &rt,
         alloc,
         &mut world,
-        &[row(1, item, b"waits", 2, b"nobody")],
+        &[row(1, item, Told::Waits, 2, Told::Nobody)],
     );
     Ok(())
 }
@@ -197,12 +244,12 @@ fn each_coroutine_has_a_seat_at_channels(rt: HostRuntime) -> Result<(), Fail> {
         row(
             1,
             Call::BundleGo(1, 0, Args::new(alloc)),
-            b"well",
+            Told::Well,
             3,
-            b"well",
+            Told::Well,
         ),
-        row(3, recv(2, 1), b"waits", 2, b"well"),
-        row(2, recv(4, 1), b"waits", 3, b"waits"),
+        row(3, recv(2, 1), Told::Waits, 2, Told::Well),
+        row(2, recv(4, 1), Told::Waits, 3, Told::Waits),
     ];
     enter_each(&rt, alloc, &mut world, &rows);
     world.end(3, None);
@@ -211,12 +258,12 @@ fn each_coroutine_has_a_seat_at_channels(rt: HostRuntime) -> Result<(), Fail> {
         row(
             1,
             Call::BundleGo(1, 0, Args::new(alloc)),
-            b"well",
+            Told::Well,
             3,
-            b"nobody",
+            Told::Nobody,
         ),
-        row(4, recv(2, 1), b"waits", 2, b"waits"),
-        row(1, recv(5, 1), b"waits", 4, b"waits"),
+        row(4, recv(2, 1), Told::Waits, 2, Told::Waits),
+        row(1, recv(5, 1), Told::Waits, 4, Told::Waits),
     ];
     enter_each(&rt, alloc, &mut world, &rows);
     Ok(())
