@@ -67,12 +67,7 @@ fn enter(ends: &[End], waits: &mut Vec<Wait>, wait: Wait) -> Meeting
 }
 
 /// What would come of a clause, with a copy of the bytes.
-fn comes_of(
-    alloc: Global,
-    ends: &[End],
-    waits: &[Wait],
-    wait: &Wait,
-) -> Result<Meeting, NoMemory>
+fn comes_of(alloc: Global, ends: &[End], waits: &[Wait], wait: &Wait) -> Result<Meeting, NoMemory>
     ensures { IfOk result (λ m. m ≡ meeting (channels_of ends.now waits.now 0) wait.now.who wait.now.end wait.now.want) }
 {
     if has_ended(ends, wait.end, &wait.want) {

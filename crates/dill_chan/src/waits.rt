@@ -43,7 +43,12 @@ fn place_of_partner(waits: &[Wait], who: u64, other: u64, want: &Want) -> Option
 }
 
 /// The clause that has waited longest of those that can be met.
-pub(crate) fn find_partner<'a>(waits: &'a [Wait], who: u64, other: u64, want: &Want) -> Option<&'a Wait>
+pub(crate) fn find_partner<'a>(
+    waits: &'a [Wait],
+    who: u64,
+    other: u64,
+    want: &Want,
+) -> Option<&'a Wait>
     ensures { option_copied result ≡ find (could_meet who other want.now) waits.now }
 {
     waits.iter().find(|x| can_meet(who, other, want, x))
@@ -155,7 +160,11 @@ fn turned_answers(alloc: Global, bytes: &[u8], size: u64) -> Result<(Answer, Ans
 }
 
 /// The caller's answer and the other's, with a copy of the bytes.
-fn copied_answers_of(alloc: Global, want: &Want, others: &Want) -> Result<(Answer, Answer), NoMemory>
+fn copied_answers_of(
+    alloc: Global,
+    want: &Want,
+    others: &Want,
+) -> Result<(Answer, Answer), NoMemory>
     ensures { IfOk result (λ both. both ≡ answers_of want.now others.now) }
 {
     match want {

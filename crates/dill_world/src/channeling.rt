@@ -140,12 +140,7 @@ impl<B> World<B> {
     }
 
     /// The clauses of a choice, as they wait at their ends.
-    fn each_wait(
-        &self,
-        alloc: Global,
-        who: u64,
-        clauses: &[Clause],
-    ) -> Result<Vec<Wait>, NoMemory>
+    fn each_wait(&self, alloc: Global, who: u64, clauses: &[Clause]) -> Result<Vec<Wait>, NoMemory>
         requires { length clauses.now ≤ 16 }
         ensures { IfOk result (λ waits. waits.items ≡ waits_of (world_of self.now) who 0 clauses.now) }
     {
@@ -265,12 +260,7 @@ impl<B: Drop> World<B> {
 
     /// A call that isn't refused enters its clauses at channels: the least that can be done decides, or all of them wait. Refused,
     /// nothing changes.
-    pub fn enter_channel(
-        &mut self,
-        alloc: Global,
-        who: u64,
-        call: &Call,
-    ) -> Result<(), NoMemory>
+    pub fn enter_channel(&mut self, alloc: Global, who: u64, call: &Call) -> Result<(), NoMemory>
         requires { enters_channel call.now ≡ true }
         ensures ok { OnOk result (world_of self.new ≡ channeling.enter_channel (world_of self.old) who call.now) }
         ensures err { OnErr result (world_of self.new ≡ world_of self.old) }
