@@ -1,4 +1,3 @@
-use Rattle.std.proofs.Common.{IfOk, subst, ◌∙◌}
 use Rattle.dill_chan.proofs.Waiting.{comes_with}
 use Rattle.dill_chan.proofs.channels.Channels.comes_of.Goals as goal
 

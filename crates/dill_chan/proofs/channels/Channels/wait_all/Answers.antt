@@ -1,7 +1,6 @@
-use Rattle.std.proofs.Common.{◌≡◌, ◌+◌, ◌≤◌, ◌++◌, length, true, false, ap, sym, subst, vec_len, vec_capacity, arith, ◌∙◌}
+use Rattle.std.proofs.Common.{◌≡◌, true, ap, arith}
 use Rattle.std.proofs.lemmas.Bool.{and_parts, not-true}
 use Rattle.std.specs.Prelude.{not}
-use Rattle.dill_chan.specs.declared.end.Wait.{Wait}
 use Rattle.dill_chan.specs.Seats.{has_seat, has_room_for, is_waiting, seated}
 use Rattle.dill_chan.specs.Seats as seats
 use Rattle.dill_chan.proofs.Waiting.{held_all, all_fit, appended}

@@ -1,7 +1,6 @@
-use Rattle.std.proofs.Common.{◌≡◌, ◌∙◌, Some, None, ap, sym}
+use Rattle.std.proofs.Common.{◌≡◌, ◌∙◌, ap, sym}
 use Rattle.dill_chan.specs.Choosing as choosing
 use Rattle.dill_rules.specs.Channeling as channeling
-use Rattle.dill_rules.specs.World as worlds
 use Rattle.dill_world.specs.Channeled.{waits_of}
 use Rattle.dill_world.specs.Store.{world_of}
 use Rattle.dill_world.proofs.Channeled.{on_ok, entered_some, entered_none}
