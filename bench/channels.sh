@@ -19,7 +19,7 @@ time_it() {
 
 echo "kind      coroutines messages  seconds messages/s"
 for members in "$@"; do
-    rounds=$((20000 / members))
+    rounds=$((2000000 / (members * members)))
     [ "$rounds" -gt 0 ] || rounds=1
     cat >"$script" <<END
 dill 1

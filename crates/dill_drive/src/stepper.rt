@@ -56,12 +56,11 @@ pub trait Stepper: Sized + Drop {
     fn offered(&self) -> &[u8]
         ensures { result.now ≡ offers self.now };
 
-    /// The reply to what is asked next.
+    /// The reply to what is asked next, where it is one to that.
     fn hear<R: Rng>(&mut self, reply: Reply<'_>, keys: &mut R)
-        requires due { fits_due (means.next_try self.old) (said reply) ≡ true }
-        ensures after { self.new ≡ (hear_due means self.old (said reply.entry) (R.stream keys.old)).0 }
-        ensures random { R.stream keys.new ≡ (hear_due means self.old (said reply.entry) (R.stream keys.old)).1 }
-        ensures fewer { tries self.new < tries self.old };
+        ensures after { fits_due (means.next_try self.old) (said reply.entry) ≡ true → self.new ≡ (hear_due means self.old (said reply.entry) (R.stream keys.old)).0 }
+        ensures random { fits_due (means.next_try self.old) (said reply.entry) ≡ true → R.stream keys.new ≡ (hear_due means self.old (said reply.entry) (R.stream keys.old)).1 }
+        ensures fewer { fits_due (means.next_try self.old) (said reply.entry) ≡ true → tries self.new < tries self.old };
 
     /// The deadlines that have passed are answered.
     fn expire(&mut self)

@@ -1,5 +1,5 @@
 -- A machine without coroutines, for the tests of the driver: it makes a listener and a link, writes and reads in one round, and lets both go once its `main` has ended.
-use Rattle.std.specs.Prelude.{◌≡◌, ℕ, zero, suc, ◌+◌, List, [], ◌∷◌, Option, Some, None, true, false, nat_le, if◌then◌else◌}
+use Rattle.std.specs.Prelude.{◌≡◌, ℕ, zero, suc, ◌+◌, ◌==◌, List, [], ◌∷◌, Option, Some, None, true, false, nat_le, if◌then◌else◌}
 use Rattle.dill_base.specs.declared.status.Address.{Address}
 use Rattle.dill_base.specs.declared.errno.Errno.{Errno}
 use Rattle.dill_calls.specs.declared.answer.Answer.TheVariants.{Number}
@@ -34,7 +34,7 @@ ended_after heard = if nat_le 4 heard then Some None else None
 abbrev pub visitor : Machine ℕ
 visitor = record {
   ended = ended_after;
-  answered = λ s. false;
+  answered = λ s. s == 3;
   stuck = λ s. false;
   limit = λ s. NoWait;
   woke = λ s moment ready. s;
@@ -52,5 +52,5 @@ visitor = record {
 }
 
 -- once its `main` has ended, nobody needs an answer
-pub rests : (s : ℕ) → ended_after s ≡ Some None → ended_after s ≡ None → false ≡ true
+pub rests : (s : ℕ) → ended_after s ≡ Some None → ended_after s ≡ None → (s == 3) ≡ true
 rests s closed going = cc
