@@ -14,3 +14,4 @@ pub mod Asked
 pub mod Counting
 pub mod Linking
 pub mod Shorts
+pub mod Lookless

@@ -259,7 +259,7 @@ module _ {V : Type 0} where
   pub rests_then : (w v u : World V) → Rests w v → Rests v u → Rests w u
   rests_then w v u a b = record { restful = b.restful; random = b.random ∙ a.random }
 
-  named_link : (w : World V) (n l : ℕ) → link_number w n ≡ Some l → Names w n l
+  pub named_link : (w : World V) (n l : ℕ) → link_number w n ≡ Some l → Names w n l
   named_link w n l e = at (entry_of w n) refl e
     where
       at : (o : Option (Entry Thing)) → entry_of w n ≡ o → if_some o None (λ x. link_of x.thing) ≡ Some l → Names w n l
@@ -436,18 +436,18 @@ module _ {V : Type 0} where
           let p : Pends w x.0 x.1 = record { one = i.0; there = i.1; number = d.0; mode = d.1 } in
           give_rests w x.0 x.1 x.2 r p (due_unread w x.0 x.1 x.2 r p d.2)
 
-  one_rests : (w : World V) → Restful w → Rests w (settle_one w)
+  pub one_rests : (w : World V) → Restful w → Rests w (settle_one w)
   one_rests w r = at (find (can_finish w) w.coroutines)
     where
       at : (o : Option (Coroutine V)) → Rests w (if_some o (give_first w) (finish w))
       at None = first_rests w r
       at (Some c) = rests_calmly w (finish w c) r (calmly_finish w c)
 
-  within_rests : (k : ℕ) (w : World V) → Restful w → Rests w (settle_within k w)
+  pub within_rests : (k : ℕ) (w : World V) → Restful w → Rests w (settle_within k w)
   within_rests zero w r = record { restful = r; random = refl }
   within_rests (suc k) w r = let one = one_rests w r in rests_then w (settle_one w) (settle_within k (settle_one w)) one (within_rests k (settle_one w) one.restful)
 
-  passes_rest : (w : World V) → Restful w → pass_all w ≡ w
+  pub passes_rest : (w : World V) → Restful w → pass_all w ≡ w
   passes_rest w r = calm_all w.coroutines w (λ c i call e rd n l x f g h. r.calm c.number call n l x (record { one = c; there = i; number = refl; mode = e }) rd f (named_link w n l g) h)
 
   pub settle_rests : (w : World V) → Restful w → Rests w (settle w)
@@ -521,7 +521,7 @@ member_found n (y ∷ ys) x l i e = at (has_number n y) refl i (λ j k. member_f
     at false g (inr j) rest = let none : bit (has_number n y) ≡ 0 = ap bit g in rest j (omega (arith, l, none))
 
 module _ {V : Type 0} where
-  names_number : (w : World V) (n l : ℕ) → IsInOrder w → Names w n l → link_number w n ≡ Some l
+  pub names_number : (w : World V) (n l : ℕ) → IsInOrder w → Names w n l → link_number w n ≡ Some l
   names_number w n l o p = ap (λ q. if_some q None (λ x. link_of x.thing)) (member_found n w.handles.entries p.entry (once w n o.fits) p.there p.number) ∙ p.link
 
   -- behind the looks of a settled world no look finds anything

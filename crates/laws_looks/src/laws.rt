@@ -1,5 +1,6 @@
 ghost use Rattle.laws_looks.specs.Calm.{DrawsNothing, KeepsCalm};
 ghost use Rattle.laws_looks.specs.Keeping.{CountsLinks, LinksAreKept};
+ghost use Rattle.laws_looks.specs.OneLook.{OneLookSettles};
 ghost use Rattle.laws_looks.specs.Readers.{KeepsApart, LooksSettle};
 ghost use Rattle.laws_looks.specs.Short.{NeedsAreShort};
 
@@ -57,3 +58,8 @@ pub fn needs_are_short<B: Body>()
     http_laws();
     handshake_laws();
 }
+
+/// Where no look finds anything, settling needs none: so it is with what expires, and as the root closes.
+pub fn one_look_settles<B: Body>()
+    ensures { OneLookSettles B }
+{}

@@ -1,0 +1,5 @@
+use Rattle.laws_looks.proofs.Lookless.{one_look_settles}
+use Rattle.laws_looks.proofs.laws.one_look_settles.Goals as goal
+
+pub returns : goal.returns
+returns g c = one_look_settles
