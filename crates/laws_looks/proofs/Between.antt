@@ -53,7 +53,7 @@ use Rattle.laws_looks.proofs.Hears.{heard_apart}
 use Rattle.laws_looks.proofs.Restful.{calmly_same, calmly_mark, calmly_lined, calmly_rests, settles_from}
 use Rattle.laws_looks.proofs.Steps.{opening_apart}
 
-none_find : {X : Type 0} (f : X → Bool) (xs : List X) → ((x : X) → In x xs → f x ≡ false) → find f xs ≡ None
+pub none_find : {X : Type 0} (f : X → Bool) (xs : List X) → ((x : X) → In x xs → f x ≡ false) → find f xs ≡ None
 none_find f [] h = refl
 none_find f (x ∷ xs) h = ap (λ b. cond b (Some x) (find f xs)) (h x (inl refl)) ∙ none_find f xs (λ y i. h y (inr i))
 
@@ -116,7 +116,7 @@ module _ {V : Type 0} where
   }
 
   -- what no answer looks at
-  calm_beside : (w : World V) (place : Place) (wrote : List ℕ) (moment : ℕ) (notes : List Note) → IsCalm w → IsCalm (aside w w.coroutines w.links w.random place wrote moment notes)
+  pub calm_beside : (w : World V) (place : Place) (wrote : List ℕ) (moment : ℕ) (notes : List Note) → IsCalm w → IsCalm (aside w w.coroutines w.links w.random place wrote moment notes)
   calm_beside w place wrote moment notes c =
       let v = aside w w.coroutines w.links w.random place wrote moment notes in
       record { apart = fewer_apart w v (fewer_same w v refl refl refl) c.apart; settled = settled_beside w w.links w.random place wrote moment notes (λ call e. e) c.settled; restful = calmly_rests w v (calmly_same w v refl refl refl refl) c.restful }
@@ -144,7 +144,7 @@ module _ {V : Type 0} where
           at true (Some n) f = linked call (link_named w n) f
 
   -- a link that is hot answers as before
-  heat_answers : (w : World V) (n : ℕ) (read write : Bool) (call : Call) → link_answer w call ≡ None → link_answer (on_link w n (heated read write)) call ≡ None
+  pub heat_answers : (w : World V) (n : ℕ) (read write : Bool) (call : Call) → link_answer w call ≡ None → link_answer (on_link w n (heated read write)) call ≡ None
   heat_answers w n read write call e = at (is_on_stack (word_of call)) (named_by call) e
     where
       hot : Links

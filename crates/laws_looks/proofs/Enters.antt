@@ -346,8 +346,8 @@ module _ {V : Type 0} where
   not_awaited w test other more e p = ap (λ q. if_some q false test) (sym p.mode) ∙ none_passes (λ (d : Coroutine V). if_some (pending_call d.mode) false test) w.coroutines e p.one p.there
 
   -- what it isn't refused for beside another pending call on its number
-  record Fit (w : World V) (call : Call) : Type 0 where
-    taker : (n other : ℕ) (more : Call) → Pends w other more → named_by call ≡ Some n → named_by more ≡ Some n → (is_handshake (word_of call) || gives_up (word_of call)) ≡ true → ⊥
+  pub record Fit (w : World V) (call : Call) : Type 0 where
+    pub taker : (n other : ℕ) (more : Call) → Pends w other more → named_by call ≡ Some n → named_by more ≡ Some n → (is_handshake (word_of call) || gives_up (word_of call)) ≡ true → ⊥
     occupied : (n other : ℕ) (more : Call) → Pends w other more → named_by call ≡ Some n → named_by more ≡ Some n → reads more ≡ true → (is_handshake (word_of more) || gives_up (word_of more)) ≡ true → ⊥
     second : (n other : ℕ) (more : Call) → Pends w other more → named_by call ≡ Some n → named_by more ≡ Some n → is_receive (word_of call) ≡ true → is_receive (word_of more) ≡ true → ⊥
 
@@ -404,7 +404,7 @@ module _ {V : Type 0} where
       beside n one two c d k m s (inr e) (inr f) = absurd (send_reads (is_send (word_of d)) (is_on_stack (word_of d)) (ap (λ x. is_send (word_of x)) (its d (looks n d s) f.1 ∙ sym (its c (says c k) e.1)) ∙ k) (parts n d s).0)
 
   module _ (p : Program V) where
-    fits : (w : World V) (who : ℕ) (view : V) (call : Call) → refuse p w who view call ≡ None → Fit w call
+    pub fits : (w : World V) (who : ℕ) (view : V) (call : Call) → refuse p w who view call ≡ None → Fit w call
     fits w who view call e = record { taker = taker; occupied = occupied; second = second }
       where
         u : NotBusy (holds p w who view call)

@@ -15,3 +15,6 @@ pub mod Counting
 pub mod Linking
 pub mod Shorts
 pub mod Lookless
+pub mod Stirring
+pub mod Stirred
+pub mod Replies

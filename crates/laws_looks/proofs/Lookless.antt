@@ -26,7 +26,7 @@ use Rattle.dill_rules.specs.Settling.{can_finish, finish, answer_due, give_first
 use Rattle.laws_queue.specs.Kept.{Kept, kept_expire_next, kept_late, root_closed}
 use Rattle.laws_looks.specs.Readers.{In, Pends, reads}
 use Rattle.laws_looks.specs.Calm.{Spent, Restful}
-use Rattle.laws_looks.specs.OneLook.{stack_lookless, link_lookless, own_lookless, lookless_of, lookless_due, give_lookless, settle_one_lookless, lookless_within, settle_lookless, OneLookSettles}
+use Rattle.laws_looks.specs.OneLook.{stack_lookless, link_lookless, own_lookless, lookless_of, lookless_due, give_lookless, settle_one_lookless, lookless_within, settle_lookless}
 use Rattle.laws_looks.proofs.Lists.{some_same}
 use Rattle.laws_looks.proofs.Quieted.{Calm, due_as}
 use Rattle.laws_looks.proofs.Restful.{Rests, rests_then, named_link, calmly_same, calmly_rests, calmly_lined, expire_rests, one_rests, within_rests, passes_rest}
@@ -43,7 +43,7 @@ stack_same call u x h = ap (λ o. if is_broken_for (word_of call) x.stack then S
     at false false true g = refl
     at false false false g = ap answer_said (g refl)
 
-join_looks : (a b : Bool) → a ≡ true → b ≡ false → (a && not b) ≡ true
+pub join_looks : (a b : Bool) → a ≡ true → b ≡ false → (a && not b) ≡ true
 join_looks true true e f = cc
 join_looks true false e f = refl
 join_looks false b e f = cc
@@ -121,10 +121,3 @@ module _ {V : Type 0} where
 
   pub closing_rests : (w : World V) → Restful w → Restful (root_closed w)
   closing_rests w r = calmly_rests w (root_closed w) (calmly_same w (root_closed w) refl refl refl refl) r
-
-pub one_look_settles : {V : Type 0} → OneLookSettles V
-one_look_settles = record {
-  rests = rest_settles;
-  expires = λ k r. rest_settles (kept_late k).world (expiry_rests k r);
-  shuts = λ k r. rest_settles (root_closed k.world) (closing_rests k.world r);
-}

@@ -44,7 +44,7 @@ use Rattle.laws_looks.proofs.Twice.{said_blind, looks_twice, close_looks, KeepsW
 -- ---- lists
 
 module _ {V : Type 0} where
-  above : (low high : ℕ) (cs : List (Coroutine V)) (c : Coroutine V) → Numbered low cs high → In c cs → low < c.number
+  pub above : (low high : ℕ) (cs : List (Coroutine V)) (c : Coroutine V) → Numbered low cs high → In c cs → low < c.number
   above low high [] c n i = absurd i
   above low high (x ∷ cs) c n (inl same) = subst (λ d. low < d.number) (sym same) n.0
   above low high (x ∷ cs) c n (inr i) = let r = above x.number high cs c n.1 i in omega (arith, r, n.0)
@@ -406,7 +406,7 @@ module _ {V : Type 0} where
     pub calm : (d : Coroutine V) → In d cs → (more : Call) → pending_call d.mode ≡ Some more → reads more ≡ true → (c ≡ d) ⊎ Calm w more → Calm v more
 
   module _ (laws : LooksAgain) where
-    pass_step : (w : World V) (cs : List (Coroutine V)) (c : Coroutine V) → Readers w cs → In c cs → Waits w cs → Step w (pass_one w c) cs c
+    pub pass_step : (w : World V) (cs : List (Coroutine V)) (c : Coroutine V) → Readers w cs → In c cs → Waits w cs → Step w (pass_one w c) cs c
     pass_step w cs c r i waits = at (pending_call c.mode) refl
       where
         rests : ((d : Coroutine V) → c ≡ d → (more : Call) → pending_call d.mode ≡ Some more → reads more ≡ true → ⊥) → Step w w cs c
@@ -483,7 +483,7 @@ module _ {V : Type 0} where
       at None h k = h
       at (Some a) h k = cc
 
-  waits_due : (w : World V) (cs : List (Coroutine V)) → Waits w cs → first_some (answer_due w) cs ≡ None
+  pub waits_due : (w : World V) (cs : List (Coroutine V)) → Waits w cs → first_some (answer_due w) cs ≡ None
   waits_due w cs h = none_first (answer_due w) cs (λ c i. at c i (pending_call c.mode) refl)
     where
       at : (c : Coroutine V) → In c cs → (o : Option Call) → pending_call c.mode ≡ o → if_some o None (λ call. if_some (answer_of w c.number call) None (λ answer. due_as c.number call answer)) ≡ None
@@ -491,7 +491,7 @@ module _ {V : Type 0} where
       at c i (Some call) e = ap (λ o. if_some o None (λ answer. due_as c.number call answer)) (h c i call e)
 
   -- a calm look leaves the world
-  calm_looks : (w : World V) (call : Call) → Calm w call → look_on w call ≡ w
+  pub calm_looks : (w : World V) (call : Call) → Calm w call → look_on w call ≡ w
   calm_looks w call calm = at (look_cases w call)
     where
       at : Missing w call ⊎ Found w call → look_on w call ≡ w
@@ -501,7 +501,7 @@ module _ {V : Type 0} where
           f.is ∙ ap (λ l. with_look w (change_link w.links f.link (with_stack (λ old. l.stack))) l.random) s
           ∙ ap (λ all. with_look w (record w.links { all = all }) w.random) (put_same f.link f.x.stack w.links.all f.x f.there refl)
 
-  calm_passes : (w : World V) (c : Coroutine V) → ((call : Call) → pending_call c.mode ≡ Some call → reads call ≡ true → Calm w call) → pass_one w c ≡ w
+  pub calm_passes : (w : World V) (c : Coroutine V) → ((call : Call) → pending_call c.mode ≡ Some call → reads call ≡ true → Calm w call) → pass_one w c ≡ w
   calm_passes w c h = at (pending_call c.mode) refl
     where
       by : (call : Call) → pending_call c.mode ≡ Some call → (b : Bool) → reads call ≡ b → (if b then look_on w call else w) ≡ w

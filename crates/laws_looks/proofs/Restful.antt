@@ -144,7 +144,7 @@ module _ {V : Type 0} where
     stacks = λ l y i. let s = b.stacks l y i in let r = a.stacks l s.0 s.1 in (r.0, r.1, s.2 ∙ r.2);
   }
 
-  calmly_some : {A : Type 0} (o : Option A) (w : World V) (f : A → World V) → ((a : A) → Calmly w (f a)) → Calmly w (if_some o w f)
+  pub calmly_some : {A : Type 0} (o : Option A) (w : World V) (f : A → World V) → ((a : A) → Calmly w (f a)) → Calmly w (if_some o w f)
   calmly_some None w f h = calmly_same w w refl refl refl refl
   calmly_some (Some a) w f h = h a
 
@@ -152,7 +152,7 @@ module _ {V : Type 0} where
   calmly_each f [] w h = calmly_same w w refl refl refl refl
   calmly_each f (x ∷ xs) w h = calmly_then w (f w x) (fold f (f w x) xs) (h w x) (calmly_each f xs (f w x) h)
 
-  calmly_reply : (w : World V) (who : ℕ) (word : Word) (answer : Answer) → Calmly w (reply w who word answer)
+  pub calmly_reply : (w : World V) (who : ℕ) (word : Word) (answer : Answer) → Calmly w (reply w who word answer)
   calmly_reply w who word answer = record {
     random = refl;
     pends = (fewer_reply w who word answer).calls;
@@ -183,7 +183,7 @@ module _ {V : Type 0} where
     stacks = λ l y i. (y, i, refl);
   }
 
-  calmly_release : (w : World V) (number : ℕ) → Calmly w (release w number)
+  pub calmly_release : (w : World V) (number : ℕ) → Calmly w (release w number)
   calmly_release w number =
       calmly_some (entry_of w number) w (λ x. note (drop (record w { handles = handles.retire w.handles number }) x.thing) (Freed number))
       (λ x. let less : World V = record w { handles = handles.retire w.handles number } in
@@ -197,13 +197,13 @@ module _ {V : Type 0} where
     stacks = λ l y i. (y, i, refl);
   }
 
-  calmly_up : (w : World V) (who : ℕ) (call : Call) (e : Errno) (kept : ℕ) → Calmly w (give_stack_up w who call e kept)
+  pub calmly_up : (w : World V) (who : ℕ) (call : Call) (e : Errno) (kept : ℕ) → Calmly w (give_stack_up w who call e kept)
   calmly_up w who call e kept =
       let less : World V = record w { handles = handles.unkeep w.handles kept } in
       let v = if_some (named_by call) w (λ number. release less number) in
       calmly_then w v (reply v who (word_of call) (Fault e)) (calmly_some (named_by call) w (λ number. release less number) (λ number. calmly_then w less (release less number) (calmly_unkept w kept) (calmly_release less number))) (calmly_reply v who (word_of call) (Fault e))
 
-  calmly_forgone : (w : World V) (who : ℕ) → Calmly w (forgo w who)
+  pub calmly_forgone : (w : World V) (who : ℕ) → Calmly w (forgo w who)
   calmly_forgone w who =
       let less : World V = record w { handles = handles.unkeep w.handles 1 } in
       calmly_then w less (forgo w who) (calmly_unkept w 1) (at less (find (is_connecting_for who) w.links.all))
@@ -212,7 +212,7 @@ module _ {V : Type 0} where
       at less None = record { random = refl; pends = λ who call p. record { one = p.one; there = p.there; number = p.number; mode = p.mode }; names = λ n l p. record { entry = p.entry; there = p.there; number = p.number; link = p.link }; stacks = λ l y i. (y, i, refl) }
       at less (Some x) = calmly_mark less x.number as_closing (λ y. refl) (λ y. refl)
 
-  calmly_free : (w : World V) (x : Closing) → Calmly w (free_bundle w x)
+  pub calmly_free : (w : World V) (x : Closing) → Calmly w (free_bundle w x)
   calmly_free w x = calmly_same w (free_bundle w x) refl refl refl refl
 
   calmly_finish : (w : World V) (c : Coroutine V) → Calmly w (finish w c)
@@ -503,7 +503,7 @@ module _ {V : Type 0} where
       rests_then s.world v (shut s).world one (after_rests s v (settle v) (settle_rests v one.restful))
 
 -- the one of its number
-member_weighs : (n : ℕ) (xs : List (Entry Thing)) (x : Entry Thing) → In x xs → x.number ≡ n → 1 ≤ weigh (λ y. bit (has_number n y)) xs
+pub member_weighs : (n : ℕ) (xs : List (Entry Thing)) (x : Entry Thing) → In x xs → x.number ≡ n → 1 ≤ weigh (λ y. bit (has_number n y)) xs
 member_weighs n [] x i e = absurd i
 member_weighs n (y ∷ ys) x (inl same) e =
     let one : bit (y.number == n) ≡ 1 = ap bit (ap (λ (z : Entry Thing). z.number == n) (sym same) ∙ ap (λ k. k == n) e ∙ itself n) in
@@ -525,7 +525,7 @@ module _ {V : Type 0} where
   names_number w n l o p = ap (λ q. if_some q None (λ x. link_of x.thing)) (member_found n w.handles.entries p.entry (once w n o.fits) p.there p.number) ∙ p.link
 
   -- behind the looks of a settled world no look finds anything
-  rested : (laws : LooksAgain) (w : World V) → IsInOrder w → LooksApart w → IsSettled w → Restful (pass_all w)
+  pub rested : (laws : LooksAgain) (w : World V) → IsInOrder w → LooksApart w → IsSettled w → Restful (pass_all w)
   rested laws w o a s =
       let numbered = o.fits.numbered in
       let q = quiet_apart laws w numbered a s in

@@ -139,7 +139,7 @@ placed_reads want place (Ws ws ∷ below) u ended e = e
 -- ---- a send that is answered
 
 -- a receive finds nothing
-abbrev Idles : Want → Held → Type 0
+abbrev pub Idles : Want → Held → Type 0
 Idles want s = read_of want s ≡ outcome 0 s.layers outs.Need
 
 withdraw_idles : (want : Want) (s : Held) → Idles want s → Idles want (withdraw s)
@@ -172,12 +172,12 @@ after_idles want word answer s e = at (is_given_up answer) (is_tcp_done word && 
     at false true = e
     at false false = e
 
-idle_reads : (want : Want) (u : Stream) (s : Held) → Idles want s → read want u s ≡ still u s
+pub idle_reads : (want : Want) (u : Stream) (s : Held) → Idles want s → read want u s ≡ still u s
 unfolding read
 idle_reads want u s e = ap settled (looked_still (read_of want s) u s e)
 
 -- what a receive asks for
-asked_is : (call : Call) (n : ℕ) → named_by call ≡ Some n → is_receive (word_of call) ≡ true → (want : Want) × (asked call ≡ Some want)
+pub asked_is : (call : Call) (n : ℕ) → named_by call ≡ Some n → is_receive (word_of call) ≡ true → (want : Want) × (asked call ≡ Some want)
 asked_is (calls.Brecv number size deadline) n e f = (wants.Exact size, refl)
 asked_is (calls.Mrecv number limit deadline) n e f = (wants.Message limit, refl)
 asked_is (calls.HttpRecvrequest number deadline) n e f = (wants.Request, refl)

@@ -231,7 +231,7 @@ find_push (y ∷ ys) x n = at (is_link n y) (find_push ys x n)
 le_next : (n last : ℕ) → nat_le n last ≡ true → (nat_le n (last + 1) ≡ true) × ((last + 1 == n) ≡ false)
 le_next n last h = (grind (arith, nat_tests), grind (arith, nat_tests))
 
-next_above : (last : ℕ) → (nat_le (last + 1) last ≡ false) × (nat_le (last + 1) (last + 1) ≡ true)
+pub next_above : (last : ℕ) → (nat_le (last + 1) last ≡ false) × (nat_le (last + 1) (last + 1) ≡ true)
 next_above last = (grind (arith, nat_tests), grind (arith, nat_tests))
 
 and_true : (a b : Bool) → (a && b) ≡ true → (a ≡ true) × (b ≡ true)

@@ -7,21 +7,23 @@ use Rattle.dill_calls.specs.declared.answer.Answer.{Answer}
 use Rattle.dill_calls.specs.declared.answer.Answer.TheVariants.{Fault}
 use Rattle.dill_calls.specs.declared.call.Call.{Call}
 use Rattle.dill_calls.specs.CallTable.{word_of, blocks, named_by}
+use Rattle.dill_kernel.specs.declared.replies.KernelReply.{KernelReply}
 use Rattle.dill_stack.specs.Interface.{is_sent, has_ended}
 use Rattle.dill_rules.specs.declared.coroutine.Coroutine.{Coroutine}
 use Rattle.dill_rules.specs.World.{World, call_of, pending_call}
 use Rattle.dill_rules.specs.Links.{Link, look}
-use Rattle.dill_rules.specs.Sockets.{link_named, stack_of}
+use Rattle.dill_rules.specs.Sockets.{link_number, link_named, stack_of}
 use Rattle.dill_rules.specs.Directions.{is_send}
 use Rattle.dill_rules.specs.LinkAnswers.{is_tcp_done, is_tcp_close, is_on_stack, is_broken_for, zero_when, answer_said, look_of}
 use Rattle.dill_rules.specs.Taking.{is_cancelled}
 use Rattle.dill_rules.specs.Answers.{when, own_answer, lost_its_number, answer_of}
 use Rattle.dill_rules.specs.Giving.{look_on, give}
+use Rattle.dill_rules.specs.Hearing.{heard_write, heard_shut, heard_read}
 use Rattle.dill_rules.specs.Settling.{can_finish, finish, settle}
 use Rattle.laws_queue.specs.Kept.{Kept, kept_late, root_closed}
 use Rattle.laws_sound.specs.Order.{IsInOrder}
 use Rattle.laws_looks.specs.Readers.{In, Pends, reads, LooksApart}
-use Rattle.laws_looks.specs.Calm.{Spent, Names, Restful}
+use Rattle.laws_looks.specs.Calm.{Spent, Names, Restful, IsCalm}
 
 -- all that a stack answers but what a look says
 abbrev pub stack_lookless : Call → Link → Option Answer
@@ -76,9 +78,20 @@ module _ {V : Type 0} where
     pub waits : (c : Coroutine V) (call : Call) → In c w.coroutines → (c.number ≡ who → ⊥) → pending_call c.mode ≡ Some call → answer_of w c.number call ≡ None
     pub calm : (other : ℕ) (call : Call) (n l : ℕ) (x : Link) → Pends w other call → (other ≡ who → ⊥) → reads call ≡ true → named_by call ≡ Some n → Names w n l → look w.links l ≡ Some x → Spent call x.stack
 
--- Where no look finds anything, none is needed: so it is with what expires, and as the root closes. Where the call of one
--- coroutine stirs, its look is the only one, and may go before all else.
+  -- nobody but this coroutine looks at the stack of a link
+  abbrev pub LooksAt : World V → ℕ → ℕ → Type 0
+  LooksAt w link who = (other : ℕ) (call : Call) (n : ℕ) → Pends w other call → reads call ≡ true → named_by call ≡ Some n → link_number w n ≡ Some link → other ≡ who
+
+-- Where no look finds anything, none is needed: so it is with what expires, and as the root closes. Where one coroutine
+-- stirs, its look is the only one, and may go before all else.
 pub record OneLookSettles (V : Type 0) : Type 0 where
   pub rests : (w : World V) → Restful w → settle w ≡ settle_lookless w
   pub expires : (k : Kept V) → Restful k.world → settle (kept_late k).world ≡ settle_lookless (kept_late k).world
   pub shuts : (k : Kept V) → Restful k.world → settle (root_closed k.world) ≡ settle_lookless (root_closed k.world)
+  pub stirs : (w : World V) (who : ℕ) → IsInOrder w → LooksApart w → StirsOne w who → settle w ≡ settle_lookless (look_once w who)
+
+-- So it is behind the kernel's reply to an ask of a stack: one look of whoever looks at that stack, before all else, is enough.
+pub record OneLookHears (V : Type 0) : Type 0 where
+  pub reads : (w : World V) (link who : ℕ) (said : KernelReply) → IsInOrder w → IsCalm w → LooksAt w link who → settle (heard_read w link said) ≡ settle_lookless (look_once (heard_read w link said) who)
+  pub writes : (w : World V) (link who : ℕ) (said : KernelReply) → IsInOrder w → IsCalm w → LooksAt w link who → settle (heard_write w link said) ≡ settle_lookless (look_once (heard_write w link said) who)
+  pub shuts : (w : World V) (link who : ℕ) (said : KernelReply) → IsInOrder w → IsCalm w → LooksAt w link who → settle (heard_shut w link said) ≡ settle_lookless (look_once (heard_shut w link said) who)

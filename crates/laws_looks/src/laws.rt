@@ -1,6 +1,6 @@
 ghost use Rattle.laws_looks.specs.Calm.{DrawsNothing, KeepsCalm};
 ghost use Rattle.laws_looks.specs.Keeping.{CountsLinks, LinksAreKept};
-ghost use Rattle.laws_looks.specs.OneLook.{OneLookSettles};
+ghost use Rattle.laws_looks.specs.OneLook.{OneLookHears, OneLookSettles};
 ghost use Rattle.laws_looks.specs.Readers.{KeepsApart, LooksSettle};
 ghost use Rattle.laws_looks.specs.Short.{NeedsAreShort};
 
@@ -59,7 +59,17 @@ pub fn needs_are_short<B: Body>()
     handshake_laws();
 }
 
-/// Where no look finds anything, settling needs none: so it is with what expires, and as the root closes.
+/// Where no look finds anything, settling needs none: so it is with what expires, and as the root closes. Where one
+/// coroutine stirs, one look at its stack, before all else, is enough.
 pub fn one_look_settles<B: Body>()
     ensures { OneLookSettles B }
-{}
+{
+    again_laws();
+}
+
+/// So it is behind the kernel's reply to a read, a write or a shut: one look of whoever looks at that stack is enough.
+pub fn one_look_hears<B: Body>()
+    ensures { OneLookHears B }
+{
+    again_laws();
+}
