@@ -205,7 +205,7 @@ module _ {V : Type 0} where
 
   -- ---- calls on links
 
-  taken_by_call : (w : World V) (who : ℕ) (call : Call) → Fewer w (if_some (named_by call) w (λ number. take w number who))
+  pub taken_by_call : (w : World V) (who : ℕ) (call : Call) → Fewer w (if_some (named_by call) w (λ number. take w number who))
   taken_by_call w who call = fewer_some (named_by call) w (λ number. take w number who) (λ number. fewer_take w number who)
 
   fewer_heat : (w : World V) (call : Call) (read write : Bool) → Fewer w (heat w call read write)
@@ -249,7 +249,7 @@ module _ {V : Type 0} where
           (λ layer. fewer_then w (put_layer w call layer) (move (put_layer w call layer) number who) (fewer_asked w call (λ random s. with_random random (attach layer s))) (fewer_move (put_layer w call layer) number who)))
 
   module _ (p : Program V) where
-    perform_enters : (w : World V) (who : ℕ) (view : V) (call : Call) → Enters w who call (perform p w who view call)
+    pub perform_enters : (w : World V) (who : ℕ) (view : V) (call : Call) → Enters w who call (perform p w who view call)
     perform_enters w who view (calls.Print text) = enters_reply w who _ w words.Print (Number 0) (fewer_not w)
     perform_enters w who view calls.Now = enters_reply w who _ w words.Now (Number w.moment) (fewer_not w)
     perform_enters w who view calls.Yield = enters_reply w who _ w words.Yield (Number 0) (fewer_not w)
@@ -333,7 +333,7 @@ is_on_named : (call : Call) (n : ℕ) → named_by call ≡ Some n → is_on n c
 is_on_named call n e = ap (λ o. list_any (λ m. m == n) (option_to_list o ++ gifts call ++ chosen call)) e ∙ ap (λ b. b || list_any (λ m. m == n) (gifts call ++ chosen call)) (itself n)
 
 -- by what class it looks
-by_class : (call : Call) → reads call ≡ true → (is_receive (word_of call) ≡ true) ⊎ ((is_handshake (word_of call) || gives_up (word_of call)) ≡ true)
+pub by_class : (call : Call) → reads call ≡ true → (is_receive (word_of call) ≡ true) ⊎ ((is_handshake (word_of call) || gives_up (word_of call)) ≡ true)
 by_class call e = reader_class (is_send (word_of call)) (is_receive (word_of call)) (is_handshake (word_of call) || gives_up (word_of call)) e
 
 send_reads : (a b : Bool) → a ≡ true → (b && not a) ≡ true → ⊥
@@ -470,10 +470,10 @@ module _ {V : Type 0} where
         at None e = lack (lacks && takes_memory (word_of call)) e
         at (Some x) e = fewer_apart w (reply w who (word_of call) (Fault x)) (fewer_reply w who (word_of call) (Fault x)) a
 
-    resumes : (w : World V) (who : ℕ) (view : V) → Fewer w (resume w who view)
+    pub resumes : (w : World V) (who : ℕ) (view : V) → Fewer w (resume w who view)
     resumes w who view = fewer_change w who (as_running view) (λ c. refl)
 
-    ends_fewer : (w : World V) (who : ℕ) (outcome : Option Errno) → Fewer w (end w who outcome)
+    pub ends_fewer : (w : World V) (who : ℕ) (outcome : Option Errno) → Fewer w (end w who outcome)
     ends_fewer w who outcome =
         let shut = close_all w who in
         let one = fewer_each (close_owned who) (filter (handles.is_owned who) w.handles.entries) w (λ v x. fewer_some (bundle_of x.thing) v (λ name. close_bundle v who name x.number) (λ name. fewer_closing v who name x.number)) in

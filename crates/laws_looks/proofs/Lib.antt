@@ -18,3 +18,5 @@ pub mod Lookless
 pub mod Stirring
 pub mod Stirred
 pub mod Replies
+pub mod Entered
+pub mod Takes

@@ -7,17 +7,24 @@ use Rattle.dill_calls.specs.declared.answer.Answer.{Answer}
 use Rattle.dill_calls.specs.declared.answer.Answer.TheVariants.{Fault}
 use Rattle.dill_calls.specs.declared.call.Call.{Call}
 use Rattle.dill_calls.specs.CallTable.{word_of, blocks, named_by}
+use Rattle.dill_calls.specs.CallTable as table
+use Rattle.dill_calls.specs.Program.{Program}
 use Rattle.dill_kernel.specs.declared.replies.KernelReply.{KernelReply}
 use Rattle.dill_stack.specs.Interface.{is_sent, has_ended}
 use Rattle.dill_rules.specs.declared.coroutine.Coroutine.{Coroutine}
 use Rattle.dill_rules.specs.World.{World, call_of, pending_call}
 use Rattle.dill_rules.specs.Links.{Link, look}
 use Rattle.dill_rules.specs.Sockets.{link_number, link_named, stack_of}
-use Rattle.dill_rules.specs.Directions.{is_send}
+use Rattle.dill_rules.specs.Directions.{is_send, is_handshake}
+use Rattle.dill_rules.specs.Owning.{take}
+use Rattle.dill_rules.specs.Refusals.{refuse}
 use Rattle.dill_rules.specs.LinkAnswers.{is_tcp_done, is_tcp_close, is_on_stack, is_broken_for, zero_when, answer_said, look_of}
 use Rattle.dill_rules.specs.Taking.{is_cancelled}
 use Rattle.dill_rules.specs.Answers.{when, own_answer, lost_its_number, answer_of}
 use Rattle.dill_rules.specs.Giving.{look_on, give}
+use Rattle.dill_rules.specs.Linking.{enter_receive, enter_handshake, dropped_for, begin_giving_up}
+use Rattle.dill_rules.specs.Entering.{keep_for}
+use Rattle.dill_rules.specs.Turning.{resume}
 use Rattle.dill_rules.specs.Hearing.{heard_write, heard_shut, heard_read}
 use Rattle.dill_rules.specs.Settling.{can_finish, finish, settle}
 use Rattle.laws_queue.specs.Kept.{Kept, kept_late, root_closed}
@@ -95,3 +102,22 @@ pub record OneLookHears (V : Type 0) : Type 0 where
   pub reads : (w : World V) (link who : ℕ) (said : KernelReply) → IsInOrder w → IsCalm w → LooksAt w link who → settle (heard_read w link said) ≡ settle_lookless (look_once (heard_read w link said) who)
   pub writes : (w : World V) (link who : ℕ) (said : KernelReply) → IsInOrder w → IsCalm w → LooksAt w link who → settle (heard_write w link said) ≡ settle_lookless (look_once (heard_write w link said) who)
   pub shuts : (w : World V) (link who : ℕ) (said : KernelReply) → IsInOrder w → IsCalm w → LooksAt w link who → settle (heard_shut w link said) ≡ settle_lookless (look_once (heard_shut w link said) who)
+
+module _ {V : Type 0} where
+  -- the caller goes on, and its call keeps the numbers that it draws
+  abbrev pub called : World V → ℕ → V → Call → World V
+  called w who view call = keep_for (resume w who view) call
+
+  -- a call that gives a stack up, or a handshake, takes its number
+  abbrev pub taken_for : World V → ℕ → Call → World V
+  taken_for w who call = dropped_for (if_some (named_by call) w (λ number. take w number who)) call
+
+-- And so it is as a call is entered that looks at its stack: a receive, a handshake, or a detach or `tcp_close` that isn't
+-- over at once. The look of the caller, before all else, is enough.
+pub record OneLookEnters {V : Type 0} (p : Program V) : Type 0 where
+  pub receives : (w : World V) (who : ℕ) (view : V) (call : Call) (v : World V) → v ≡ enter_receive (called w who view call) who call → IsInOrder w → IsCalm w
+      → IsInOrder v → LooksApart v → settle v ≡ settle_lookless (look_once v who)
+  pub handshakes : (w : World V) (who : ℕ) (view : V) (call : Call) (v : World V) → v ≡ enter_handshake (called w who view call) who call → IsInOrder w → IsCalm w
+      → refuse p (resume w who view) who view call ≡ None → is_handshake (word_of call) ≡ true → IsInOrder v → LooksApart v → settle v ≡ settle_lookless (look_once v who)
+  pub gives_up : (w : World V) (who : ℕ) (view : V) (call : Call) (v : World V) → v ≡ begin_giving_up (taken_for (called w who view call) who call) who call → IsInOrder w → IsCalm w
+      → refuse p (resume w who view) who view call ≡ None → table.gives_up (word_of call) ≡ true → IsInOrder v → LooksApart v → settle v ≡ settle_lookless (look_once v who)

@@ -1,6 +1,6 @@
 ghost use Rattle.laws_looks.specs.Calm.{DrawsNothing, KeepsCalm};
 ghost use Rattle.laws_looks.specs.Keeping.{CountsLinks, LinksAreKept};
-ghost use Rattle.laws_looks.specs.OneLook.{OneLookHears, OneLookSettles};
+ghost use Rattle.laws_looks.specs.OneLook.{OneLookEnters, OneLookHears, OneLookSettles};
 ghost use Rattle.laws_looks.specs.Readers.{KeepsApart, LooksSettle};
 ghost use Rattle.laws_looks.specs.Short.{NeedsAreShort};
 
@@ -70,6 +70,13 @@ pub fn one_look_settles<B: Body>()
 /// So it is behind the kernel's reply to a read, a write or a shut: one look of whoever looks at that stack is enough.
 pub fn one_look_hears<B: Body>()
     ensures { OneLookHears B }
+{
+    again_laws();
+}
+
+/// And so it is as a receive, a handshake, a detach or `tcp_close` is entered: the look of the caller is enough.
+pub fn one_look_enters<B: Body>()
+    ensures { OneLookEnters B.means }
 {
     again_laws();
 }
