@@ -20,3 +20,4 @@ pub mod Stirred
 pub mod Replies
 pub mod Entered
 pub mod Takes
+pub mod Turned

@@ -367,7 +367,7 @@ module _ {V : Type 0} where
           at true h = cc
           at false h = rests_calmly w (reply w who (word_of call) answer) r (calmly_reply w who (word_of call) answer)
 
-  give_rests : (w : World V) (who : ℕ) (call : Call) (answer : Answer) → Restful w → Pends w who call → Unread call answer → Rests w (give w who call answer)
+  pub give_rests : (w : World V) (who : ℕ) (call : Call) (answer : Answer) → Restful w → Pends w who call → Unread call answer → Rests w (give w who call answer)
   give_rests w who (calls.Hclose number) answer r p u =
       let v = if_some (find (is_dead_as number) w.closings) w (free_bundle w) in
       rests_calmly w (give_close w who number answer) r (calmly_then w v (reply v who words.Hclose answer) (calmly_some (find (is_dead_as number) w.closings) w (free_bundle w) (λ x. calmly_free w x)) (calmly_reply v who words.Hclose answer))

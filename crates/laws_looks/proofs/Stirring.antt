@@ -56,7 +56,7 @@ hclose_off _ e = refl
 pub reads_named : (call : Call) (n : ℕ) → reads call ≡ true → named_by call ≡ Some n → reads_on n call ≡ true
 reads_named call n rd e = both_true (reads call) (if_some (named_by call) false (λ k. k == n)) rd (ap (λ o. if_some o false (λ k. k == n)) e ∙ itself n)
 
-sends_on_stack : (call : Call) → is_send (word_of call) ≡ true → is_on_stack (word_of call) ≡ true
+pub sends_on_stack : (call : Call) → is_send (word_of call) ≡ true → is_on_stack (word_of call) ≡ true
 sends_on_stack call k = ap (λ b. b || (is_receive (word_of call) || (is_handshake (word_of call) || gives_up (word_of call)))) k
 
 module _ {V : Type 0} where
@@ -208,7 +208,7 @@ module _ {V : Type 0} where
 
   -- ---- a call that isn't answered is on a live number
 
-  live : (w : World V) (who : ℕ) (more : Call) (n : ℕ) → is_on_stack (word_of more) ≡ true → named_by more ≡ Some n → answer_of w who more ≡ None → (x : Entry Thing) × (entry_of w n ≡ Some x)
+  pub live : (w : World V) (who : ℕ) (more : Call) (n : ℕ) → is_on_stack (word_of more) ≡ true → named_by more ≡ Some n → answer_of w who more ≡ None → (x : Entry Thing) × (entry_of w n ≡ Some x)
   live w who more n on named e = at (entry_of w n) refl lost
     where
       lost : is_none (entry_of w n) ≡ false
@@ -227,7 +227,7 @@ module _ {V : Type 0} where
       at (Some x) f g = (x, f)
 
   -- no live number is the next one
-  below_next : (w : World V) (n : ℕ) (x : Entry Thing) → FitsTogether w → entry_of w n ≡ Some x → n ≡ handles.next_number w.handles → ⊥
+  pub below_next : (w : World V) (n : ℕ) (x : Entry Thing) → FitsTogether w → entry_of w n ≡ Some x → n ≡ handles.next_number w.handles → ⊥
   below_next w n x f e same =
       let i = find_in (handles.is_entry n) w.handles.entries x e in
       let one = member_weighs n w.handles.entries x i (found_number (λ (y : Entry Thing). y.number) n w.handles.entries x e) in

@@ -9,10 +9,11 @@ use Rattle.dill_calls.specs.declared.call.Call.{Call}
 use Rattle.dill_calls.specs.CallTable.{word_of, blocks, named_by}
 use Rattle.dill_calls.specs.CallTable as table
 use Rattle.dill_calls.specs.Program.{Program}
+use Rattle.dill_calls.specs.declared.ran.LackPlace.{LackPlace}
 use Rattle.dill_kernel.specs.declared.replies.KernelReply.{KernelReply}
 use Rattle.dill_stack.specs.Interface.{is_sent, has_ended}
 use Rattle.dill_rules.specs.declared.coroutine.Coroutine.{Coroutine}
-use Rattle.dill_rules.specs.World.{World, call_of, pending_call}
+use Rattle.dill_rules.specs.World.{World, coroutine_of, call_of, is_answered, pending_call, begin}
 use Rattle.dill_rules.specs.Links.{Link, look}
 use Rattle.dill_rules.specs.Sockets.{link_number, link_named, stack_of}
 use Rattle.dill_rules.specs.Directions.{is_send, is_handshake}
@@ -24,11 +25,12 @@ use Rattle.dill_rules.specs.Answers.{when, own_answer, lost_its_number, answer_o
 use Rattle.dill_rules.specs.Giving.{look_on, give}
 use Rattle.dill_rules.specs.Linking.{enter_receive, enter_handshake, dropped_for, begin_giving_up}
 use Rattle.dill_rules.specs.Entering.{keep_for}
-use Rattle.dill_rules.specs.Turning.{resume}
+use Rattle.dill_rules.specs.Turning.{resume, go_on}
 use Rattle.dill_rules.specs.Hearing.{heard_write, heard_shut, heard_read}
 use Rattle.dill_rules.specs.Settling.{can_finish, finish, settle}
 use Rattle.laws_queue.specs.Kept.{Kept, kept_late, root_closed}
 use Rattle.laws_sound.specs.Order.{IsInOrder}
+use Rattle.laws_sound.specs.Orderly.{IsOrderly}
 use Rattle.laws_looks.specs.Readers.{In, Pends, reads, LooksApart}
 use Rattle.laws_looks.specs.Calm.{Spent, Names, Restful, IsCalm}
 
@@ -121,3 +123,8 @@ pub record OneLookEnters {V : Type 0} (p : Program V) : Type 0 where
       → refuse p (resume w who view) who view call ≡ None → is_handshake (word_of call) ≡ true → IsInOrder v → LooksApart v → settle v ≡ settle_lookless (look_once v who)
   pub gives_up : (w : World V) (who : ℕ) (view : V) (call : Call) (v : World V) → v ≡ begin_giving_up (taken_for (called w who view call) who call) who call → IsInOrder w → IsCalm w
       → refuse p (resume w who view) who view call ≡ None → table.gives_up (word_of call) ≡ true → IsInOrder v → LooksApart v → settle v ≡ settle_lookless (look_once v who)
+
+-- So in a turn whose call looks at its stack.
+pub record OneLookTurns {V : Type 0} (p : Program V) : Type 0 where
+  pub turns : (lack : Option LackPlace) (w : World V) (who : ℕ) (c : Coroutine V) (v : World V) (call : Call) → v ≡ go_on p lack (begin w) who c.body → IsOrderly w → IsCalm w
+      → coroutine_of w who ≡ Some c → is_answered c.mode ≡ true → Pends v who call → reads call ≡ true → settle v ≡ settle_lookless (look_once v who)

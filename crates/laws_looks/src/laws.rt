@@ -1,6 +1,6 @@
 ghost use Rattle.laws_looks.specs.Calm.{DrawsNothing, KeepsCalm};
 ghost use Rattle.laws_looks.specs.Keeping.{CountsLinks, LinksAreKept};
-ghost use Rattle.laws_looks.specs.OneLook.{OneLookEnters, OneLookHears, OneLookSettles};
+ghost use Rattle.laws_looks.specs.OneLook.{OneLookEnters, OneLookHears, OneLookSettles, OneLookTurns};
 ghost use Rattle.laws_looks.specs.Readers.{KeepsApart, LooksSettle};
 ghost use Rattle.laws_looks.specs.Short.{NeedsAreShort};
 
@@ -77,6 +77,13 @@ pub fn one_look_hears<B: Body>()
 /// And so it is as a receive, a handshake, a detach or `tcp_close` is entered: the look of the caller is enough.
 pub fn one_look_enters<B: Body>()
     ensures { OneLookEnters B.means }
+{
+    again_laws();
+}
+
+/// So in a turn whose call looks at its stack: the look of the caller, before all else, is enough.
+pub fn one_look_turns<B: Body>()
+    ensures { OneLookTurns B.means }
 {
     again_laws();
 }
