@@ -18,6 +18,7 @@ pub mod Lookless
 pub mod Stirring
 pub mod Stirred
 pub mod Replies
+pub mod Makes
 pub mod Entered
 pub mod Takes
 pub mod Turned

@@ -26,7 +26,7 @@ use Rattle.laws_sound.specs.Order.{IsInOrder}
 use Rattle.laws_sound.proofs.Ordering.{order_anyway}
 use Rattle.laws_looks.specs.Readers.{In, Pends, reads, LooksApart}
 use Rattle.laws_looks.specs.Calm.{Spent, Names, Restful, IsCalm}
-use Rattle.laws_looks.specs.OneLook.{lookless_of, looked_for, settle_lookless, look_once, StirsOne, LooksAt, OneLookHears}
+use Rattle.laws_looks.specs.OneLook.{lookless_of, looked_for, settle_lookless, look_once, StirsOne, LooksAt}
 use Rattle.laws_looks.proofs.Lists.{itself, equal_is, some_none, some_same, find_in, find_none, find_passes, true_false, both_true}
 use Rattle.laws_looks.proofs.Stays.{found_alike, stays_change}
 use Rattle.laws_looks.proofs.Fewer.{fewer_parts, fewer_apart}
@@ -242,10 +242,3 @@ module _ {V : Type 0} where
     pub once_shut : (said : KernelReply) → settle (heard_shut w l said) ≡ settle_lookless (look_once (heard_shut w l said) who)
     once_shut replies.Done = marks as_shut (λ x. refl) (λ x. refl)
     once_shut said = breaks
-
-pub one_look_hears : {V : Type 0} → LooksAgain → OneLookHears V
-one_look_hears laws = record {
-  reads = λ w link who said o c alone. once_read laws w link who o c alone said;
-  writes = λ w link who said o c alone. once_written laws w link who o c alone said;
-  shuts = λ w link who said o c alone. once_shut laws w link who o c alone said;
-}

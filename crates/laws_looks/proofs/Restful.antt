@@ -175,7 +175,7 @@ module _ {V : Type 0} where
   calmly_drop w (things.Socket l) = calmly_mark w l as_closing (λ x. refl) (λ x. refl)
   calmly_drop w (things.Value kind value) = calmly_same w w refl refl refl refl
 
-  calmly_retire : (w : World V) (number : ℕ) → Calmly w (record w { handles = handles.retire w.handles number })
+  pub calmly_retire : (w : World V) (number : ℕ) → Calmly w (record w { handles = handles.retire w.handles number })
   calmly_retire w number = record {
     random = refl;
     pends = λ who call p. record { one = p.one; there = p.there; number = p.number; mode = p.mode };

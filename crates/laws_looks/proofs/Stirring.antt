@@ -251,8 +251,8 @@ module _ {V : Type 0} where
         let on = (reads_parts (is_on_stack (word_of more)) (is_send (word_of more)) rd).0 in
         let named = still_named w call (give w who call answer) other more n l s o.fits on e (waits other more old others) nm in
         let was = s.stacks l y i (λ m f g.
-            let same : n ≡ m = named_once w a n m l (names_number w n l o named) g in
-            others (a.readers m other who more call old own (reads_named more m rd (e ∙ ap Some same)) (reads_named call m rc f))) in
+        let same : n ≡ m = named_once w a n m l (names_number w n l o named) g in
+        others (a.readers m other who more call old own (reads_named more m rd (e ∙ ap Some same)) (reads_named call m rc f))) in
         subst (Spent more) (sym was.2) (st.calm other more n l was.0 old others rd e named was.1);
     apart = λ one two c more n m l p q sd rd e f nm nn.
         let one_old = s.pends one c p in

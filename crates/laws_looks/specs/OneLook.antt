@@ -10,6 +10,8 @@ use Rattle.dill_calls.specs.CallTable.{word_of, blocks, named_by}
 use Rattle.dill_calls.specs.CallTable as table
 use Rattle.dill_calls.specs.Program.{Program}
 use Rattle.dill_calls.specs.declared.ran.LackPlace.{LackPlace}
+use Rattle.dill_kernel.specs.declared.replies.KernelAsk.{KernelAsk}
+use Rattle.dill_kernel.specs.declared.replies.KernelAsk.TheVariants as asks
 use Rattle.dill_kernel.specs.declared.replies.KernelReply.{KernelReply}
 use Rattle.dill_stack.specs.Interface.{is_sent, has_ended}
 use Rattle.dill_rules.specs.declared.coroutine.Coroutine.{Coroutine}
@@ -26,7 +28,8 @@ use Rattle.dill_rules.specs.Giving.{look_on, give}
 use Rattle.dill_rules.specs.Linking.{enter_receive, enter_handshake, dropped_for, begin_giving_up}
 use Rattle.dill_rules.specs.Entering.{keep_for}
 use Rattle.dill_rules.specs.Turning.{resume, go_on}
-use Rattle.dill_rules.specs.Hearing.{heard_write, heard_shut, heard_read}
+use Rattle.dill_rules.specs.Hearing.{heard}
+use Rattle.dill_rules.specs.Trying.{Try}
 use Rattle.dill_rules.specs.Settling.{can_finish, finish, settle}
 use Rattle.laws_queue.specs.Kept.{Kept, kept_late, root_closed}
 use Rattle.laws_sound.specs.Order.{IsInOrder}
@@ -99,11 +102,16 @@ pub record OneLookSettles (V : Type 0) : Type 0 where
   pub shuts : (k : Kept V) → Restful k.world → settle (root_closed k.world) ≡ settle_lookless (root_closed k.world)
   pub stirs : (w : World V) (who : ℕ) → IsInOrder w → LooksApart w → StirsOne w who → settle w ≡ settle_lookless (look_once w who)
 
--- So it is behind the kernel's reply to an ask of a stack: one look of whoever looks at that stack, before all else, is enough.
+-- the link whose stack is asked for
+abbrev pub asked_link : KernelAsk → Option ℕ
+asked_link (asks.Write link bytes) = Some link
+asked_link (asks.Shut link) = Some link
+asked_link (asks.Read link size) = Some link
+asked_link _ = None
+
+-- So it is behind each reply of the kernel: one look of whoever looks at the stack that was asked for, before all else, is enough.
 pub record OneLookHears (V : Type 0) : Type 0 where
-  pub reads : (w : World V) (link who : ℕ) (said : KernelReply) → IsInOrder w → IsCalm w → LooksAt w link who → settle (heard_read w link said) ≡ settle_lookless (look_once (heard_read w link said) who)
-  pub writes : (w : World V) (link who : ℕ) (said : KernelReply) → IsInOrder w → IsCalm w → LooksAt w link who → settle (heard_write w link said) ≡ settle_lookless (look_once (heard_write w link said) who)
-  pub shuts : (w : World V) (link who : ℕ) (said : KernelReply) → IsInOrder w → IsCalm w → LooksAt w link who → settle (heard_shut w link said) ≡ settle_lookless (look_once (heard_shut w link said) who)
+  pub hears : (w : World V) (x : Try) (said : Option KernelReply) (who : ℕ) → IsInOrder w → IsCalm w → ((link : ℕ) → asked_link x.ask ≡ Some link → LooksAt w link who) → settle (heard w x said) ≡ settle_lookless (look_once (heard w x said) who)
 
 module _ {V : Type 0} where
   -- the caller goes on, and its call keeps the numbers that it draws

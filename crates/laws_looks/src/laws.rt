@@ -67,7 +67,7 @@ pub fn one_look_settles<B: Body>()
     again_laws();
 }
 
-/// So it is behind the kernel's reply to a read, a write or a shut: one look of whoever looks at that stack is enough.
+/// So it is behind each reply of the kernel: one look of whoever looks at the stack that was asked for is enough.
 pub fn one_look_hears<B: Body>()
     ensures { OneLookHears B }
 {

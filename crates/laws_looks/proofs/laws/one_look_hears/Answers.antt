@@ -1,4 +1,4 @@
-use Rattle.laws_looks.proofs.Replies.{one_look_hears}
+use Rattle.laws_looks.proofs.Makes.{one_look_hears}
 use Rattle.laws_looks.proofs.laws.one_look_hears.Goals as goal
 
 pub returns : goal.returns
