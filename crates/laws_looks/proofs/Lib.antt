@@ -19,6 +19,7 @@ pub mod Stirring
 pub mod Stirred
 pub mod Replies
 pub mod Makes
+pub mod Others
 pub mod Entered
 pub mod Takes
 pub mod Turned

@@ -34,7 +34,7 @@ use Rattle.laws_sound.specs.Order.{IsInOrder}
 use Rattle.laws_sound.proofs.Calling.{go_on_goes}
 use Rattle.laws_sound.proofs.Making.{begins}
 use Rattle.laws_looks.specs.Readers.{In, Pends, reads, LooksApart}
-use Rattle.laws_looks.specs.Calm.{IsCalm}
+use Rattle.laws_looks.specs.Calm.{Restful, IsCalm}
 use Rattle.laws_looks.specs.OneLook.{settle_lookless, look_once, StirsOne, called, taken_for, OneLookTurns}
 use Rattle.laws_looks.proofs.Lists.{equal_is, unequal_is, true_false, reads_parts, find_in}
 use Rattle.laws_looks.proofs.Stays.{dropped_stays}
@@ -42,9 +42,12 @@ use Rattle.laws_looks.proofs.Fewer.{Fewer, fewer_then, fewer_besides, fewer_repl
 use Rattle.laws_looks.proofs.Quieted.{above}
 use Rattle.laws_looks.proofs.Enters.{Enters, AsEntered, taken_by_call, perform_enters, ends_fewer, by_class, go_on_apart}
 use Rattle.laws_looks.proofs.Between.{calm_beside}
+use Rattle.laws_looks.proofs.Lookless.{rest_settles}
 use Rattle.laws_looks.proofs.Stirred.{stirred}
+use Rattle.laws_looks.proofs.Replies.{rest_looks}
 use Rattle.laws_looks.proofs.Entered.{Joins, joins_stirs, receive_joins}
 use Rattle.laws_looks.proofs.Takes.{handshake_joins, giving_joins}
+use Rattle.laws_looks.proofs.Others.{others_rest}
 use Rattle.dill_scope.proofs.Numbered.{found_number}
 
 -- a call that looks is met by its deadline in a round
@@ -267,4 +270,7 @@ one_look_turns p laws = record {
   turns = λ lack w who c v call is g calm found answered own rd.
       turn_looks p laws lack (begin w) who c.body v call is (begins w g).order (calm_beside w w.place w.wrote w.moment [] calm)
       (subst IsInOrder (sym is) (go_on_goes p lack w who c g found answered).good.order) (subst LooksApart (sym is) (go_on_apart p lack w who c.body calm.apart)) own rd;
+  others = λ lack w who view v is g calm off.
+      let r = subst Restful (sym is) (others_rest p lack w who view g calm off) in
+      (rest_settles v r, λ one. rest_looks v one r);
 }

@@ -27,11 +27,12 @@ use Rattle.dill_rules.specs.Answers.{when, own_answer, lost_its_number, answer_o
 use Rattle.dill_rules.specs.Giving.{look_on, give}
 use Rattle.dill_rules.specs.Linking.{enter_receive, enter_handshake, dropped_for, begin_giving_up}
 use Rattle.dill_rules.specs.Entering.{keep_for}
-use Rattle.dill_rules.specs.Turning.{resume, go_on}
+use Rattle.dill_rules.specs.Turning.{resume, move_of, go_on}
 use Rattle.dill_rules.specs.Hearing.{heard}
 use Rattle.dill_rules.specs.Trying.{Try}
 use Rattle.dill_rules.specs.Settling.{can_finish, finish, settle}
 use Rattle.laws_queue.specs.Kept.{Kept, kept_late, root_closed}
+use Rattle.laws_sound.specs.Linkless.{MovesLinkless}
 use Rattle.laws_sound.specs.Order.{IsInOrder}
 use Rattle.laws_sound.specs.Orderly.{IsOrderly}
 use Rattle.laws_looks.specs.Readers.{In, Pends, reads, LooksApart}
@@ -132,7 +133,9 @@ pub record OneLookEnters {V : Type 0} (p : Program V) : Type 0 where
   pub gives_up : (w : World V) (who : ℕ) (view : V) (call : Call) (v : World V) → v ≡ begin_giving_up (taken_for (called w who view call) who call) who call → IsInOrder w → IsCalm w
       → refuse p (resume w who view) who view call ≡ None → table.gives_up (word_of call) ≡ true → IsInOrder v → LooksApart v → settle v ≡ settle_lookless (look_once v who)
 
--- So in a turn whose call looks at its stack.
+-- So in a turn whose call looks at its stack. Where its call is none of a link, or it makes none, no look is needed.
 pub record OneLookTurns {V : Type 0} (p : Program V) : Type 0 where
   pub turns : (lack : Option LackPlace) (w : World V) (who : ℕ) (c : Coroutine V) (v : World V) (call : Call) → v ≡ go_on p lack (begin w) who c.body → IsOrderly w → IsCalm w
       → coroutine_of w who ≡ Some c → is_answered c.mode ≡ true → Pends v who call → reads call ≡ true → settle v ≡ settle_lookless (look_once v who)
+  pub others : (lack : Option LackPlace) (w : World V) (who : ℕ) (view : V) (v : World V) → v ≡ go_on p lack (begin w) who view → IsOrderly w → IsCalm w
+      → MovesLinkless (move_of p (begin w) who view) → (settle v ≡ settle_lookless v) × ((one : ℕ) → look_once v one ≡ v)
