@@ -90,7 +90,9 @@ impl Stepper for Visitor {
     }
 
     fn hear<R: Rng>(&mut self, _reply: Reply<'_>, _keys: &mut R) {
-        self.heard += 1;
+        if self.heard < 6 {
+            self.heard += 1;
+        }
     }
 
     fn expire(&mut self) {}
