@@ -1,8 +1,8 @@
-pub mod Built
 pub mod CanRun
 pub mod Joining
 pub mod Known
 pub mod Making
+pub mod Placing
 pub mod Stacking
 pub mod Stepping
 pub mod Telling

@@ -1,37 +1,38 @@
 -- The call of a statement that was passed last.
-use Rattle.std.proofs.Common.{◌≡◌, Bool, true, Option, Some, is_some, sym, ap, ◌∙◌}
+use Rattle.std.proofs.Common.{◌≡◌, Bool, true, Option, Some, None, is_some, refl, sym, ap, ◌∙◌}
 use Rattle.dill_calls.specs.declared.call.Call.{Call}
 use Rattle.dill_calls.specs.Program.{Calls}
 use Rattle.dill_script.specs.declared.form.Form.{Form}
 use Rattle.dill_script.specs.declared.operand.Dest.{Dest}
+use Rattle.dill_script.specs.declared.statement.Statement.{Statement}
 use Rattle.dill_script.specs.declared.statement.Statement.TheVariants as statements
 use Rattle.dill_script.specs.Fitting.{is_form, may_hold, is_formed}
+use Rattle.dill_meaning.specs.Calls.{call_of}
+use Rattle.dill_meaning.specs.Making.{MakesItsOwn}
 use Rattle.dill_meaning.specs.Meaning.{moved}
+use Rattle.dill_meaning.specs.Values.{values_of}
 use Rattle.dill_meaning.specs.Views.{ScriptView, pending}
-use Rattle.dill_meaning.specs.Walks.{call_at}
-use Rattle.relay_body.specs.Building.{plain_call}
-use Rattle.relay_body.specs.Running.{says_plain, is_running}
+use Rattle.dill_meaning.proofs.Making.{each_form_makes}
+use Rattle.relay_body.specs.Running.{is_running}
 use Rattle.relay_body.specs.Stopping.{with_call, made_by}
 use Rattle.relay_body.specs.Bools.{and_left}
-use Rattle.relay_body.proofs.Built.{form_built}
 use Rattle.relay_body.specs.Runnable.{Runnable, runs, pending_says}
 
--- a call that is written makes the call of its operands in their places
-pub form_called : (view : ScriptView) (tried : Bool) (dest : Option Dest) (form : Form) → is_running view ≡ true → pending view ≡ Some (statements.Call tried dest form) → call_at view (statements.Call tried dest form) ≡ Some (plain_call view form.word form.operands)
-form_called view tried dest form r e =
+-- the operands of a call that is written fit its word
+pub form_fits : (view : ScriptView) (tried : Bool) (dest : Option Dest) (form : Form) → is_running view ≡ true → pending view ≡ Some (statements.Call tried dest form) → is_form form ≡ true
+form_fits view tried dest form r e =
     let p : Runnable view.script = runs view r in
-    let formed : is_formed (statements.Call tried dest form) ≡ true = pending_says is_formed view (statements.Call tried dest form) p.formed e in
-    let plain : says_plain (statements.Call tried dest form) ≡ true = pending_says says_plain view (statements.Call tried dest form) p.plain e in
-    form_built view form (and_left (is_form form) (may_hold form.word dest) formed) plain
+    and_left (is_form form) (may_hold form.word dest) (pending_says is_formed view (statements.Call tried dest form) p.formed e)
 
--- so it is what is made there
-pub form_made : (view : ScriptView) (tried : Bool) (dest : Option Dest) (form : Form) → is_running view ≡ true → pending view ≡ Some (statements.Call tried dest form) → made_by view (pending view) ≡ Some (statements.Call tried dest form, plain_call view form.word form.operands)
-form_made view tried dest form r e = ap (made_by view) e ∙ ap (with_call (statements.Call tried dest form)) (form_called view tried dest form r e)
+found_own : (view : ScriptView) (form : Form) (statement : Statement) (found : Option Call) → MakesItsOwn view form found → true ≡ is_some (with_call statement found)
+found_own view form statement None m = absurd m
+found_own view form statement (Some call) m = refl
 
--- and some call is made
+-- so it makes some call
 pub form_calls : (view : ScriptView) (tried : Bool) (dest : Option Dest) (form : Form) → is_running view ≡ true → pending view ≡ Some (statements.Call tried dest form) → true ≡ is_some (made_by view (pending view))
-form_calls view tried dest form r e = sym (ap is_some (form_made view tried dest form r e))
+form_calls view tried dest form r e =
+    found_own view form (statements.Call tried dest form) (call_of form.word (values_of view form.operands)) (each_form_makes view form (form_fits view tried dest form r e)) ∙ ap (λ p. is_some (made_by view p)) (sym e)
 
 -- which is its move, and changes nothing else
-pub form_moves : (view : ScriptView) (tried : Bool) (dest : Option Dest) (form : Form) (call : Call) → is_running view ≡ true → pending view ≡ Some (statements.Call tried dest form) → call ≡ plain_call view form.word form.operands → moved view (made_by view (pending view)) ≡ (view, Calls call)
-form_moves view tried dest form call r e c = ap (moved view) (form_made view tried dest form r e) ∙ ap (λ made. (view, Calls made)) (sym c)
+pub form_moves : (view : ScriptView) (tried : Bool) (dest : Option Dest) (form : Form) (call : Call) → pending view ≡ Some (statements.Call tried dest form) → call_of form.word (values_of view form.operands) ≡ Some call → moved view (made_by view (pending view)) ≡ (view, Calls call)
+form_moves view tried dest form call e c = ap (λ p. moved view (made_by view p)) e ∙ ap (λ found. moved view (with_call (statements.Call tried dest form) found)) c

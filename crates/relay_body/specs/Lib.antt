@@ -1,11 +1,11 @@
 pub mod Answered
 pub mod Beginning
 pub mod Bools
-pub mod Building
 pub mod Depths
 pub mod Lawful
 pub mod Modes
 pub mod Opened
+pub mod Placed
 pub mod Plainly
 pub mod Runnable
 pub mod Running

@@ -1,17 +1,18 @@
-ghost use Rattle.std.specs.Prelude.{◌≡◌, ◌≤◌, ◌<◌, ◌++◌, ◌∷◌, [], length, drop, slice_get, flat_map, filter_map, option_to_list, position, IfSome, IfOk, OnOk, OnErr, true};
+ghost use Rattle.std.specs.Prelude.{◌≡◌, ◌≤◌, ◌<◌, ◌++◌, length, slice_get, flat_map, filter_map, option_to_list, position, Some, IfSome, IfOk, OnOk, OnErr, true, false};
 ghost use Rattle.std.specs.Rc.{rc_value};
 ghost use Rattle.dill_calls.specs.CallTable.{build_takes_memory};
+ghost use Rattle.dill_script.specs.Fitting.{is_call_word, is_form};
 ghost use Rattle.dill_script.specs.Refusals.{has_name};
-ghost use Rattle.dill_meaning.specs.Calls.{item_text, arg_of, clause_of};
+ghost use Rattle.dill_meaning.specs.Calls.{item_text, arg_of, clause_of, call_of};
 ghost use Rattle.dill_meaning.specs.Values.{value_of, values_of};
 ghost use Rattle.dill_meaning.specs.Views.{number_of_name};
-ghost use Rattle.relay_body.specs.Building.{num_of, bytes_of, wait_of, program_of, args_from, clauses_from, plain_call};
+ghost use Rattle.relay_body.specs.Placed.{num_of, bytes_of, wait_of, address_of, program_of, is_first, args_from, clauses_from, placed};
 ghost use Rattle.relay_body.specs.Seen.{seen};
 
 use crate::held::Held;
-use dill_base::{Deadline, NoMemory, Octets};
+use dill_base::{Address, Deadline, NoMemory, Octets};
 use dill_calls::{Arg, Args, Call, Clause, Clauses, Word};
-use dill_script::{Form, Operand, Program};
+use dill_script::{Form, Mode, Operand, Order, Program, Role};
 use itoa::Buffer;
 
 /// Where the program of this name stands, if there is one.
@@ -22,6 +23,31 @@ pub(crate) fn place_of(programs: &[Program], name: &[u8]) -> Option<usize>
     programs
         .iter()
         .position(|program| program.name.as_slice() == name)
+}
+
+/// An address, or one of zeros where the operand is of another kind.
+fn address_at(list: &[Operand], place: usize) -> Address
+    ensures { result ≡ address_of (slice_get list.now place) }
+{
+    match list.get(place) {
+        Some(Operand::Address(address)) => *address,
+        _ => Address {
+            ip: [0; 4],
+            port: 0,
+        },
+    }
+}
+
+/// Whether the operand is the first of the two words that may stand in its place.
+fn is_first(list: &[Operand], place: usize) -> bool
+    ensures { result ≡ is_first (slice_get list.now place) }
+{
+    match list.get(place) {
+        Some(Operand::Order(order)) => matches!(order, Order::Big),
+        Some(Operand::Mode(mode)) => matches!(mode, Mode::Text),
+        Some(Operand::Role(role)) => matches!(role, Role::Client),
+        _ => false,
+    }
 }
 
 impl Held {
@@ -172,41 +198,112 @@ impl Held {
         Ok(Clauses::new(self.alloc))
     }
 
-    /// The call of a word that is built, with what its operands are worth now. Only one with bytes, arguments
-    /// or clauses takes memory.
-    pub(crate) fn form_call(&self, form: &Form) -> Result<Call, NoMemory>
-        requires { length (rc_value self.now.script) ≤ 256 }
-        ensures ok { IfOk result (λ call. call ≡ plain_call (seen self.now) form.now.word form.now.operands) }
-        ensures err { OnErr result (build_takes_memory form.now.word ≡ true) }
+    /// The call of a word whose call holds no bytes, arguments or clauses, so that no memory is taken for it.
+    fn light_call(&self, word: Word, list: &[Operand]) -> Call
+        requires call { is_call_word word ≡ true }
+        requires light { build_takes_memory word ≡ false }
+        ensures { call_of word (placed (seen self.now) word list.now) ≡ Some result }
     {
-        let list = form.operands.as_slice();
-        Ok(match form.word {
-            Word::Print => Call::Print(self.text_of(list)?),
+        let (handle, number) = (self.num_at(list, 0), self.num_at(list, 1));
+        let wait = self.wait_at(list, 1);
+        match word {
             Word::Yield => Call::Yield,
             Word::Msleep => Call::Msleep(self.wait_at(list, 0)),
-            Word::Hmake => Call::Hmake(self.num_at(list, 0), self.num_at(list, 1)),
-            Word::Hquery => Call::Hquery(self.num_at(list, 0), self.num_at(list, 1)),
-            Word::Hown => Call::Hown(self.num_at(list, 0)),
-            Word::Hclose => Call::Hclose(self.num_at(list, 0)),
+            Word::Hmake => Call::Hmake(handle, number),
+            Word::Hquery => Call::Hquery(handle, number),
+            Word::Hown => Call::Hown(handle),
+            Word::Hclose => Call::Hclose(handle),
             Word::Bundle => Call::Bundle,
+            Word::BundleWait => Call::BundleWait(handle, wait),
+            Word::Chmake => Call::Chmake,
+            Word::Chrecv => Call::Chrecv(handle, number, self.wait_at(list, 2)),
+            Word::Chdone => Call::Chdone(handle),
+            Word::TcpListen => Call::TcpListen(address_at(list, 0), number),
+            Word::TcpAccept => Call::TcpAccept(handle, wait),
+            Word::TcpConnect => Call::TcpConnect(address_at(list, 0), wait),
+            Word::TcpDone => Call::TcpDone(handle, wait),
+            Word::TcpClose => Call::TcpClose(handle, wait),
+            Word::Brecv => Call::Brecv(handle, number, self.wait_at(list, 2)),
+            Word::Mrecv => Call::Mrecv(handle, number, self.wait_at(list, 2)),
+            Word::PrefixAttach => Call::PrefixAttach(handle, number, is_first(list, 2)),
+            Word::TermDone => Call::TermDone(handle, wait),
+            Word::PrefixDetach => Call::PrefixDetach(handle),
+            Word::SuffixDetach => Call::SuffixDetach(handle),
+            Word::TermDetach => Call::TermDetach(handle, wait),
+            Word::HttpAttach => Call::HttpAttach(handle),
+            Word::HttpRecvrequest => Call::HttpRecvrequest(handle, wait),
+            Word::HttpRecvstatus => Call::HttpRecvstatus(handle, wait),
+            Word::HttpRecvfield => Call::HttpRecvfield(handle, wait),
+            Word::HttpDone => Call::HttpDone(handle, wait),
+            Word::HttpDetach => Call::HttpDetach(handle, wait),
+            Word::WsAttachServer => {
+                Call::WsAttachServer(handle, is_first(list, 1), self.wait_at(list, 2))
+            }
+            Word::WsAttachNohttp => {
+                Call::WsAttachNohttp(handle, is_first(list, 1), is_first(list, 2))
+            }
+            // `now` is the one that is left.
+            _ => Call::Now,
+        }
+    }
+
+    /// The call of a word, with its operands in their places. Only one with bytes, arguments or clauses takes memory.
+    fn placed_call(&self, word: Word, list: &[Operand]) -> Result<Call, NoMemory>
+        requires few { length (rc_value self.now.script) ≤ 256 }
+        requires call { is_call_word word ≡ true }
+        ensures ok { IfOk result (λ call. call_of word (placed (seen self.now) word list.now) ≡ Some call) }
+        ensures err { OnErr result (build_takes_memory word ≡ true) }
+    {
+        let (handle, number) = (self.num_at(list, 0), self.num_at(list, 1));
+        Ok(match word {
+            Word::Print => Call::Print(self.text_of(list)?),
             Word::Go => Call::Go(self.program_at(list, 0), self.args_from(list, 1)?),
             Word::BundleGo => {
-                let (bundle, program) = (self.num_at(list, 0), self.program_at(list, 1));
-                Call::BundleGo(bundle, program, self.args_from(list, 2)?)
+                Call::BundleGo(handle, self.program_at(list, 1), self.args_from(list, 2)?)
             }
-            Word::BundleWait => Call::BundleWait(self.num_at(list, 0), self.wait_at(list, 1)),
-            Word::Chmake => Call::Chmake,
-            Word::Chsend => {
-                let (end, item) = (self.num_at(list, 0), self.octets_at(list, 1)?);
-                Call::Chsend(end, item, self.wait_at(list, 2))
-            }
-            Word::Chrecv => {
-                let (end, size) = (self.num_at(list, 0), self.num_at(list, 1));
-                Call::Chrecv(end, size, self.wait_at(list, 2))
-            }
-            Word::Chdone => Call::Chdone(self.num_at(list, 0)),
             Word::Choose => Call::Choose(self.wait_at(list, 0), self.clauses_from(list, 1)?),
-            _ => Call::Now,
+            Word::Chsend => Call::Chsend(handle, self.octets_at(list, 1)?, self.wait_at(list, 2)),
+            Word::Bsend => Call::Bsend(handle, self.octets_at(list, 1)?, self.wait_at(list, 2)),
+            Word::Msend => Call::Msend(handle, self.octets_at(list, 1)?, self.wait_at(list, 2)),
+            Word::SuffixAttach => Call::SuffixAttach(handle, self.octets_at(list, 1)?),
+            Word::TermAttach => Call::TermAttach(handle, self.octets_at(list, 1)?),
+            Word::HttpSendrequest => {
+                let (command, resource) = (self.octets_at(list, 1)?, self.octets_at(list, 2)?);
+                Call::HttpSendrequest(handle, command, resource, self.wait_at(list, 3))
+            }
+            Word::HttpSendstatus => {
+                let reason = self.octets_at(list, 2)?;
+                Call::HttpSendstatus(handle, number, reason, self.wait_at(list, 3))
+            }
+            Word::HttpSendfield => {
+                let (name, value) = (self.octets_at(list, 1)?, self.octets_at(list, 2)?);
+                Call::HttpSendfield(handle, name, value, self.wait_at(list, 3))
+            }
+            Word::WsAttachClient => {
+                let (resource, host) = (self.octets_at(list, 2)?, self.octets_at(list, 3)?);
+                let wait = self.wait_at(list, 4);
+                Call::WsAttachClient(handle, is_first(list, 1), resource, host, wait)
+            }
+            Word::WsDetach => {
+                Call::WsDetach(
+                    handle,
+                    number,
+                    self.octets_at(list, 2)?,
+                    self.wait_at(list, 3),
+                )
+            }
+            _ => self.light_call(word, list),
         })
+    }
+
+    /// The call of a form whose operands fit its word, with what they are worth now. Only one with bytes, arguments
+    /// or clauses takes memory.
+    pub(crate) fn form_call(&self, form: &Form) -> Result<Call, NoMemory>
+        requires few { length (rc_value self.now.script) ≤ 256 }
+        requires fits { is_form form.now ≡ true }
+        ensures ok { IfOk result (λ call. call_of form.now.word (values_of (seen self.now) form.now.operands) ≡ Some call) }
+        ensures err { OnErr result (build_takes_memory form.now.word ≡ true) }
+    {
+        self.placed_call(form.word, form.operands.as_slice())
     }
 }
