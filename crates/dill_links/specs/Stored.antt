@@ -1,4 +1,4 @@
--- Links as they are stored, with the rooms of their stacks, and the links of the machine that they are.
+-- Links as they are stored, and the links of the machine that they are.
 use Rattle.std.specs.Prelude.{ℕ, ◌+◌, ◌-◌, ◌==◌, List, [], ◌∷◌, ◌++◌, map, find, Bool, true, false, Option, is_some}
 use Rattle.dill_base.specs.Maps.{change, without}
 use Rattle.dill_stack.specs.Interface.{set_link}
@@ -18,7 +18,7 @@ nothing_stored = record { rows = []; last = 0; kept = 0 }
 
 -- the link that a row is
 abbrev pub link_of : LinkRow → Link
-link_of x = record { number = x.number; sort = x.sort; stack = x.stack.held; read_hot = x.read_hot; write_hot = x.write_hot; shut = x.shut; closing = x.closing }
+link_of x = record { number = x.number; sort = x.sort; stack = x.stack.held; read_hot = x.read_hot; write_hot = x.write_hot; shut = x.shut; closing = x.closing; most = x.stack.most }
 
 -- the links that are stored
 abbrev pub links_of : Stored → Links

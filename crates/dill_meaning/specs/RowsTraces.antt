@@ -3,7 +3,7 @@ use Rattle.std.specs.Prelude.{◌≡◌, ℕ, [], ◌∷◌, ◌++◌, map, filt
 use Rattle.dill_base.specs.declared.deadline.Deadline.TheVariants.{Never, At, After}
 use Rattle.dill_base.specs.declared.errno.Errno.TheVariants.{Ebadf, Ecanceled, Einval, Emsgsize, Epipe, Etimedout}
 use Rattle.dill_base.specs.declared.status.Address.{Address}
-use Rattle.dill_calls.specs.declared.answer.Answer.TheVariants.{Number, Pair, Bytes, Chosen, Fault}
+use Rattle.dill_calls.specs.declared.answer.Answer.TheVariants.{Number, Pair, Bytes, Two, Chosen, Fault}
 use Rattle.dill_calls.specs.declared.call.Call.TheVariants as calls
 use Rattle.dill_calls.specs.declared.lists.Arg.TheVariants.{Show, Give}
 use Rattle.dill_calls.specs.declared.lists.Clause.TheVariants.{Recv}
@@ -12,7 +12,7 @@ use Rattle.dill_calls.specs.Program.{Calls, Ends}
 use Rattle.dill_script.specs.Reading.{script_of}
 use Rattle.dill_script.specs.Table.{call_words}
 use Rattle.dill_meaning.specs.Meaning.{may_lack}
-use Rattle.dill_meaning.specs.RowsRuns.{moves, main_in, program_in, zero_answer, zeros}
+use Rattle.dill_meaning.specs.RowsRuns.{moves, main_in, program_in, body, zero_answer, zeros}
 
 -- an address of this machine
 abbrev pub local : ℕ → Address
@@ -38,6 +38,7 @@ pub record LinkRows : Type 0 where
   pub gives : moves (main_in (script_of (codes "dill 1\nprogram d 1\nn1 = prefix_attach n0 2 big\nn1 = term_attach n1 \"\"\ntry n2 = term_detach n1 -1\ntry hclose n1\nend\nprogram main 0\nn0 = tcp_listen 127.0.0.1:7000 1\nn1 = tcp_connect 127.0.0.1:7000 -1\nn2 = go d give n1\nmsleep 10\nhclose n2\nend\n"))) (zero_answer ∷ Number 1 ∷ Number 2 ∷ Number 3 ∷ zero_answer ∷ zero_answer ∷ []) ≡ Calls (calls.TcpListen (local 7000) 1) ∷ Calls (calls.TcpConnect (local 7000) Never) ∷ Calls (calls.Go 0 (Give 2 ∷ [])) ∷ Calls (calls.Msleep (At 10)) ∷ Calls (calls.Hclose 3) ∷ Ends None ∷ []
   pub relays : moves (program_in (script_of (codes "dill 1\nprogram up 1\nloop 3\nn1 = tcp_accept n0 -1\nn1 = ws_attach_server n1 text +1000\nb0 = mrecv n1 65536 +1000\nmsend n1 b0 +1000\nhclose n1\nend\nend\nprogram relay 1\nloop 3\nn1 = tcp_accept n0 -1\nn1 = prefix_attach n1 2 big\nn2 = tcp_connect 127.0.0.1:7002 +1000\nn2 = ws_attach_client n2 text \"/\" \"127.0.0.1:7002\" +1000\nb0 = mrecv n1 65536 +1000\nmsend n2 b0 +1000\nb0 = mrecv n2 65536 +1000\nmsend n1 b0 +1000\nhclose n2\nhclose n1\nend\nend\nprogram main 0\nn0 = tcp_listen 127.0.0.1:7001 16\nn1 = tcp_listen 127.0.0.1:7002 16\nn2 = go up give n1\nn3 = go relay give n0\nloop 3\nn4 = tcp_connect 127.0.0.1:7001 +1000\nn4 = prefix_attach n4 2 big\nmsend n4 \"hi\" +1000\nb0 = mrecv n4 65536 +1000\nprint b0\nhclose n4\nend\nbundle_wait n2 -1\nbundle_wait n3 -1\nend\n")) 1 (1 ∷ [])) (zero_answer ∷ Number 8 ∷ Number 9 ∷ Number 10 ∷ Number 11 ∷ Bytes (codes "hi") ∷ zero_answer ∷ Bytes (codes "hi") ∷ zeros 3 ++ Fault Ecanceled ∷ []) ≡ Calls (calls.TcpAccept 1 Never) ∷ Calls (calls.PrefixAttach 8 2 true) ∷ Calls (calls.TcpConnect (local 7002) (After 1000)) ∷ Calls (calls.WsAttachClient 10 true (codes "/") (codes "127.0.0.1:7002") (After 1000)) ∷ Calls (calls.Mrecv 9 65536 (After 1000)) ∷ Calls (calls.Msend 11 (codes "hi") (After 1000)) ∷ Calls (calls.Mrecv 11 65536 (After 1000)) ∷ Calls (calls.Msend 9 (codes "hi") (After 1000)) ∷ Calls (calls.Hclose 11) ∷ Calls (calls.Hclose 9) ∷ Calls calls.Yield ∷ Ends (Some Ecanceled) ∷ []
   pub other_words : moves (main_in (script_of (codes "dill 1\nprogram main 0\nprefix_attach 1 2 little\nws_attach_nohttp 1 server binary\nws_attach_nohttp 1 client text\nws_detach 1 1000 \"bye\" 5\nhttp_sendstatus 1 200 \"OK\" -1\nend\n"))) (zeros 5) ≡ Calls (calls.PrefixAttach 1 2 false) ∷ Calls (calls.WsAttachNohttp 1 false false) ∷ Calls (calls.WsAttachNohttp 1 true true) ∷ Calls (calls.WsDetach 1 1000 (codes "bye") (At 5)) ∷ Calls (calls.HttpSendstatus 1 200 (codes "OK") Never) ∷ []
+  pub ends_and_lines : moves (body (codes "n3 = suffix_attach 3 \"\\r\\n\"\nterm_done n3 7\nn4 = suffix_detach 4\nn4 = prefix_detach n4\nbsend n4 \"ab\" +8\nn5 = http_attach n4\nb0 b1 = http_recvrequest n5 -1\nhttp_sendrequest n5 b0 b1 -1\nhttp_sendfield n5 \"host\" b0 9\nhttp_done n5 10\nn6 = http_detach n5 +n5\ntcp_done n6 -1\ntcp_close n6 0")) (zero_answer ∷ Number 4 ∷ zero_answer ∷ Number 5 ∷ Number 6 ∷ zero_answer ∷ Number 7 ∷ Two (codes "GET") (codes "/a") ∷ zeros 3 ++ Number 8 ∷ zero_answer ∷ []) ≡ Calls (calls.SuffixAttach 3 (13 ∷ 10 ∷ [])) ∷ Calls (calls.TermDone 4 (At 7)) ∷ Calls (calls.SuffixDetach 4) ∷ Calls (calls.PrefixDetach 5) ∷ Calls (calls.Bsend 6 (codes "ab") (After 8)) ∷ Calls (calls.HttpAttach 6) ∷ Calls (calls.HttpRecvrequest 7 Never) ∷ Calls (calls.HttpSendrequest 7 (codes "GET") (codes "/a") Never) ∷ Calls (calls.HttpSendfield 7 (codes "host") (codes "GET") (At 9)) ∷ Calls (calls.HttpDone 7 (At 10)) ∷ Calls (calls.HttpDetach 7 (After 7)) ∷ Calls (calls.TcpDone 8 Never) ∷ Calls (calls.TcpClose 8 (At 0)) ∷ []
 
 -- the calls of the table for whose building memory is taken
 pub record LackRows : Type 0 where

@@ -10,6 +10,7 @@ use Rattle.dill_calls.specs.declared.word.Word.TheVariants as words
 use Rattle.dill_calls.specs.CallTable.{word_of, gives_up, named_by}
 use Rattle.dill_handles.specs.Handles as handles
 use Rattle.dill_stack.specs.Interface.{Held, withdraw}
+pub use Rattle.dill_stack.specs.Interface.{unmark_done as undone}
 use Rattle.dill_base.specs.Maps.{if_some}
 use Rattle.dill_rules.specs.Links as link
 use Rattle.dill_rules.specs.Links.{Link, connector, as_closing, with_stack}
@@ -41,11 +42,7 @@ abbrev pub is_fault : Answer → Bool
 is_fault (Fault e) = true
 is_fault answer = false
 
--- The link's direction is done only where its `shut` was made.
-abbrev pub undone : Held → Held
-undone s = record s { sending = record s.sending { done = false } }
-
--- What an answer of a send does to its stack: one that is given up takes back what has not begun to go, and else breaks its direction; a `tcp_done` that fails leaves the direction not done. A link that fails takes nothing else back.
+-- What an answer of a send does to its stack: one that is given up takes back what has not begun to go, and else breaks its direction; a `tcp_done` that fails leaves the direction not done, since it is done only where its `shut` was made. A link that fails takes nothing else back.
 abbrev pub after_send : Word → Answer → Held → Held
 after_send word answer s = if is_given_up answer then withdraw s else (if is_tcp_done word && is_fault answer then undone s else s)
 

@@ -15,6 +15,7 @@ pub mod Linking
 pub mod Entering
 pub mod Giving
 pub mod Settling
+pub mod Lookless
 pub mod Turning
 pub mod Expiring
 pub mod Trying

@@ -1,5 +1,5 @@
 -- The answer from scratch of a call on a link: a broken direction, what was sent, and what the stack reads.
-use Rattle.std.specs.Prelude.{Bool, true, false, ◌&&◌, ◌||◌, Option, Some, None, if◌then◌else◌}
+use Rattle.std.specs.Prelude.{Bool, true, false, not, ◌&&◌, ◌||◌, Option, Some, None, if◌then◌else◌}
 use Rattle.rand_core.specs.Stream.{Stream}
 use Rattle.dill_base.specs.declared.errno.Errno.TheVariants.{Econnreset}
 use Rattle.dill_calls.specs.declared.answer.Answer.{Answer}
@@ -15,6 +15,7 @@ use Rattle.dill_base.specs.Maps.{if_some}
 use Rattle.dill_rules.specs.Links.{Link}
 use Rattle.dill_rules.specs.World.{World}
 use Rattle.dill_rules.specs.Directions.{is_send, is_receive, is_handshake, asked, parting_of}
+use Rattle.dill_rules.specs.Naming.{uses_link}
 use Rattle.dill_rules.specs.Sockets.{link_named}
 
 abbrev pub is_tcp_done : Word → Bool
@@ -66,6 +67,23 @@ whole_answer call random x = if is_tcp_done (word_of call) then zero_when x.shut
 -- a call that is answered by its stack
 abbrev pub is_on_stack : Word → Bool
 is_on_stack word = is_send word || (is_receive word || (is_handshake word || gives_up word))
+
+-- the call looks at its stack: a receive, a handshake, a detach or `tcp_close`
+abbrev pub reads : Call → Bool
+reads call = is_on_stack (word_of call) && not (is_send (word_of call))
+
+-- the call attaches a layer at its entry
+abbrev pub attaches : Word → Bool
+attaches words.PrefixAttach = true
+attaches words.SuffixAttach = true
+attaches words.TermAttach = true
+attaches words.HttpAttach = true
+attaches words.WsAttachNohttp = true
+attaches _ = false
+
+-- a call of a link: it waits for one, is answered by its stack, or attaches a layer to it
+abbrev pub is_of_link : Word → Bool
+is_of_link word = uses_link word || (is_on_stack word || attaches word)
 
 -- ECONNRESET before all else
 abbrev pub stack_answer : Call → Stream → Link → Option Answer

@@ -15,12 +15,12 @@ use Rattle.dill_stack.specs.declared.parting.Parting.{Parting}
 use Rattle.dill_stack.specs.Interface.{Held, frame, line, done, attach, expect_greet, greet, parting_fault, detach_start, drop_unread}
 use Rattle.dill_base.specs.Maps.{if_some}
 use Rattle.dill_rules.specs.Links as links
-use Rattle.dill_rules.specs.Links.{heated, with_stack}
+use Rattle.dill_rules.specs.Links.{heated, with_stack, reserved}
 use Rattle.dill_rules.specs.World.{World, reply, pend}
 use Rattle.dill_rules.specs.Owning.{take, move, release}
 use Rattle.dill_rules.specs.Taking.{is_cancelled}
 use Rattle.dill_rules.specs.Effects.{next_number}
-use Rattle.dill_rules.specs.Directions.{message_of, line_said, is_first, is_end, layer_of, parting_of}
+use Rattle.dill_rules.specs.Directions.{message_of, line_said, is_first, is_end, asked, layer_of, parting_of}
 use Rattle.dill_rules.specs.Sockets.{stack_of, on_named, put_stack}
 
 -- what is done with a good result, or else d
@@ -72,8 +72,12 @@ module _ {V : Type 0} where
   abbrev pub enter_send : World V → ℕ → Call → World V
   enter_send w who call = pend (queue (heat w call false true) call) who call
 
+  -- from the entry of a receive on there is room for what it may need
+  abbrev pub reserve : World V → Call → World V
+  reserve w call = if_some (named_by call) w (λ number. if_some (asked call) w (λ want. on_named w number (reserved want)))
+
   abbrev pub enter_receive : World V → ℕ → Call → World V
-  enter_receive w who call = pend (heat w call true false) who call
+  enter_receive w who call = pend (heat (reserve w call) call true false) who call
 
   -- a listen, an accept or a connect keeps a link
   abbrev pub enter_link : World V → ℕ → Call → World V

@@ -1,11 +1,12 @@
 -- Links: what the kernel made, what stands on each, and what is still due of it.
-use Rattle.std.specs.Prelude.{ℕ, ◌+◌, ◌-◌, ◌==◌, List, [], ◌∷◌, ◌++◌, find, Bool, true, false, ◌||◌, Option, Some, None}
+use Rattle.std.specs.Prelude.{ℕ, ◌+◌, ◌-◌, ◌==◌, List, [], ◌∷◌, ◌++◌, find, Bool, true, false, ◌||◌, Option, Some, None, max}
 use Rattle.dill_base.specs.Maps.{change, without}
-use Rattle.dill_stack.specs.Interface.{Held, opening, set_link}
+use Rattle.dill_stack.specs.declared.want.Want.{Want}
+use Rattle.dill_stack.specs.Interface.{Held, opening, set_link, limit_of_want}
 use Rattle.dill_rules.specs.declared.link.Sort.{Sort}
 use Rattle.dill_rules.specs.declared.link.Sort.TheVariants.{Listening, Connecting, Stream}
 
--- A link and the stack on it: whether each direction is hot, whether its `shut` was made, and whether its `close` is due.
+-- A link and the stack on it: whether each direction is hot, whether its `shut` was made, whether its `close` is due, and the most bytes that a receive on it has asked for, for which it has room since.
 pub record Link : Type 0 where
   pub number : ℕ
   pub sort : Sort
@@ -14,6 +15,7 @@ pub record Link : Type 0 where
   pub write_hot : Bool
   pub shut : Bool
   pub closing : Bool
+  pub most : ℕ
 
 -- The links that are there by rising number, until their `close` is asked; the last number that was used, and how many more are kept for pending calls.
 pub record Links : Type 0 where
@@ -36,7 +38,7 @@ change_link l number f = record l { all = change (is_link number) f l.all }
 
 -- a new link has nothing on it, and is hot in both directions
 abbrev pub fresh_link : ℕ → Sort → Link
-fresh_link number sort = record { number = number; sort = sort; stack = set_link number opening; read_hot = true; write_hot = true; shut = false; closing = false }
+fresh_link number sort = record { number = number; sort = sort; stack = set_link number opening; read_hot = true; write_hot = true; shut = false; closing = false; most = 0 }
 
 -- the next link, which was kept, was made
 abbrev pub add : Links → Sort → Links
@@ -53,6 +55,10 @@ unkeep l = record l { kept = l.kept - 1 }
 -- a link is gone
 abbrev pub gone : Links → ℕ → Links
 gone l number = record l { all = without (is_link number) l.all }
+
+-- there is room for what this receive may need
+abbrev pub reserved : Want → Link → Link
+reserved want x = record x { most = max x.most (limit_of_want want) }
 
 abbrev pub as_closing : Link → Link
 as_closing x = record x { closing = true }

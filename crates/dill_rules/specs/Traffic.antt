@@ -11,10 +11,8 @@ use Rattle.dill_kernel.specs.declared.replies.KernelAsk.TheVariants as asks
 use Rattle.dill_kernel.specs.declared.replies.KernelReply.{KernelReply}
 use Rattle.dill_kernel.specs.declared.replies.KernelReply.TheVariants as replies
 use Rattle.rand_core.specs.Stream.{Stream}
-use Rattle.dill_stack.specs.declared.want.Want.{Want}
-use Rattle.dill_stack.specs.declared.want.Want.TheVariants as wants
 use Rattle.dill_stack.specs.Dropping.{drop_limit}
-use Rattle.dill_stack.specs.Interface.{Held, need, head_need, parting_need, closing_need}
+use Rattle.dill_stack.specs.Interface.{Held, need, head_need, parting_need, closing_need, limit_of_want}
 use Rattle.dill_base.specs.Maps.{if_some}
 use Rattle.dill_rules.specs.Links.{Link}
 use Rattle.dill_rules.specs.World.{World, coroutine_of, pending_call}
@@ -46,11 +44,6 @@ no_traffic link = record { link = link; came = []; sent = []; most_need = 0; mos
 -- how many unread bytes a pending call needs at most: a receive by its want, a handshake a head, a detach an item that it drops
 abbrev pub need_of : Call → Held → ℕ
 need_of call s = if_some (asked call) (if is_handshake (word_of call) then head_need else (if is_some (parting_of call) then parting_need else closing_need)) (λ want. need want s)
-
-abbrev pub limit_of_want : Want → ℕ
-limit_of_want (wants.Exact size) = size
-limit_of_want (wants.Message limit) = limit
-limit_of_want want = 0
 
 -- the limit of a receive, or of what a detach drops
 abbrev pub limit_of : Call → ℕ

@@ -7,7 +7,8 @@ use Rattle.dill_calls.specs.declared.word.Word.{Word}
 use Rattle.dill_calls.specs.CallTable.{word_of, named_by, gives_up}
 use Rattle.dill_kernel.specs.declared.replies.KernelAsk.{KernelAsk}
 use Rattle.dill_kernel.specs.declared.replies.KernelAsk.TheVariants as asks
-use Rattle.dill_stack.specs.Interface.{Held, needs_bytes, offered}
+use Rattle.dill_stack.specs.Interface.{needs_bytes, offered}
+pub use Rattle.dill_stack.specs.Interface.{is_idle}
 use Rattle.dill_base.specs.Maps.{if_some, first_some}
 use Rattle.dill_scope.specs.Scopes.{is_bundle}
 use Rattle.dill_rules.specs.Links.{Link, is_listening, is_stream, connector}
@@ -35,10 +36,6 @@ may_need word = is_receive word || (is_handshake word || gives_up word)
 -- a call that ends by a `shut`
 abbrev pub is_ending_send : Word → Bool
 is_ending_send word = is_tcp_done word || is_tcp_close word
-
--- nothing is queued
-abbrev pub is_idle : Held → Bool
-is_idle s = length s.queue == 0
 
 -- this try stands behind a place
 abbrev pub is_behind : Place → Try → Bool

@@ -21,7 +21,8 @@ use Rattle.dill_rules.specs.Entering.{entered, lack_fault}
 use Rattle.dill_rules.specs.Channeling.{without_bytes}
 use Rattle.laws_queue.proofs.Acting.{may_pend, may_meet}
 use Rattle.laws_queue.proofs.Walking.{none_behind}
-use Rattle.laws_sound.specs.Linkless.{is_of_link, may_wait}
+use Rattle.dill_rules.specs.LinkAnswers.{is_of_link}
+use Rattle.laws_sound.specs.Linkless.{may_wait}
 
 by_quiet : (word : Word) (answer : Answer) → is_quiet word ≡ true → Lowers word answer
 by_quiet word answer e = inr (inl e)

@@ -31,7 +31,7 @@ use Rattle.dill_rules.specs.Channeling.{done_at}
 use Rattle.laws_debt.proofs.Lasting.{Parts, Clearing, either, which, move_by, close_by, channel_lasts, done_at_lasts, meet_lasts}
 use Rattle.dill_rules.specs.Entering.{keep_for, perform, done, enter}
 use Rattle.dill_rules.specs.Settling.{close_owned, end}
-use Rattle.laws_sound.specs.Linkless.{is_of_link}
+use Rattle.dill_rules.specs.LinkAnswers.{is_of_link}
 use Rattle.laws_queue.proofs.Crew.{give_all_crew}
 use Rattle.dill_scope.proofs.Carrying.{inside_lives}
 use Rattle.laws_queue.proofs.Walking.{none_behind, or_false}

@@ -52,7 +52,7 @@ use Rattle.dill_rules.specs.Turning.{is_build, is_entry, may_lack_build, resume,
 use Rattle.dill_rules.specs.World.{World, call_of, reply, pend, note, from_start}
 use Rattle.laws_sound.specs.Linkless.{may_wait, IsLinkless}
 use Rattle.laws_sound.proofs.Steps.{first_waits}
-use Rattle.laws_queue.proofs.Besides.{Besides, on_named_besides, ask_stack_besides, heat_besides, queue_besides, dropped_besides, look_besides, pass_all_besides}
+use Rattle.laws_queue.proofs.Besides.{Besides, on_named_besides, ask_stack_besides, heat_besides, ready_besides, queue_besides, dropped_besides, look_besides, pass_all_besides}
 use Rattle.laws_queue.proofs.Lists.{all_found, all_filter, found_passes, number_of}
 
 -- bundles, handles and closings of a world
@@ -288,7 +288,7 @@ module _ {V : Type 0} (I : Parts → Type 0) where
         let hot = heat w call false true in
         let more = record w { links = link.keep w.links } in
         which (is_send (word_of call)) (enter_send w who call) _ (beside (queue_besides hot call) (beside (heat_besides w call false true) h))
-        (which (is_receive (word_of call)) (enter_receive w who call) _ (beside (heat_besides w call true false) h)
+        (which (is_receive (word_of call)) (enter_receive w who call) _ (beside (ready_besides w call) h)
         (which (gives_up (word_of call)) (enter_giving_up w who call (draws_of call)) _ (giving_lasts w who call (draws_of call) h)
         (which (links (word_of call)) (enter_link w who call) _ (beside (heat_besides more call true false) h)
         (which (is_handshake (word_of call)) (enter_handshake w who call) (enter_attach w who call) (handshake_lasts w who call h) (attach_lasts w who call h)))))

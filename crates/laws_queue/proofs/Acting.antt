@@ -40,7 +40,7 @@ use Rattle.dill_rules.specs.Giving.{is_read, look_on, after_send, give_send, giv
 use Rattle.dill_rules.specs.Hearing.{listen_fault, connect_fault, accept_fault, fitting, linking_call, fail, give_handle, made, connector_of, heard_listen, heard_connect, heard_finish, heard_accept, heard_write, heard_shut, heard_read, heard_ask, heard}
 use Rattle.dill_rules.specs.Kinds.{value_of}
 use Rattle.dill_rules.specs.LinkAnswers.{is_tcp_close}
-use Rattle.dill_rules.specs.Linking.{greet_by, ask_stack, heat, queue, enter_send, enter_receive, enter_link, attach_layer, enter_attach, given_up_at_once, give_stack_up, begin_detach, dropped_for, enter_giving_up, enter_handshake}
+use Rattle.dill_rules.specs.Linking.{greet_by, ask_stack, heat, reserve, queue, enter_send, enter_receive, enter_link, attach_layer, enter_attach, given_up_at_once, give_stack_up, begin_detach, dropped_for, enter_giving_up, enter_handshake}
 use Rattle.dill_rules.specs.Links.{with_stack, as_stream}
 use Rattle.dill_rules.specs.declared.link.Sort.TheVariants.{Listening, Stream}
 use Rattle.dill_rules.specs.Links as link
@@ -51,7 +51,7 @@ use Rattle.dill_rules.specs.Sockets.{on_link, on_named}
 use Rattle.dill_rules.specs.Taking.{bundle_named}
 use Rattle.dill_rules.specs.Trying.{Try, pending_on, next_link}
 use Rattle.dill_rules.specs.World.{World, is_coroutine, call_of, with_mode, reply, pend, pending_call}
-use Rattle.laws_queue.proofs.Besides.{besides_crew, besides_then, with_links, on_named_besides, ask_stack_besides, heat_besides, queue_besides, dropped_besides, look_besides}
+use Rattle.laws_queue.proofs.Besides.{besides_crew, besides_then, with_links, on_named_besides, ask_stack_besides, heat_besides, ready_besides, queue_besides, dropped_besides, look_besides}
 use Rattle.laws_queue.proofs.Crew.{SameCrew, no_change, some_crew, crew_then, move_crew, release_crew, free_dead_crew, give_all_crew}
 use Rattle.laws_queue.proofs.Linked.{if_crew, take_named_crew, release_named_crew, attach_crew, forgo_crew, wait_all_crew}
 
@@ -333,7 +333,7 @@ module _ {V : Type 0} (B : V → Type 0) where
       let taken = if_some (named_by call) w (λ number. take w number who) in
       let asked = ask_stack taken call (greet_by call) in
       if_acts (is_send word) w who call (enter_send w who call) _ (pends w (queue hot call) who call m (besides_crew (besides_then w hot (queue hot call) (heat_besides w call false true) (queue_besides hot call))))
-      (if_acts (is_receive word) w who call (enter_receive w who call) _ (pends w (heat w call true false) who call m (besides_crew (heat_besides w call true false)))
+      (if_acts (is_receive word) w who call (enter_receive w who call) _ (pends w (heat (reserve w call) call true false) who call m (besides_crew (ready_besides w call)))
       (if_acts (gives_up word) w who call (enter_giving_up w who call (draws_of call)) _ (giving_acts w who call (draws_of call) m)
       (if_acts (links word) w who call (enter_link w who call) _ (pends w (heat more call true false) who call m (besides_crew (besides_then w more (heat more call true false) (with_links w (link.keep w.links) w.random) (heat_besides more call true false))))
       (if_acts (is_handshake word) w who call (enter_handshake w who call) (enter_attach w who call)

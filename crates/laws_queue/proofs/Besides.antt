@@ -11,11 +11,11 @@ use Rattle.dill_http.specs.Heads.{line_of}
 use Rattle.dill_http.specs.Lines.{crlf}
 use Rattle.dill_rules.specs.declared.coroutine.Coroutine.{Coroutine}
 use Rattle.dill_rules.specs.World.{World, pending_call}
-use Rattle.dill_rules.specs.Links.{Link, Links, with_stack, heated}
-use Rattle.dill_rules.specs.Directions.{is_send, is_first, is_end, parting_of, message_of, line_said}
+use Rattle.dill_rules.specs.Links.{Link, Links, with_stack, heated, reserved}
+use Rattle.dill_rules.specs.Directions.{is_send, is_first, is_end, asked, parting_of, message_of, line_said}
 use Rattle.dill_rules.specs.Sockets.{link_number, stack_of, on_link, on_named}
 use Rattle.dill_rules.specs.LinkAnswers.{is_on_stack, look_of}
-use Rattle.dill_rules.specs.Linking.{if_ok, with_random, put, ask_stack, heat, queue_line, queue_message, queue_end, queue, dropped_for}
+use Rattle.dill_rules.specs.Linking.{if_ok, with_random, put, ask_stack, heat, reserve, queue_line, queue_message, queue_end, queue, dropped_for}
 use Rattle.dill_rules.specs.Giving.{look_on}
 use Rattle.dill_rules.specs.Hearing.{heat_ready}
 use Rattle.dill_rules.specs.Settling.{pass_one, pass_all}
@@ -74,6 +74,15 @@ module _ {V : Type 0} where
 
   pub heat_besides : (w : World V) (call : Call) (read write : Bool) → Besides w (heat w call read write)
   heat_besides w call read write = some_besides (named_by call) w w (λ number. on_named w number (heated read write)) (as_was w) (λ number. on_named_besides w number (heated read write))
+
+  -- what a receive does before it is pending
+  pub ready_besides : (w : World V) (call : Call) → Besides w (heat (reserve w call) call true false)
+  ready_besides w call =
+      let v = reserve w call in
+      besides_then w v (heat v call true false)
+      (some_besides (named_by call) w w (λ number. if_some (asked call) w (λ want. on_named w number (reserved want))) (as_was w)
+      (λ number. some_besides (asked call) w w (λ want. on_named w number (reserved want)) (as_was w) (λ want. on_named_besides w number (reserved want))))
+      (heat_besides v call true false)
 
   pub queue_besides : (w : World V) (call : Call) → Besides w (queue w call)
   queue_besides w call =

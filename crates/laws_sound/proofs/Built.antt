@@ -5,7 +5,8 @@ use Rattle.dill_calls.specs.Program.{Program, Move, Calls, Ends}
 use Rattle.dill_calls.specs.declared.word.Word.{Word}
 use Rattle.dill_calls.specs.declared.word.Word.TheVariants as words
 use Rattle.dill_plain.specs.Plain.{MovesPlain, MakesPlain}
-use Rattle.laws_sound.specs.Linkless.{is_of_link, MovesLinkless, MakesLinkless}
+use Rattle.dill_rules.specs.LinkAnswers.{is_of_link}
+use Rattle.laws_sound.specs.Linkless.{MovesLinkless, MakesLinkless}
 
 built_linkless : (word : Word) → is_built word ≡ true → is_of_link word ≡ false
 built_linkless words.Start e = refl

@@ -39,13 +39,13 @@ use Rattle.dill_rules.specs.Taking.{bundle_of}
 use Rattle.dill_rules.specs.Answers.{want_of, end_named}
 use Rattle.dill_rules.specs.Directions.{is_send, is_receive, is_handshake, layer_of, parting_of}
 use Rattle.dill_rules.specs.LinkAnswers.{is_on_stack}
-use Rattle.dill_rules.specs.Linking.{with_random, greet_by, ask_stack, heat, queue, enter_send, enter_receive, enter_link, put_layer, attach_layer, enter_attach, given_up_at_once, give_stack_up, begin_detach, dropped_for, enter_giving_up, enter_handshake}
+use Rattle.dill_rules.specs.Linking.{with_random, greet_by, ask_stack, heat, reserve, queue, enter_send, enter_receive, enter_link, put_layer, attach_layer, enter_attach, given_up_at_once, give_stack_up, begin_detach, dropped_for, enter_giving_up, enter_handshake}
 use Rattle.dill_rules.specs.Channeling.{without_bytes, clauses_of, is_waiting, meeting_of, answer_clause, clause_answer, meet, wait_all, first_done, enter_channel}
 use Rattle.dill_rules.specs.Effects.{close_thing, give_all, bear, next_number}
 use Rattle.dill_rules.specs.Entering.{perform_on_link, is_too_late, late_answer, meet_deadline}
 use Rattle.dill_rules.specs.Settling.{close_owned, close_all, end}
 use Rattle.laws_queue.specs.Well.{bit, is_at}
-use Rattle.laws_queue.proofs.Besides.{with_links, besides_then, heat_besides, ask_stack_besides, queue_besides, dropped_besides}
+use Rattle.laws_queue.proofs.Besides.{with_links, besides_then, heat_besides, ready_besides, ask_stack_besides, queue_besides, dropped_besides}
 use Rattle.laws_queue.proofs.Crew.{give_all_crew, close_all_crew}
 use Rattle.laws_sound.proofs.Lists.{all_found, all_change}
 use Rattle.laws_sound.specs.Order.{IsInOrder}
@@ -271,7 +271,7 @@ module _ {V : Type 0} where
       if_good (is_send word) w (enter_send w who call) _
       (λ e. pends_behind w (queue hot call) who call h (besides w (queue hot call) (besides_then w hot (queue hot call) (heat_besides w call false true) (queue_besides hot call)) h.good.order) enough free fit)
       (λ e. if_good (is_receive word) w (enter_receive w who call) _
-      (λ f. pends_behind w (heat w call true false) who call h (besides w (heat w call true false) (heat_besides w call true false) h.good.order) enough free fit)
+      (λ f. pends_behind w (heat (reserve w call) call true false) who call h (besides w (heat (reserve w call) call true false) (ready_besides w call) h.good.order) enough free fit)
       (λ f. if_good (gives_up word) w (enter_giving_up w who call (draws_of call)) _
       (λ g. giving_goes w who call (draws_of call) h enough free fit (on (or_left (is_on_stack word) (is_some (layer_of call)) (stacks (is_send word) (is_receive word) (is_handshake word) (gives_up word) (inr g)))))
       (λ g. if_good (links word) w (enter_link w who call) _

@@ -27,7 +27,8 @@ use Rattle.dill_rules.specs.Settling.{close_owned, close_all, end, settle}
 use Rattle.dill_rules.specs.Turning.{is_build, is_entry, as_running, may_lack_build, resume, answer_given, move_of, make_move, lack_move, go_on, turn}
 use Rattle.laws_queue.specs.Kept.{root_closed}
 use Rattle.laws_queue.specs.Lending.{lent}
-use Rattle.laws_sound.specs.Linkless.{is_of_link, MovesLinkless, may_wait, waits_linkless, IsLinkless}
+use Rattle.dill_rules.specs.LinkAnswers.{is_of_link}
+use Rattle.laws_sound.specs.Linkless.{MovesLinkless, may_wait, waits_linkless, IsLinkless}
 use Rattle.dill_rules.specs.Naming.{uses_link}
 use Rattle.laws_sound.proofs.Lists.{all_change}
 use Rattle.dill_base.specs.declared.errno.Errno.TheVariants.{Epipe}

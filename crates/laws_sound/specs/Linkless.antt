@@ -1,11 +1,9 @@
 -- Worlds in which no links are there, and programs that make no call of a link.
-use Rattle.std.specs.Prelude.{◌≡◌, ◌≤◌, [], Bool, true, false, ◌||◌}
+use Rattle.std.specs.Prelude.{◌≡◌, ◌≤◌, [], Bool, true, false}
 use Rattle.std.specs.List.{list_all}
 use Rattle.dill_calls.specs.declared.call.Call.{Call}
 use Rattle.dill_calls.specs.declared.call.Call.TheVariants as calls
 use Rattle.dill_calls.specs.declared.answer.Answer.{Answer}
-use Rattle.dill_calls.specs.declared.word.Word.{Word}
-use Rattle.dill_calls.specs.declared.word.Word.TheVariants as words
 use Rattle.dill_calls.specs.CallTable.{word_of}
 use Rattle.dill_calls.specs.Program.{Program, Move, Calls, Ends}
 use Rattle.dill_handles.specs.declared.entry.Entry.{Entry}
@@ -14,8 +12,7 @@ use Rattle.dill_rules.specs.declared.coroutine.Coroutine.{Coroutine}
 use Rattle.dill_rules.specs.declared.thing.Thing.{Thing}
 use Rattle.dill_rules.specs.declared.thing.Thing.TheVariants as things
 use Rattle.dill_rules.specs.Links.{no_links}
-use Rattle.dill_rules.specs.LinkAnswers.{is_on_stack}
-use Rattle.dill_rules.specs.Naming.{uses_link}
+use Rattle.dill_rules.specs.LinkAnswers.{is_of_link}
 use Rattle.dill_rules.specs.World.{World, at_start, pending_call}
 
 -- a bundle, an end of a channel, or an application's value
@@ -49,19 +46,6 @@ pub record IsLinkless {V : Type 0} (w : World V) : Type 0 where
   pub wrote : w.wrote ≡ []
   pub things : list_all is_linkless_entry w.handles.entries ≡ true
   pub calls : list_all waits_linkless w.coroutines ≡ true
-
--- the call attaches a layer at its entry
-abbrev pub attaches : Word → Bool
-attaches words.PrefixAttach = true
-attaches words.SuffixAttach = true
-attaches words.TermAttach = true
-attaches words.HttpAttach = true
-attaches words.WsAttachNohttp = true
-attaches _ = false
-
--- a call of a link: it waits for one, is answered by its stack, or attaches a layer to it
-abbrev pub is_of_link : Word → Bool
-is_of_link word = uses_link word || (is_on_stack word || attaches word)
 
 -- the call of a move is none of a link, if it makes one
 abbrev pub MovesLinkless : {V : Type 0} → V × Move → Type 0
