@@ -50,7 +50,7 @@ use Rattle.laws_looks.proofs.Fewer.{fewer_parts, fewer_same, fewer_lined, fewer_
 use Rattle.laws_looks.proofs.Quieted.{aside, of_aside, due_as, due_waits, answer_blind}
 use Rattle.laws_looks.proofs.Enters.{go_on_apart}
 use Rattle.laws_looks.proofs.Hears.{heard_apart}
-use Rattle.laws_looks.proofs.Restful.{calmly_same, calmly_mark, calmly_lined, calmly_rests, settles_from}
+use Rattle.laws_looks.proofs.Restful.{rest_lent, calmly_same, calmly_mark, calmly_lined, calmly_rests, settles_from}
 use Rattle.laws_looks.proofs.Steps.{opening_apart}
 
 pub none_find : {X : Type 0} (f : X → Bool) (xs : List X) → ((x : X) → In x xs → f x ≡ false) → find f xs ≡ None
@@ -125,10 +125,7 @@ module _ {V : Type 0} where
   calm_lent w u c = record {
     apart = fewer_apart w (lent u w) (fewer_same w (lent u w) refl refl refl) c.apart;
     settled = settled_beside w w.links u w.place w.wrote w.moment w.notes blind c.settled;
-    restful = record {
-      calm = λ who call n l x p rd e nm i. c.restful.calm who call n l x (record { one = p.one; there = p.there; number = p.number; mode = p.mode }) rd e (record { entry = nm.entry; there = nm.there; number = nm.number; link = nm.link }) i;
-      apart = λ who other call more n m l p q s rd e f i j. c.restful.apart who other call more n m l (record { one = p.one; there = p.there; number = p.number; mode = p.mode }) (record { one = q.one; there = q.there; number = q.number; mode = q.mode }) s rd e f (record { entry = i.entry; there = i.there; number = i.number; link = i.link }) (record { entry = j.entry; there = j.there; number = j.number; link = j.link });
-    };
+    restful = rest_lent w u c.restful;
   }
     where
       linked : (call : Call) (o : Option Link) → if_some o None (stack_answer call w.random) ≡ None → if_some o None (stack_answer call u) ≡ None
@@ -144,17 +141,18 @@ module _ {V : Type 0} where
           at true (Some n) f = linked call (link_named w n) f
 
   -- a link that is hot answers as before
-  pub heat_answers : (w : World V) (n : ℕ) (read write : Bool) (call : Call) → link_answer w call ≡ None → link_answer (on_link w n (heated read write)) call ≡ None
-  heat_answers w n read write call e = at (is_on_stack (word_of call)) (named_by call) e
+  -- a mark at a link that leaves the stack and the `shut` answers nobody
+  pub mark_answers : (w : World V) (n : ℕ) (mark : Link → Link) (call : Call) → ((x : Link) → (mark x).number ≡ x.number) → ((x : Link) → stack_answer call w.random (mark x) ≡ stack_answer call w.random x) → link_answer w call ≡ None → link_answer (on_link w n mark) call ≡ None
+  mark_answers w n mark call number same e = at (is_on_stack (word_of call)) (named_by call) e
     where
       hot : Links
-      hot = change_link w.links n (heated read write)
+      hot = change_link w.links n mark
 
       by : (o : Option ℕ) → if_some (if_some o None (look w.links)) None (stack_answer call w.random) ≡ None → if_some (if_some o None (look hot)) None (stack_answer call w.random) ≡ None
       by None f = refl
-      by (Some l) f = found_alike (heated read write) None (stack_answer call w.random) (λ x. refl) (λ x. refl) n l w.links.all ∙ f
+      by (Some l) f = found_alike mark None (stack_answer call w.random) number same n l w.links.all ∙ f
 
-      at : (b : Bool) (o : Option ℕ) → (if b then if_some o None (λ number. if_some (link_named w number) None (stack_answer call w.random)) else None) ≡ None → (if b then if_some o None (λ number. if_some (link_named (on_link w n (heated read write)) number) None (stack_answer call w.random)) else None) ≡ None
+      at : (b : Bool) (o : Option ℕ) → (if b then if_some o None (λ number. if_some (link_named w number) None (stack_answer call w.random)) else None) ≡ None → (if b then if_some o None (λ number. if_some (link_named (on_link w n mark) number) None (stack_answer call w.random)) else None) ≡ None
       at false o f = refl
       at true None f = refl
       at true (Some number) f = by (link_number w number) f
@@ -166,7 +164,7 @@ module _ {V : Type 0} where
       let v = on_link w x.link f in
       calm_heated xs v (record {
         apart = fewer_apart w v (fewer_parts w v refl refl (stays_change w.links x.link f (λ y. refl) (λ y. refl))) c.apart;
-        settled = settled_beside w v.links w.random w.place w.wrote w.moment w.notes (heat_answers w x.link x.read x.write) c.settled;
+        settled = settled_beside w v.links w.random w.place w.wrote w.moment w.notes (λ call. mark_answers w x.link f call (λ y. refl) (λ y. refl)) c.settled;
         restful = calmly_rests w v (calmly_mark w x.link f (λ y. refl) (λ y. refl)) c.restful;
       })
 

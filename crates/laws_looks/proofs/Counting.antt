@@ -36,7 +36,7 @@ use Rattle.dill_rules.specs.Channeling.{without_bytes, wait_at, clauses_of, firs
 use Rattle.dill_rules.specs.Directions.{is_send, is_receive, is_handshake, layer_of, parting_of}
 use Rattle.dill_rules.specs.Effects.{add_bundle, bear, close_thing, give_all}
 use Rattle.dill_rules.specs.Entering.{keep_for, perform_on_link, perform, is_late, is_too_late, late_answer, meet_deadline, done, enter, entered, lack_fault}
-use Rattle.dill_rules.specs.Linking.{with_random, greet_by, ask_stack, heat, queue, enter_send, enter_receive, enter_link, put_layer, enter_attach, given_up_at_once, give_stack_up, begin_detach, dropped_for, enter_giving_up, enter_handshake}
+use Rattle.dill_rules.specs.Linking.{with_random, greet_by, ask_stack, heat, reserve, queue, enter_send, enter_receive, enter_link, put_layer, enter_attach, given_up_at_once, give_stack_up, begin_detach, dropped_for, enter_giving_up, enter_handshake}
 use Rattle.dill_rules.specs.Links as link
 use Rattle.dill_rules.specs.Links.{Links}
 use Rattle.dill_rules.specs.Naming.{links, uses_link, draws_of, gifts_of, end_of_clause}
@@ -58,7 +58,7 @@ use Rattle.laws_sound.proofs.Making.{begins}
 use Rattle.laws_looks.specs.Readers.{LooksApart}
 use Rattle.laws_looks.specs.Keeping.{connects_for, connects, awaits, KeepsLinks}
 use Rattle.laws_looks.proofs.Lists.{some_same, true_false}
-use Rattle.laws_looks.proofs.Stays.{heat_stays, ask_stays, queue_stays, dropped_stays}
+use Rattle.laws_looks.proofs.Stays.{heat_stays, ready_stays, ask_stays, queue_stays, dropped_stays}
 use Rattle.laws_looks.proofs.Fewer.{fewer_same, fewer_besides, fewer_then, fewer_some, fewer_change, fewer_apart}
 use Rattle.laws_looks.proofs.Counted.{is_making, Even, even_same, even_then, even_soft, idle_awaits, making_awaits, is_number, moved, moved_idle, aside_keeps, some_even, if_even, release_even, move_even, up_even, Lasts}
 use Rattle.laws_looks.proofs.Enters.{fewer_take, go_on_apart}
@@ -181,7 +181,7 @@ module _ {V : Type 0} where
       let taken = if_some (named_by call) w (λ number. take w number who) in
       let asked = ask_stack taken call (greet_by call) in
       if_even (is_send word) w.links (enter_send w who call) _ (λ e. even_then w.links hot.links (queue hot call).links (heat_even w call false true) (even_soft hot.links (queue hot call).links (queue_stays hot call)))
-      (λ e. if_even (is_receive word) w.links (enter_receive w who call) _ (λ f. heat_even w call true false)
+      (λ e. if_even (is_receive word) w.links (enter_receive w who call) _ (λ f. even_soft w.links (heat (reserve w call) call true false).links (ready_stays w call))
       (λ f. if_even (gives_up word) w.links (enter_giving_up w who call (draws_of call)) _ (λ g. giving_even w who call (draws_of call) a)
       (λ g. if_even (links word) w.links (enter_link w who call) _ (λ h. absurd (true_false (links word) h idle))
       (λ h. if_even (is_handshake word) w.links (enter_handshake w who call) (enter_attach w who call)

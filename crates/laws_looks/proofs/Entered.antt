@@ -1,5 +1,5 @@
 -- As a call is entered that looks at its stack, nothing is due but of the caller, and no look of another finds anything.
-use Rattle.std.proofs.Common.{◌≡◌, ◌∙◌, ◌⊎◌, inl, inr, ℕ, ◌+◌, ◌==◌, ◌<◌, List, [], ◌∷◌, find, cond, Bool, true, false, not, ◌&&◌, ◌||◌, Option, Some, None, if◌then◌else◌, refl, sym, ap, subst, arith}
+use Rattle.std.proofs.Common.{◌≡◌, ◌∙◌, ◌⊎◌, inl, inr, ℕ, ◌+◌, ◌==◌, List, [], ◌∷◌, find, Bool, true, false, not, ◌&&◌, Option, Some, None, if◌then◌else◌, refl, sym, ap}
 use Rattle.std.specs.Prelude.{is_none, option_map, Result, Ok, Err}
 use Rattle.std.specs.List.{list_all}
 use Rattle.std.specs.Option.{option_or}
@@ -7,51 +7,46 @@ use Rattle.rand_core.specs.Stream.{Stream}
 use Rattle.dill_base.specs.declared.errno.Errno.{Errno}
 use Rattle.dill_base.specs.declared.errno.Errno.TheVariants.{Ecanceled, Ebadf, Epipe}
 use Rattle.dill_base.specs.Maps.{if_some, change}
-use Rattle.dill_calls.specs.declared.answer.Answer.{Answer}
 use Rattle.dill_calls.specs.declared.answer.Answer.TheVariants.{Fault, Number, Chosen}
 use Rattle.dill_calls.specs.declared.call.Call.{Call}
 use Rattle.dill_calls.specs.declared.call.Call.TheVariants as calls
 use Rattle.dill_calls.specs.declared.lists.Clause.{Clause}
-use Rattle.dill_calls.specs.CallTable.{word_of, named_by, blocks, gives_up, is_hclose}
+use Rattle.dill_calls.specs.CallTable.{word_of, named_by, blocks, is_hclose}
 use Rattle.dill_chan.specs.declared.end.Want.{Want}
 use Rattle.dill_chan.specs.declared.end.Want.TheVariants.{Send, Recv}
 use Rattle.dill_chan.specs.Channels.{Channels}
 use Rattle.dill_chan.specs.Meetings.{has_ended}
-use Rattle.dill_handles.specs.Handles as handles
 use Rattle.dill_handles.specs.declared.entry.Entry.{Entry}
 use Rattle.dill_scope.specs.Scopes as scopes
 use Rattle.dill_scope.specs.Scopes.{Scopes}
 use Rattle.dill_stack.specs.declared.parting.Parting.{Parting}
-use Rattle.dill_stack.specs.Interface.{Held, drop_unread, detach_start}
+use Rattle.dill_stack.specs.declared.want.Want.{Want as Asked}
+use Rattle.dill_stack.specs.Interface.{Held, drop_unread}
 use Rattle.dill_rules.specs.declared.coroutine.Closing.{Closing}
 use Rattle.dill_rules.specs.declared.coroutine.Coroutine.{Coroutine}
-use Rattle.dill_rules.specs.declared.coroutine.Mode.{Mode}
 use Rattle.dill_rules.specs.declared.coroutine.Mode.TheVariants as modes
 use Rattle.dill_rules.specs.declared.thing.Thing.{Thing}
-use Rattle.dill_rules.specs.World.{World, is_coroutine, with_mode, pend, pending_call, is_ending}
-use Rattle.dill_rules.specs.Links.{Link, look, is_link, heated, with_stack}
+use Rattle.dill_rules.specs.World.{World, is_coroutine, with_mode, pend, is_ending}
+use Rattle.dill_rules.specs.Links.{Link, look, is_link, heated, with_stack, reserved}
 use Rattle.dill_rules.specs.Kinds.{is_dead}
 use Rattle.dill_rules.specs.Naming.{end_of_clause}
-use Rattle.dill_rules.specs.Owning.{entry_of, is_dead_as, take_thing, take}
+use Rattle.dill_rules.specs.Owning.{entry_of, is_dead_as}
 use Rattle.dill_rules.specs.Taking.{bundle_of, bundle_named, is_cancelled}
-use Rattle.dill_rules.specs.Sockets.{link_of, link_number, link_named, stack_of, on_link, on_named}
-use Rattle.dill_rules.specs.Directions.{is_send, is_handshake, parting_of}
-use Rattle.dill_rules.specs.LinkAnswers.{is_on_stack, stack_answer, link_answer}
-use Rattle.dill_rules.specs.Linking.{if_ok, put, ask_stack, heat, greet_by, enter_receive, enter_handshake, dropped_for, begin_detach, begin_giving_up}
+use Rattle.dill_rules.specs.Sockets.{link_of, link_number, stack_of, on_link, on_named}
+use Rattle.dill_rules.specs.Directions.{asked, parting_of}
+use Rattle.dill_rules.specs.LinkAnswers.{stack_answer, link_answer}
+use Rattle.dill_rules.specs.Linking.{if_ok, put, ask_stack, heat, reserve, enter_receive, dropped_for}
 use Rattle.dill_rules.specs.Turning.{as_running}
 use Rattle.dill_rules.specs.Answers.{when, want_of, end_of, end_named, when_empty, bundle_dead_as, clause_fault, choice_fault, own_answer, lost_its_number, answer_of}
 use Rattle.dill_rules.specs.Settling.{IsSettled, can_finish, is_clear}
 use Rattle.laws_queue.specs.Well.{Numbered}
 use Rattle.laws_queue.proofs.Numbers.{numbered_change}
-use Rattle.laws_sound.specs.Order.{IsInOrder}
-use Rattle.laws_looks.specs.Readers.{In, Pends, reads, LooksApart}
-use Rattle.laws_looks.specs.Calm.{Spent, Names, Restful, IsCalm}
+use Rattle.laws_looks.specs.Readers.{In, Pends}
 use Rattle.laws_looks.specs.OneLook.{StirsOne, called}
-use Rattle.laws_looks.proofs.Lists.{equal_is, unequal_is, or_none, none_or, find_none, in_change, reads_parts, some_same}
-use Rattle.laws_looks.proofs.Fewer.{named_once, take_links}
-use Rattle.laws_looks.proofs.Quieted.{above, changed_other, answer_blind, due_waits}
-use Rattle.laws_looks.proofs.Restful.{names_number, calmly_mark}
-use Rattle.laws_looks.proofs.Between.{none_find, heat_answers}
+use Rattle.laws_looks.proofs.Lists.{equal_is, unequal_is, or_none, none_or, find_none, in_change}
+use Rattle.laws_looks.proofs.Quieted.{changed_is, changed_other, due_waits}
+use Rattle.laws_looks.proofs.Between.{none_find, mark_answers}
+use Rattle.laws_looks.proofs.Stirring.{CalmBut}
 
 by_thing : {A : Type 0} (o : Option (Entry Thing)) (d : A) (f : Thing → A) → if_some o d (λ x. f x.thing) ≡ if_some (option_map (λ x. x.thing) o) d f
 by_thing None d f = refl
@@ -108,7 +103,7 @@ module _ {V : Type 0} where
     own_alike (calls.Choose deadline all) h e = choice_alike 0 all ∙ e
     own_alike call h e = h e
 
-    pub none_alike : (who : ℕ) (call : Call) → (link_answer w call ≡ None → link_answer v call ≡ None) → answer_of w who call ≡ None → answer_of v who call ≡ None
+    none_alike : (who : ℕ) (call : Call) → (link_answer w call ≡ None → link_answer v call ≡ None) → answer_of w who call ≡ None → answer_of v who call ≡ None
     none_alike who call h e =
         let one = or_none (when (blocks (word_of call) && is_cancelled w who) (Fault Ecanceled)) (option_or (when (lost_its_number w call) (Fault Ebadf)) (own_answer w call)) e in
         let two = or_none (when (lost_its_number w call) (Fault Ebadf)) (own_answer w call) one.1 in
@@ -119,40 +114,29 @@ module _ {V : Type 0} where
     clear_alike : (n : ℕ) → is_clear v n ≡ is_clear w n
     clear_alike n = ap (λ (s : Scopes). list_all (scopes.is_empty s) (scopes.bundles_of s n)) a.scopes
 
-  -- what the entry of a call leaves: nobody else stands elsewhere, is answered, or finds anything
+  -- what the entry of a call leaves: nobody else stands elsewhere or is answered
   pub record Joins (w v : World V) (who : ℕ) (call : Call) : Type 0 where
     pub alike : Alike w v
     pub others : (d : Coroutine V) → In d v.coroutines → (d.number ≡ who → ⊥) → In d w.coroutines
     pub own : (d : Coroutine V) → In d v.coroutines → d.number ≡ who → d.mode ≡ modes.Pending call
+    pub numbered : Numbered 0 v.coroutines v.last_coroutine
     pub links : (other : ℕ) (more : Call) → Pends w other more → (other ≡ who → ⊥) → link_answer w more ≡ None → link_answer v more ≡ None
-    pub calm : (other : ℕ) (more : Call) (n k : ℕ) (y : Link) → Pends w other more → (other ≡ who → ⊥) → reads more ≡ true → named_by more ≡ Some n → Names v n k → look v.links k ≡ Some y → Spent more y.stack
 
-  pub joins_stirs : (w v : World V) (who : ℕ) (call : Call) → IsSettled w → Joins w v who call → StirsOne v who
-  joins_stirs w v who call s j = record {
+  pub joins_pends : (w v : World V) (who : ℕ) (call : Call) → Joins w v who call → (other : ℕ) (more : Call) → Pends v other more → (other ≡ who → ⊥) → Pends w other more
+  joins_pends w v who call j other more p ne = record { one = p.one; there = j.others p.one p.there (λ same. ne (sym p.number ∙ same)); number = p.number; mode = p.mode }
+
+  pub joins_stirs : (w v : World V) (who : ℕ) (call : Call) → IsSettled w → Joins w v who call → CalmBut v who → StirsOne v who
+  joins_stirs w v who call s j calm = record {
     endings = none_find (can_finish v) v.coroutines (λ d i. finishes d i (d.number == who) refl);
     waits = λ d more i ne e. none_alike w v j.alike d.number more (j.links d.number more (record { one = d; there = j.others d i ne; number = refl; mode = e }) ne) (due_waits w s.answers d (j.others d i ne) more e);
-    calm = λ other more n k y p ne rd e nm i. j.calm other more n k y (record { one = p.one; there = j.others p.one p.there (λ same. ne (sym p.number ∙ same)); number = p.number; mode = p.mode }) ne rd e nm i;
+    calm = calm;
   }
     where
       finishes : (d : Coroutine V) → In d v.coroutines → (b : Bool) → (d.number == who) ≡ b → can_finish v d ≡ false
       finishes d i true e = ap (λ m. is_ending m && is_clear v d.number) (j.own d i (equal_is d.number who e))
       finishes d i false e = ap (λ b. is_ending d.mode && b) (clear_alike w v j.alike d.number) ∙ find_none (can_finish w) w.coroutines s.endings d (j.others d i (unequal_is d.number who e))
 
-  -- who is put into a mode stands in it, and nobody else does
-  pub changed_mode : (low high who : ℕ) (mode : Mode) (cs : List (Coroutine V)) (d : Coroutine V) → Numbered low cs high → In d (change (is_coroutine who) (with_mode mode) cs) → d.number ≡ who → d.mode ≡ mode
-  changed_mode low high who mode [] d n i e = absurd i
-  changed_mode low high who mode (c ∷ cs) d n i e = at (c.number == who) refl i (λ j. changed_mode c.number high who mode cs d n.1 j e)
-    where
-      at : (b : Bool) → (c.number == who) ≡ b → In d (cond b (with_mode mode c ∷ cs) (c ∷ change (is_coroutine who) (with_mode mode) cs)) → (In d (change (is_coroutine who) (with_mode mode) cs) → d.mode ≡ mode) → d.mode ≡ mode
-      at true g (inl same) rest = ap (λ (x : Coroutine V). x.mode) same
-      at true g (inr j) rest =
-          let r = above c.number high cs d n.1 j in
-          let q : c.number ≡ who = equal_is c.number who g in
-          absurd (omega (arith, r, q, e))
-      at false g (inl same) rest = absurd (unequal_is c.number who g (ap (λ (x : Coroutine V). x.number) (sym same) ∙ e))
-      at false g (inr j) rest = rest j
-
-  pub changed_others : (who : ℕ) (f : Coroutine V → Coroutine V) (cs : List (Coroutine V)) (d : Coroutine V) → ((c : Coroutine V) → (f c).number ≡ c.number) → In d (change (is_coroutine who) f cs) → (d.number ≡ who → ⊥) → In d cs
+  changed_others : (who : ℕ) (f : Coroutine V → Coroutine V) (cs : List (Coroutine V)) (d : Coroutine V) → ((c : Coroutine V) → (f c).number ≡ c.number) → In d (change (is_coroutine who) f cs) → (d.number ≡ who → ⊥) → In d cs
   changed_others who f cs d same i ne = at (in_change (is_coroutine who) f cs d i)
     where
       at : In d cs ⊎ ((c : Coroutine V) × (is_coroutine who c ≡ true) × (d ≡ f c)) → In d cs
@@ -166,7 +150,6 @@ module _ {V : Type 0} where
     pub alike : Alike w u
     pub others : (d : Coroutine V) → In d u.coroutines → (d.number ≡ who → ⊥) → In d w.coroutines
     pub numbered : Numbered 0 u.coroutines u.last_coroutine
-    pub names : (n k : ℕ) → Names u n k → Names w n k
     pub beside : (k : ℕ) → ((n : ℕ) → named_by call ≡ Some n → link_number w n ≡ Some k → ⊥) → look u.links k ≡ look w.links k
 
   near_named : (w u : World V) (who : ℕ) (call : Call) (n : ℕ) (f : Link → Link) → ((x : Link) → (f x).number ≡ x.number) → named_by call ≡ Some n → Near w u who call → Near w (on_named u n f) who call
@@ -178,7 +161,6 @@ module _ {V : Type 0} where
         alike = record { scopes = near.alike.scopes; closings = near.alike.closings; channels = near.alike.channels; things = near.alike.things };
         others = near.others;
         numbered = near.numbered;
-        names = λ m k p. near.names m k (record { entry = p.entry; there = p.there; number = p.number; link = p.link });
         beside = λ k none. by k none (k == l) refl;
       }
         where
@@ -191,7 +173,6 @@ module _ {V : Type 0} where
     alike = record { scopes = near.alike.scopes; closings = near.alike.closings; channels = near.alike.channels; things = near.alike.things };
     others = near.others;
     numbered = near.numbered;
-    names = λ m k p. near.names m k (record { entry = p.entry; there = p.there; number = p.number; link = p.link });
     beside = near.beside;
   }
 
@@ -222,48 +203,56 @@ module _ {V : Type 0} where
       at None None e = near
       at None (Some n) e = near_named w u who call n (with_stack drop_unread) (λ x. refl) e near
 
-  -- ---- a receive
+  -- ---- the call is pending
 
-  module _ (w : World V) (who : ℕ) (view : V) (call : Call) (numbered : Numbered 0 w.coroutines w.last_coroutine) (c : IsCalm w) where
-    called_numbered : Numbered 0 (called w who view call).coroutines (called w who view call).last_coroutine
-    called_numbered = numbered_change (is_coroutine who) (as_running view) w.coroutines 0 w.last_coroutine (λ d. refl) numbered
+  pub near_called : (w : World V) (who : ℕ) (view : V) (call : Call) → Numbered 0 w.coroutines w.last_coroutine → Near w (called w who view call) who call
+  near_called w who view call numbered = record {
+    alike = record { scopes = refl; closings = refl; channels = refl; things = λ n. refl };
+    others = λ d i ne. changed_others who (as_running view) w.coroutines d (λ x. refl) i ne;
+    numbered = numbered_change (is_coroutine who) (as_running view) w.coroutines 0 w.last_coroutine (λ d. refl) numbered;
+    beside = λ k none. refl;
+  }
 
-    pended_others : (d : Coroutine V) → In d (change (is_coroutine who) (with_mode (modes.Pending call)) (called w who view call).coroutines) → (d.number ≡ who → ⊥) → In d w.coroutines
-    pended_others d i ne = changed_others who (as_running view) w.coroutines d (λ x. refl) (changed_others who (with_mode (modes.Pending call)) (called w who view call).coroutines d (λ x. refl) i ne) ne
+  pub near_joins : (w u : World V) (who : ℕ) (call : Call) → Near w u who call → ((other : ℕ) (more : Call) → Pends w other more → (other ≡ who → ⊥) → link_answer w more ≡ None → link_answer u more ≡ None) → Joins w (pend u who call) who call
+  near_joins w u who call near links = record {
+    alike = record { scopes = near.alike.scopes; closings = near.alike.closings; channels = near.alike.channels; things = near.alike.things };
+    others = λ d i ne. near.others d (changed_others who (with_mode (modes.Pending call)) u.coroutines d (λ x. refl) i ne) ne;
+    own = λ d i e. ap (λ (x : Coroutine V). x.mode) (changed_is 0 u.last_coroutine who (with_mode (modes.Pending call)) (λ x. refl) u.coroutines d near.numbered i e).1;
+    numbered = numbered_change (is_coroutine who) (with_mode (modes.Pending call)) u.coroutines 0 u.last_coroutine (λ d. refl) near.numbered;
+    links = links;
+  }
 
-    pended_own : (d : Coroutine V) → In d (change (is_coroutine who) (with_mode (modes.Pending call)) (called w who view call).coroutines) → d.number ≡ who → d.mode ≡ modes.Pending call
-    pended_own d i e = changed_mode 0 w.last_coroutine who (modes.Pending call) (called w who view call).coroutines d called_numbered i e
+  -- a receive, which sets marks at its link
+  marked_none : (u : World V) (n : ℕ) (mark : Link → Link) → ((x : Link) → (mark x).number ≡ x.number) → (more : Call) → ((x : Link) → stack_answer more u.random (mark x) ≡ stack_answer more u.random x) → link_answer u more ≡ None → link_answer (on_named u n mark) more ≡ None
+  marked_none u n mark number more same e = at (link_number u n)
+    where
+      at : (o : Option ℕ) → link_answer (if_some o u (λ l. on_link u l mark)) more ≡ None
+      at None = e
+      at (Some l) = mark_answers u l mark more number same e
 
-    joins_plain : Joins w (pend (called w who view call) who call) who call
-    joins_plain = record {
-      alike = record { scopes = refl; closings = refl; channels = refl; things = λ n. refl };
-      others = pended_others;
-      own = pended_own;
-      links = λ other more p ne e. e;
-      calm = λ other more n k y p ne rd e nm i. c.restful.calm other more n k y p rd e (record { entry = nm.entry; there = nm.there; number = nm.number; link = nm.link }) i;
-    }
+  module _ (w : World V) (who : ℕ) (view : V) (call : Call) (numbered : Numbered 0 w.coroutines w.last_coroutine) where
+    abbrev k : World V
+    k = called w who view call
 
-    joins_hot : (l : ℕ) (read write : Bool) → Joins w (pend (on_link (called w who view call) l (heated read write)) who call) who call
-    joins_hot l read write = record {
-      alike = record { scopes = refl; closings = refl; channels = refl; things = λ n. refl };
-      others = pended_others;
-      own = pended_own;
-      links = λ other more p ne e. heat_answers w l read write more e;
-      calm = λ other more n k y p ne rd e nm i.
-          let s = (calmly_mark w l (heated read write) (λ x. refl) (λ x. refl)).stacks k y i in
-          subst (Spent more) (sym s.2) (c.restful.calm other more n k s.0 p rd e (record { entry = nm.entry; there = nm.there; number = nm.number; link = nm.link }) s.1);
-    }
-
-    pub receive_joins : Joins w (enter_receive (called w who view call) who call) who call
-    receive_joins = at (named_by call)
+    near_reserve : Near w (reserve k call) who call
+    near_reserve = at (named_by call) refl (asked call)
       where
-        by : (o : Option ℕ) → Joins w (pend (if_some o (called w who view call) (λ l. on_link (called w who view call) l (heated true false))) who call) who call
-        by None = joins_plain
-        by (Some l) = joins_hot l true false
+        at : (o : Option ℕ) → named_by call ≡ o → (q : Option Asked) → Near w (if_some o k (λ n. if_some q k (λ want. on_named k n (reserved want)))) who call
+        at (Some n) e (Some want) = near_named w k who call n (reserved want) (λ x. refl) e (near_called w who view call numbered)
+        at (Some n) e None = near_called w who view call numbered
+        at None e q = near_called w who view call numbered
 
-        at : (o : Option ℕ) → Joins w (pend (if_some o (called w who view call) (λ n. on_named (called w who view call) n (heated true false))) who call) who call
-        at None = joins_plain
-        at (Some n) = by (link_number (called w who view call) n)
+    reserved_none : (more : Call) → link_answer w more ≡ None → link_answer (reserve k call) more ≡ None
+    reserved_none more e = at (named_by call) (asked call)
+      where
+        at : (o : Option ℕ) (q : Option Asked) → link_answer (if_some o k (λ n. if_some q k (λ want. on_named k n (reserved want)))) more ≡ None
+        at (Some n) (Some want) = marked_none k n (reserved want) (λ x. refl) more (λ x. refl) e
+        at (Some n) None = e
+        at None q = e
 
-    pub receive_stirs : StirsOne (enter_receive (called w who view call) who call) who
-    receive_stirs = joins_stirs w (enter_receive (called w who view call) who call) who call c.settled receive_joins
+    pub receive_joins : Joins w (enter_receive k who call) who call
+    receive_joins = near_joins w (heat (reserve k call) call true false) who call (near_heat w (reserve k call) who call true false near_reserve) (λ other more p ne e. at (named_by call) more (reserved_none more e))
+      where
+        at : (o : Option ℕ) (more : Call) → link_answer (reserve k call) more ≡ None → link_answer (if_some o (reserve k call) (λ n. on_named (reserve k call) n (heated true false))) more ≡ None
+        at None more e = e
+        at (Some n) more e = marked_none (reserve k call) n (heated true false) (λ x. refl) more (λ x. refl) e

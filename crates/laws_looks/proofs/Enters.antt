@@ -28,6 +28,7 @@ use Rattle.dill_handles.specs.Handles as handles
 use Rattle.dill_handles.specs.Handles.{Handles}
 use Rattle.dill_handles.specs.declared.entry.Entry.{Entry}
 use Rattle.dill_base.specs.Maps.{if_some, change}
+use Rattle.dill_stack.specs.declared.layer.Layer.{Layer}
 use Rattle.dill_stack.specs.declared.parting.Parting.{Parting}
 use Rattle.dill_stack.specs.Interface.{Held, attach, detach_start}
 use Rattle.dill_rules.specs.declared.coroutine.Coroutine.{Coroutine}
@@ -42,9 +43,9 @@ use Rattle.dill_rules.specs.Owning.{entry_of, take_thing, take, move, release, c
 use Rattle.dill_rules.specs.Taking.{is_on, is_alone_on, is_pending, bundle_of, bundle_named, cannot_take, is_within, is_held_back, is_awaited, is_cancelled_taker, is_occupied}
 use Rattle.dill_rules.specs.Answers.{end_named}
 use Rattle.dill_rules.specs.Directions.{is_send, is_receive, is_handshake, layer_of, parting_of}
-use Rattle.dill_rules.specs.LinkAnswers.{is_on_stack}
+use Rattle.dill_rules.specs.LinkAnswers.{is_on_stack, reads}
 use Rattle.dill_rules.specs.Sockets.{link_of}
-use Rattle.dill_rules.specs.Linking.{with_random, greet_by, ask_stack, heat, queue, enter_send, enter_receive, enter_link, put_layer, attach_layer, enter_attach, given_up_at_once, give_stack_up, begin_detach, dropped_for, enter_giving_up, enter_handshake}
+use Rattle.dill_rules.specs.Linking.{with_random, greet_by, ask_stack, heat, reserve, queue, enter_send, enter_receive, enter_link, put_layer, attach_layer, enter_attach, given_up_at_once, give_stack_up, begin_detach, dropped_for, enter_giving_up, enter_handshake}
 use Rattle.dill_rules.specs.Channeling.{without_bytes, done_at, clauses_of, answer_clause, clause_answer, meet, wait_at, wait_all, first_done, enter_channel}
 use Rattle.dill_rules.specs.Effects.{make, add_bundle, close_thing, start, give_all, told, bear, next_number, passed_answer}
 use Rattle.dill_rules.specs.Entering.{keep_for, perform_on_link, perform, is_too_late, late_answer, meet_deadline, done, enter, entered, lack_fault}
@@ -52,15 +53,16 @@ use Rattle.dill_rules.specs.Turning.{is_build, is_entry, as_running, may_lack_bu
 use Rattle.dill_rules.specs.Refusals.{holds, is_accept, is_second, is_in_use, is_busy, is_closed_bundle, is_refused_by_stack, order, giving_order, refuse}
 use Rattle.dill_rules.specs.Settling.{close_owned, close_all, end, settle}
 use Rattle.laws_queue.specs.Well.{bit}
-use Rattle.laws_queue.proofs.Besides.{heat_besides, ask_stack_besides, queue_besides, dropped_besides}
+use Rattle.laws_queue.proofs.Besides.{heat_besides, ready_besides, ask_stack_besides, queue_besides, dropped_besides}
 use Rattle.laws_queue.proofs.Crew.{take_thing_crew}
 use Rattle.laws_sound.specs.Orderly.{weigh}
 use Rattle.laws_sound.proofs.Counting.{weigh_push, weigh_without}
 use Rattle.laws_sound.proofs.Noting.{take_handles}
-use Rattle.laws_looks.specs.Readers.{In, Pends, reads, reads_on, LooksApart}
+use Rattle.laws_looks.specs.Readers.{In, Pends, reads_on, LooksApart}
 use Rattle.laws_looks.proofs.Lists.{itself, equal_is, some_same, true_false, reads_parts, both_true, in_change, in_push, find_none, none_passes}
-use Rattle.laws_looks.proofs.Stays.{Stays, stays_same, stays_then, stays_kept, heat_stays, ask_stays, queue_stays, dropped_stays}
-use Rattle.laws_looks.proofs.Fewer.{links_to, not_pending, weigh_linked, Fewer, pends_same, fewer_parts, fewer_same, fewer_not, fewer_then, fewer_besides, fewer_some, fewer_each, fewer_change, fewer_set, fewer_reply, replied, fewer_release, take_links, fewer_move, fewer_up, fewer_settle, fewer_apart}
+use Rattle.laws_looks.proofs.Stays.{Stays, stays_same, stays_then, stays_kept, heat_stays, ready_stays, ask_stays, queue_stays, dropped_stays}
+use Rattle.laws_looks.proofs.Beside.{AnyCall, Beside, not_beside, some_beside, each_beside, retire_beside}
+use Rattle.laws_looks.proofs.Fewer.{links_to, not_pending, weigh_linked, Fewer, pends_same, fewer_parts, fewer_same, fewer_not, fewer_then, fewer_besides, fewer_some, fewer_if, fewer_each, fewer_change, fewer_set, fewer_reply, replied, fewer_release, take_links, fewer_move, fewer_up, fewer_settle, fewer_apart}
 
 owners_weigh : (l number owner : ℕ) (es : List (Entry Thing)) → weigh (links_to l) (change (handles.is_entry number) (handles.with_owner owner) es) ≡ weigh (links_to l) es
 owners_weigh l number owner [] = refl
@@ -236,7 +238,7 @@ module _ {V : Type 0} where
       let taken = if_some (named_by call) w (λ number. take w number who) in
       let asked = ask_stack taken call (greet_by call) in
       enters_if w who call (is_send word) (enter_send w who call) _ (enters_pend w who call (queue hot call) (fewer_then w hot (queue hot call) (fewer_heat w call false true) (fewer_besides hot (queue hot call) (queue_besides hot call) (queue_stays hot call))))
-      (enters_if w who call (is_receive word) (enter_receive w who call) _ (enters_pend w who call (heat w call true false) (fewer_heat w call true false))
+      (enters_if w who call (is_receive word) (enter_receive w who call) _ (enters_pend w who call (heat (reserve w call) call true false) (fewer_besides w (heat (reserve w call) call true false) (ready_besides w call) (ready_stays w call)))
       (enters_if w who call (gives_up word) (enter_giving_up w who call (draws_of call)) _ (enters_giving w who call (draws_of call))
       (enters_if w who call (links word) (enter_link w who call) _ (enters_pend w who call (heat kept call true false) (fewer_then w kept (heat kept call true false) (fewer_parts w kept refl refl (stays_kept w.links (link.keep w.links).kept)) (fewer_heat kept call true false)))
       (enters_if w who call (is_handshake word) (enter_handshake w who call) (enter_attach w who call)
@@ -249,7 +251,7 @@ module _ {V : Type 0} where
           (λ layer. fewer_then w (put_layer w call layer) (move (put_layer w call layer) number who) (fewer_asked w call (λ random s. with_random random (attach layer s))) (fewer_move (put_layer w call layer) number who)))
 
   module _ (p : Program V) where
-    pub perform_enters : (w : World V) (who : ℕ) (view : V) (call : Call) → Enters w who call (perform p w who view call)
+    perform_enters : (w : World V) (who : ℕ) (view : V) (call : Call) → Enters w who call (perform p w who view call)
     perform_enters w who view (calls.Print text) = enters_reply w who _ w words.Print (Number 0) (fewer_not w)
     perform_enters w who view calls.Now = enters_reply w who _ w words.Now (Number w.moment) (fewer_not w)
     perform_enters w who view calls.Yield = enters_reply w who _ w words.Yield (Number 0) (fewer_not w)
@@ -281,6 +283,14 @@ module _ {V : Type 0} where
         (enters_reply w who _ w words.Chdone (Fault errnos.Epipe) (fewer_not w)) (enters_reply w who _ (record w { channels = channels.done w.channels x }) words.Chdone (Number 0) (fewer_same w _ refl refl refl)))
     perform_enters w who view call = enters_link w who call
 
+  pub fewer_met : (w : World V) (who : ℕ) → Fewer w (meet_deadline w who)
+  fewer_met w who = fewer_some (call_of w who) w (λ c. if is_too_late w who c then reply w who (word_of c) (late_answer c) else w) (λ c. fewer_if (is_too_late w who c) w _ w (fewer_reply w who (word_of c) (late_answer c)) (fewer_not w))
+
+-- What a turn does: its coroutine goes on and nobody more is pending, or its call is done.
+pub data Turns {V : Type 0} (p : Program V) (b : World V) (who : ℕ) : World V → Type 0 where
+  over : (view : V) {v : World V} → Fewer (resume b who view) v → Beside AnyCall b v → Turns p b who v
+  does : (view : V) (call : Call) → refuse p (resume b who view) who view call ≡ None → Turns p b who (done p (resume b who view) who view call)
+
 -- ---- what a call isn't refused for
 
 record NotBusy (f : Errno → Bool) : Type 0 where
@@ -309,8 +319,8 @@ named_from : (o : Option ℕ) (n : ℕ) → if_some o false (λ m. m == n) ≡ t
 named_from None n e = cc
 named_from (Some m) n e = ap Some (equal_is m n e)
 
--- the numbers that a handshake, a detach or `tcp_close` takes
-record TakesIt (call : Call) (n : ℕ) : Type 0 where
+-- the number that a handshake, a detach, `tcp_close` or an attach takes
+pub record TakesIt (call : Call) (n : ℕ) : Type 0 where
   taken : taken_by call ≡ n ∷ []
   closes : is_hclose (word_of call) ≡ false
   takes_it : takes (word_of call) ≡ true
@@ -318,7 +328,7 @@ record TakesIt (call : Call) (n : ℕ) : Type 0 where
 one_of : (m n : ℕ) → ◌≡◌ {A = Option ℕ} (Some m) (Some n) → m ∷ [] ≡ n ∷ []
 one_of m n e = cc
 
-takes_it : (call : Call) (n : ℕ) → named_by call ≡ Some n → (is_handshake (word_of call) || gives_up (word_of call)) ≡ true → TakesIt call n
+pub takes_it : (call : Call) (n : ℕ) → named_by call ≡ Some n → (is_handshake (word_of call) || gives_up (word_of call)) ≡ true → TakesIt call n
 takes_it (calls.TcpClose m deadline) n e f = record { taken = one_of m n e; closes = refl; takes_it = refl }
 takes_it (calls.PrefixDetach m) n e f = record { taken = one_of m n e; closes = refl; takes_it = refl }
 takes_it (calls.SuffixDetach m) n e f = record { taken = one_of m n e; closes = refl; takes_it = refl }
@@ -328,6 +338,14 @@ takes_it (calls.WsDetach m code reason deadline) n e f = record { taken = one_of
 takes_it (calls.WsAttachClient m text resource host deadline) n e f = record { taken = one_of m n e; closes = refl; takes_it = refl }
 takes_it (calls.WsAttachServer m text deadline) n e f = record { taken = one_of m n e; closes = refl; takes_it = refl }
 takes_it call n e f = cc
+
+pub layer_takes : (call : Call) (n : ℕ) (layer : Layer) → named_by call ≡ Some n → layer_of call ≡ Some layer → TakesIt call n
+layer_takes (calls.PrefixAttach m size big) n layer e f = record { taken = one_of m n e; closes = refl; takes_it = refl }
+layer_takes (calls.SuffixAttach m bytes) n layer e f = record { taken = one_of m n e; closes = refl; takes_it = refl }
+layer_takes (calls.TermAttach m bytes) n layer e f = record { taken = one_of m n e; closes = refl; takes_it = refl }
+layer_takes (calls.HttpAttach m) n layer e f = record { taken = one_of m n e; closes = refl; takes_it = refl }
+layer_takes (calls.WsAttachNohttp m client text) n layer e f = record { taken = one_of m n e; closes = refl; takes_it = refl }
+layer_takes call n layer e f = cc
 
 is_on_named : (call : Call) (n : ℕ) → named_by call ≡ Some n → is_on n call ≡ true
 is_on_named call n e = ap (λ o. list_any (λ m. m == n) (option_to_list o ++ gifts call ++ chosen call)) e ∙ ap (λ b. b || list_any (λ m. m == n) (gifts call ++ chosen call)) (itself n)
@@ -347,8 +365,9 @@ module _ {V : Type 0} where
 
   -- what it isn't refused for beside another pending call on its number
   pub record Fit (w : World V) (call : Call) : Type 0 where
-    pub taker : (n other : ℕ) (more : Call) → Pends w other more → named_by call ≡ Some n → named_by more ≡ Some n → (is_handshake (word_of call) || gives_up (word_of call)) ≡ true → ⊥
-    occupied : (n other : ℕ) (more : Call) → Pends w other more → named_by call ≡ Some n → named_by more ≡ Some n → reads more ≡ true → (is_handshake (word_of more) || gives_up (word_of more)) ≡ true → ⊥
+    pub live : (n : ℕ) → named_by call ≡ Some n → is_dead w n ≡ false
+    pub taker : (n other : ℕ) (more : Call) → Pends w other more → TakesIt call n → named_by call ≡ Some n → named_by more ≡ Some n → ⊥
+    pub occupied : (n other : ℕ) (more : Call) → Pends w other more → named_by call ≡ Some n → named_by more ≡ Some n → reads more ≡ true → (is_handshake (word_of more) || gives_up (word_of more)) ≡ true → ⊥
     second : (n other : ℕ) (more : Call) → Pends w other more → named_by call ≡ Some n → named_by more ≡ Some n → is_receive (word_of call) ≡ true → is_receive (word_of more) ≡ true → ⊥
 
   enters_apart : (w : World V) (who : ℕ) (call : Call) (v : World V) → LooksApart w → Fit w call → Enters w who call v → LooksApart v
@@ -376,7 +395,7 @@ module _ {V : Type 0} where
       clash n other more g r s = by (by_class call (parts n call r).0) (by_class more (parts n more s).0)
         where
           by : (is_receive (word_of call) ≡ true) ⊎ ((is_handshake (word_of call) || gives_up (word_of call)) ≡ true) → (is_receive (word_of more) ≡ true) ⊎ ((is_handshake (word_of more) || gives_up (word_of more)) ≡ true) → ⊥
-          by (inr t) m = fit.taker n other more g (parts n call r).1 (parts n more s).1 t
+          by (inr t) m = fit.taker n other more g (takes_it call n (parts n call r).1 t) (parts n call r).1 (parts n more s).1
           by (inl t) (inl m) = fit.second n other more g (parts n call r).1 (parts n more s).1 t m
           by (inl t) (inr m) = fit.occupied n other more g (parts n call r).1 (parts n more s).1 (parts n more s).0 m
 
@@ -395,7 +414,9 @@ module _ {V : Type 0} where
 
           by : (is_receive (word_of d) ≡ true) ⊎ ((is_handshake (word_of d) || gives_up (word_of d)) ≡ true) → is_receive (word_of d) ≡ true
           by (inl t) = t
-          by (inr t) = absurd (fit.taker n one c e (ap named_by (sym same) ∙ (parts n d s).1) m (ap (λ x. is_handshake (word_of x) || gives_up (word_of x)) (sym same) ∙ t))
+          by (inr t) =
+              let named = ap named_by (sym same) ∙ (parts n d s).1 in
+              absurd (fit.taker n one c e (takes_it call n named (ap (λ x. is_handshake (word_of x) || gives_up (word_of x)) (sym same) ∙ t)) named m)
       beside n one two c d k m s (inr e) (inl f) = by (by_class d (parts n d s).0)
         where
           by : (is_receive (word_of d) ≡ true) ⊎ ((is_handshake (word_of d) || gives_up (word_of d)) ≡ true) → is_receive (word_of d) ≡ true
@@ -405,7 +426,7 @@ module _ {V : Type 0} where
 
   module _ (p : Program V) where
     pub fits : (w : World V) (who : ℕ) (view : V) (call : Call) → refuse p w who view call ≡ None → Fit w call
-    fits w who view call e = record { taker = taker; occupied = occupied; second = second }
+    fits w who view call e = record { live = live; taker = taker; occupied = occupied; second = second }
       where
         u : NotBusy (holds p w who view call)
         u = not_busy (holds p w who view call) (gives_up (word_of call)) e
@@ -416,15 +437,12 @@ module _ {V : Type 0} where
         rest : (is_occupied w call ≡ false) × ((is_in_use w call || is_closed_bundle w who call) ≡ false)
         rest = or_parts (is_occupied w call) (is_in_use w call || is_closed_bundle w who call) busy.1
 
-        taker : (n other : ℕ) (more : Call) → Pends w other more → named_by call ≡ Some n → named_by more ≡ Some n → (is_handshake (word_of call) || gives_up (word_of call)) ≡ true → ⊥
-        taker n other more g named named_more t = by (entry_of w n) alive (or_parts (cannot_take w who call n) false (ap (list_any (cannot_take w who call)) (sym it.taken) ∙ busy.0)).0
+        live : (n : ℕ) → named_by call ≡ Some n → is_dead w n ≡ false
+        live n named = (or_parts (is_dead w n) (list_any (is_dead w) (gifts call ++ chosen call)) (ap (λ o. list_any (is_dead w) (option_to_list o ++ gifts call ++ chosen call)) (sym named) ∙ (or_parts (names_dead w call) (is_refused_by_stack w call errnos.Ebadf) u.dead).0)).0
+
+        taker : (n other : ℕ) (more : Call) → Pends w other more → TakesIt call n → named_by call ≡ Some n → named_by more ≡ Some n → ⊥
+        taker n other more g it named named_more = by (entry_of w n) (live n named) (or_parts (cannot_take w who call n) false (ap (list_any (cannot_take w who call)) (sym it.taken) ∙ busy.0)).0
           where
-            it : TakesIt call n
-            it = takes_it call n named t
-
-            alive : is_dead w n ≡ false
-            alive = (or_parts (is_dead w n) (list_any (is_dead w) (gifts call ++ chosen call)) (ap (λ o. list_any (is_dead w) (option_to_list o ++ gifts call ++ chosen call)) (sym named) ∙ (or_parts (names_dead w call) (is_refused_by_stack w call errnos.Ebadf) u.dead).0)).0
-
             by : (o : Option (Entry Thing)) → is_none o ≡ false → if_some o false (λ x. is_within w who call x.thing || (is_held_back w who x || (is_awaited w call n || is_cancelled_taker w who call x))) ≡ false → ⊥
             by None i j = cc
             by (Some x) i j =
@@ -448,56 +466,68 @@ module _ {V : Type 0} where
 
     -- ---- a turn
 
-    enter_apart : (lacks : Bool) (w : World V) (who : ℕ) (view : V) (call : Call) → LooksApart w → LooksApart (enter p lacks w who view call)
-    enter_apart lacks w who view call a = at (refuse p w who view call) refl
-      where
-        met : (v : World V) → Fewer v (meet_deadline v who)
-        met v = fewer_some (call_of v who) v (λ c. if is_too_late v who c then reply v who (word_of c) (late_answer c) else v) (λ c. late c (is_too_late v who c))
-          where
-            late : (c : Call) (b : Bool) → Fewer v (if b then reply v who (word_of c) (late_answer c) else v)
-            late c true = fewer_reply v who (word_of c) (late_answer c)
-            late c false = fewer_not v
+    pub done_enters : (w : World V) (who : ℕ) (view : V) (call : Call) → Enters w who call (done p w who view call)
+    done_enters w who view call =
+        let k = keep_for w call in
+        let v = perform p k who view call in
+        enters_then w who call v (meet_deadline v who) (fewer_first w who call k v (fewer_same w k refl refl refl) (perform_enters p k who view call)) (fewer_met v who)
 
-        lack : (b : Bool) → refuse p w who view call ≡ None → LooksApart (if b then reply w who (word_of call) (Fault errnos.Enomem) else done p w who view call)
-        lack true e = fewer_apart w (reply w who (word_of call) (Fault errnos.Enomem)) (fewer_reply w who (word_of call) (Fault errnos.Enomem)) a
-        lack false e =
-            let k = keep_for w call in
-            let v = perform p k who view call in
-            let one : Enters w who call v = fewer_first w who call k v (fewer_same w k refl refl refl) (perform_enters p k who view call) in
-            enters_apart w who call (meet_deadline v who) a (fits w who view call e) (enters_then w who call v (meet_deadline v who) one (met v))
-
-        at : (o : Option Errno) → refuse p w who view call ≡ o → LooksApart (if_some o (if lacks && takes_memory (word_of call) then reply w who (word_of call) (Fault errnos.Enomem) else done p w who view call) (λ e. reply w who (word_of call) (Fault e)))
-        at None e = lack (lacks && takes_memory (word_of call)) e
-        at (Some x) e = fewer_apart w (reply w who (word_of call) (Fault x)) (fewer_reply w who (word_of call) (Fault x)) a
-
-    pub resumes : (w : World V) (who : ℕ) (view : V) → Fewer w (resume w who view)
+    resumes : (w : World V) (who : ℕ) (view : V) → Fewer w (resume w who view)
     resumes w who view = fewer_change w who (as_running view) (λ c. refl)
 
-    pub ends_fewer : (w : World V) (who : ℕ) (outcome : Option Errno) → Fewer w (end w who outcome)
-    ends_fewer w who outcome =
-        let shut = close_all w who in
-        let one = fewer_each (close_owned who) (filter (handles.is_owned who) w.handles.entries) w (λ v x. fewer_some (bundle_of x.thing) v (λ name. close_bundle v who name x.number) (λ name. fewer_closing v who name x.number)) in
-        fewer_then w shut (end w who outcome) one (fewer_set shut who (modes.Ending outcome) refl)
-
-    move_apart : (lack : Option LackPlace) (w : World V) (who : ℕ) (short : V) (next : V × Move) → LooksApart w → LooksApart (if is_build lack && may_lack_build next.1 then lack_move (resume w who short) who next.1 else make_move p (is_entry lack) (resume w who next.0) who next.0 next.1)
-    move_apart lack w who short (new, Calls call) a = at (is_build lack && build_takes_memory (word_of call))
+    pub go_on_turns : (lack : Option LackPlace) (b : World V) (who : ℕ) (view : V) → Turns p b who (go_on p lack b who view)
+    go_on_turns lack b who view = moves (p.short view (answer_given b who).1) (move_of p b who view)
       where
-        at : (b : Bool) → LooksApart (if b then reply (resume w who short) who (word_of call) (Fault (lack_fault (resume w who short) who (word_of call))) else make_move p (is_entry lack) (resume w who new) who new (Calls call))
-        at true = let r = resume w who short in fewer_apart w (reply r who (word_of call) (Fault (lack_fault r who (word_of call)))) (replied w r who (word_of call) (Fault (lack_fault r who (word_of call))) (resumes w who short)) a
-        at false = enter_apart (is_entry lack) (resume w who new) who new (entered w.moment call) (fewer_apart w (resume w who new) (resumes w who new) a)
-    move_apart lack w who short (new, Ends outcome) a = at (is_build lack)
-      where
-        ended : LooksApart (end (resume w who new) who outcome)
-        ended = fewer_apart w (end (resume w who new) who outcome) (fewer_then w (resume w who new) (end (resume w who new) who outcome) (resumes w who new) (ends_fewer (resume w who new) who outcome)) a
+        replied_over : (new : V) (word : Word) (answer : Answer) → Turns p b who (reply (resume b who new) who word answer)
+        replied_over new word answer = over new (fewer_reply (resume b who new) who word answer) (not_beside AnyCall b)
 
-        at : (b : Bool) → LooksApart (if b && false then resume w who short else end (resume w who new) who outcome)
-        at true = ended
-        at false = ended
+        ended : (new : V) (outcome : Option Errno) → Turns p b who (end (resume b who new) who outcome)
+        ended new outcome =
+            let r = resume b who new in
+            let mine = filter (handles.is_owned who) b.handles.entries in
+            let shut = close_all r who in
+            over new
+            (fewer_then r shut (end r who outcome) (fewer_each (close_owned who) mine r (λ v x. fewer_some (bundle_of x.thing) v (λ name. close_bundle v who name x.number) (λ name. fewer_closing v who name x.number))) (fewer_set shut who (modes.Ending outcome) refl))
+            (each_beside AnyCall (close_owned who) mine r (λ v x. some_beside AnyCall (bundle_of x.thing) v (λ name. close_bundle v who name x.number) (λ name. retire_beside AnyCall v x.number)))
+
+        enters : (new : V) (call : Call) → Turns p b who (enter p (is_entry lack) (resume b who new) who new call)
+        enters new call = at (refuse p (resume b who new) who new call) refl
+          where
+            lacks : (t : Bool) → refuse p (resume b who new) who new call ≡ None → Turns p b who (if t then reply (resume b who new) who (word_of call) (Fault errnos.Enomem) else done p (resume b who new) who new call)
+            lacks true e = replied_over new (word_of call) (Fault errnos.Enomem)
+            lacks false e = does new call e
+
+            at : (o : Option Errno) → refuse p (resume b who new) who new call ≡ o → Turns p b who (if_some o (if is_entry lack && takes_memory (word_of call) then reply (resume b who new) who (word_of call) (Fault errnos.Enomem) else done p (resume b who new) who new call) (λ e. reply (resume b who new) who (word_of call) (Fault e)))
+            at None e = lacks (is_entry lack && takes_memory (word_of call)) e
+            at (Some x) e = replied_over new (word_of call) (Fault x)
+
+        moves : (short : V) (next : V × Move) → Turns p b who (if is_build lack && may_lack_build next.1 then lack_move (resume b who short) who next.1 else make_move p (is_entry lack) (resume b who next.0) who next.0 next.1)
+        moves short (new, Calls call) = at (is_build lack && build_takes_memory (word_of call))
+          where
+            at : (t : Bool) → Turns p b who (if t then reply (resume b who short) who (word_of call) (Fault (lack_fault (resume b who short) who (word_of call))) else enter p (is_entry lack) (resume b who new) who new (entered b.moment call))
+            at true = replied_over short (word_of call) (Fault (lack_fault (resume b who short) who (word_of call)))
+            at false = enters new (entered b.moment call)
+        moves short (new, Ends outcome) = at (is_build lack)
+          where
+            at : (t : Bool) → Turns p b who (if t && false then resume b who short else end (resume b who new) who outcome)
+            at true = ended new outcome
+            at false = ended new outcome
+
+    turns_apart : (b : World V) (who : ℕ) {v : World V} → Turns p b who v → LooksApart b → LooksApart v
+    turns_apart b who {v} (over view f s) a = let r = resume b who view in fewer_apart b v (fewer_then b r v (resumes b who view) f) a
+    turns_apart b who (does view call free) a = let r = resume b who view in enters_apart r who call (done p r who view call) (fewer_apart b r (resumes b who view) a) (fits r who view call free) (done_enters r who view call)
+
+    -- the others were pending before it
+    pub turns_others : (b : World V) (who : ℕ) {v : World V} → Turns p b who v → (other : ℕ) (more : Call) → Pends v other more → (other ≡ who → ⊥) → Pends b other more
+    turns_others b who (over view f s) other more q ne = (resumes b who view).calls other more (f.calls other more q)
+    turns_others b who (does view call free) other more q ne = at ((done_enters (resume b who view) who view call).calls other more q)
+      where
+        at : Pends (resume b who view) other more ⊎ AsEntered who call other more → Pends b other more
+        at (inl r) = (resumes b who view).calls other more r
+        at (inr r) = absurd (ne r.0)
 
     pub go_on_apart : (lack : Option LackPlace) (w : World V) (who : ℕ) (view : V) → LooksApart w → LooksApart (go_on p lack (begin w) who view)
-    go_on_apart lack w who view a =
-        let b = begin w in
-        move_apart lack b who (p.short view (answer_given b who).1) (move_of p b who view) (fewer_apart w b (fewer_same w b refl refl refl) a)
+    go_on_apart lack w who view a = let b = begin w in turns_apart b who (go_on_turns lack b who view) (fewer_apart w b (fewer_same w b refl refl refl) a)
 
     pub turn_apart : (lack : Option LackPlace) (w : World V) (who : ℕ) → LooksApart w → LooksApart (turn p lack w who)
     turn_apart lack w who a = at (coroutine_of w who)

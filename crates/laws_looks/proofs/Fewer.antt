@@ -128,7 +128,7 @@ module _ {V : Type 0} where
           let r = in_map lined w.coroutines p.one p.there in
           record { one = r.0; there = r.1; number = ap (λ (x : Coroutine V). x.number) (sym r.2) ∙ p.number; mode = sym (lined_pending r.0.mode) ∙ ap (λ (x : Coroutine V). pending_call x.mode) (sym r.2) ∙ p.mode }
 
-  pub fewer_kept : (w : World V) (count : ℕ) → Fewer w (record w { handles = handles.unkeep w.handles count })
+  fewer_kept : (w : World V) (count : ℕ) → Fewer w (record w { handles = handles.unkeep w.handles count })
   fewer_kept w count = fewer_same w (record w { handles = handles.unkeep w.handles count }) refl refl refl
 
   pub fewer_release : (w : World V) (number : ℕ) → Fewer w (release w number)

@@ -4,6 +4,7 @@ pub mod Fewer
 pub mod Twice
 pub mod Spent
 pub mod Quieted
+pub mod Answered
 pub mod Enters
 pub mod Hears
 pub mod Restful
@@ -15,6 +16,8 @@ pub mod Counting
 pub mod Linking
 pub mod Shorts
 pub mod Lookless
+pub mod AtRest
+pub mod Beside
 pub mod Stirring
 pub mod Stirred
 pub mod Replies

@@ -1,6 +1,6 @@
 -- A reply that makes a link, finishes a connect or lets a link go is seen by no look.
-use Rattle.std.proofs.Common.{◌≡◌, ◌∙◌, ◌⊎◌, inl, inr, ℕ, ◌+◌, ◌≤◌, ◌<◌, ◌==◌, List, [], ◌∷◌, ◌++◌, find, cond, Bool, true, false, not, ◌&&◌, ◌||◌, Option, Some, None, if◌then◌else◌, refl, sym, ap, subst, arith}
-use Rattle.std.specs.Prelude.{is_none, nat_le}
+use Rattle.std.proofs.Common.{◌≡◌, ◌∙◌, ◌⊎◌, inl, inr, ℕ, ◌+◌, ◌≤◌, ◌<◌, List, [], ◌∷◌, ◌++◌, find, cond, Bool, true, false, not, ◌&&◌, Option, Some, None, if◌then◌else◌, refl, sym, ap, subst, arith}
+use Rattle.std.specs.Prelude.{is_none}
 use Rattle.dill_base.specs.declared.errno.Errno.{Errno}
 use Rattle.dill_base.specs.Maps.{if_some, without}
 use Rattle.dill_calls.specs.declared.answer.Answer.TheVariants.{Fault, Number}
@@ -25,31 +25,32 @@ use Rattle.dill_rules.specs.declared.link.Sort.{Sort}
 use Rattle.dill_rules.specs.declared.link.Sort.TheVariants.{Listening, Connecting, Stream}
 use Rattle.dill_rules.specs.Naming as naming
 use Rattle.dill_rules.specs.Effects.{make, next_number}
-use Rattle.dill_rules.specs.Sockets.{link_of, on_link}
+use Rattle.dill_rules.specs.Sockets.{on_link}
 use Rattle.dill_rules.specs.Directions.{is_send}
-use Rattle.dill_rules.specs.LinkAnswers.{is_on_stack}
+use Rattle.dill_rules.specs.LinkAnswers.{is_on_stack, reads}
 use Rattle.dill_rules.specs.Giving.{give}
 use Rattle.dill_rules.specs.Refusals.{is_accept}
 use Rattle.dill_rules.specs.Answers.{answer_of}
 use Rattle.dill_rules.specs.Trying.{Try, next_link, pending_on}
 use Rattle.dill_rules.specs.Settling.{settle}
-use Rattle.dill_rules.specs.Hearing.{fitting, listen_fault, connect_fault, accept_fault, linking_call, fail, give_handle, made, connector_of, heard_listen, heard_connect, heard_finish, heard_accept, heard_write, heard_shut, heard_read, heard_ask, heard}
+use Rattle.dill_rules.specs.Hearing.{fitting, listen_fault, connect_fault, accept_fault, linking_call, fail, give_handle, made, connector_of, heard_listen, heard_connect, heard_finish, heard_accept, heard_write, heard_ask, heard}
+use Rattle.dill_rules.specs.Lookless.{settle_lookless, look_once}
 use Rattle.laws_queue.specs.Well.{bit}
 use Rattle.laws_sound.specs.Order.{IsInOrder}
 use Rattle.laws_sound.specs.Orderly.{weigh}
 use Rattle.laws_sound.proofs.Counting.{holds}
 use Rattle.laws_sound.proofs.Ordering.{order_anyway}
 use Rattle.dill_scope.proofs.Numbered.{found_number}
-use Rattle.laws_looks.specs.Readers.{In, Pends, reads, Rising, may_name}
+use Rattle.laws_looks.specs.Readers.{In, Pends, Rising, may_name}
 use Rattle.laws_looks.specs.Calm.{Spent, Names, Restful, IsCalm}
-use Rattle.laws_looks.specs.OneLook.{settle_lookless, look_once, LooksAt, asked_link, OneLookHears}
-use Rattle.laws_looks.proofs.Lists.{itself, equal_is, true_false, reads_parts, find_in, in_push}
+use Rattle.laws_looks.specs.OneLook.{LooksAt, asked_link, OneLookHears}
+use Rattle.laws_looks.proofs.Lists.{itself, equal_is, reads_parts, find_in, in_push}
 use Rattle.laws_looks.proofs.Stays.{next_above}
 use Rattle.laws_looks.proofs.Fewer.{links_to, weigh_linked}
 use Rattle.laws_looks.proofs.Quieted.{due_waits}
 use Rattle.laws_looks.proofs.Restful.{calmly_mark, calmly_reply, calmly_rests, give_rests}
 use Rattle.laws_looks.proofs.Between.{calm_beside}
-use Rattle.laws_looks.proofs.Stirring.{live, below_next, sends_on_stack}
+use Rattle.laws_looks.proofs.Stirring.{live, live_low, sends_on_stack}
 use Rattle.laws_looks.proofs.Replies.{rest_once, once_read, once_written, once_shut}
 
 found_push : (k : ℕ) (xs : List Link) (x y : Link) → find (is_link k) (xs ++ x ∷ []) ≡ Some y → (find (is_link k) xs ≡ Some y) ⊎ (is_link k x ≡ true)
@@ -134,8 +135,8 @@ module _ {V : Type 0} where
     -- a link that is let go
     goes : (l : ℕ) → Restful (record w { links = link.gone w.links l })
     goes l = record {
-      calm = λ other call n k y p rd e nm i. c.restful.calm other call n k y (record { one = p.one; there = p.there; number = p.number; mode = p.mode }) rd e (record { entry = nm.entry; there = nm.there; number = nm.number; link = nm.link }) (found_left 0 w.links.last l k w.links.all y c.apart.rising i);
-      apart = λ one two a b n m k p q s rd e f nm nn. c.restful.apart one two a b n m k (record { one = p.one; there = p.there; number = p.number; mode = p.mode }) (record { one = q.one; there = q.there; number = q.number; mode = q.mode }) s rd e f (record { entry = nm.entry; there = nm.there; number = nm.number; link = nm.link }) (record { entry = nn.entry; there = nn.there; number = nn.number; link = nn.link });
+      calm = λ other call n k y p rd e nm i. c.restful.calm other call n k y p rd e nm (found_left 0 w.links.last l k w.links.all y c.apart.rising i);
+      apart = λ one two a b n m k p q s rd e f nm nn. c.restful.apart one two a b n m k p q s rd e f nm nn;
     }
 
     -- nothing names the next link
@@ -151,8 +152,8 @@ module _ {V : Type 0} where
     -- a link that is made
     adds : (sort : Sort) → Restful (record w { links = link.add w.links sort })
     adds sort = record {
-      calm = λ other call n k y p rd e nm i. calm other call n k y (record { one = p.one; there = p.there; number = p.number; mode = p.mode }) rd e (record { entry = nm.entry; there = nm.there; number = nm.number; link = nm.link }) (found_push k w.links.all (fresh_link (w.links.last + 1) sort) y i);
-      apart = λ one two a b n m k p q s rd e f nm nn. c.restful.apart one two a b n m k (record { one = p.one; there = p.there; number = p.number; mode = p.mode }) (record { one = q.one; there = q.there; number = q.number; mode = q.mode }) s rd e f (record { entry = nm.entry; there = nm.there; number = nm.number; link = nm.link }) (record { entry = nn.entry; there = nn.there; number = nn.number; link = nn.link });
+      calm = λ other call n k y p rd e nm i. calm other call n k y p rd e nm (found_push k w.links.all (fresh_link (w.links.last + 1) sort) y i);
+      apart = λ one two a b n m k p q s rd e f nm nn. c.restful.apart one two a b n m k p q s rd e f nm nn;
     }
       where
         calm : (other : ℕ) (call : Call) (n k : ℕ) (y : Link) → Pends w other call → reads call ≡ true → named_by call ≡ Some n → Names w n k → (find (is_link k) w.links.all ≡ Some y) ⊎ (is_link k (fresh_link (w.links.last + 1) sort) ≡ true) → Spent call y.stack
@@ -168,7 +169,7 @@ module _ {V : Type 0} where
         at (inr same) =
             let waits : answer_of w other call ≡ None = subst (λ z. answer_of w z call ≡ None) p.number (due_waits w c.settled.answers p.one p.there call p.mode) in
             let x = live w other call n on e waits in
-            absurd (below_next w n x.0 o.fits x.1 (sym nm.number ∙ ap (λ (z : Entry Thing). z.number) same))
+            absurd (live_low w n x.0 o.fits x.1 (let next : n ≡ w.handles.last + 1 = sym nm.number ∙ ap (λ (z : Entry Thing). z.number) same in omega (arith, next)))
 
     gives : (l : Links) (thing : Thing) (who : ℕ) → Restful (record w { links = l }) → Restful (give_handle (record w { links = l }) thing who)
     gives l thing who r = at (linking_call (record w { links = l }) who)
@@ -177,11 +178,11 @@ module _ {V : Type 0} where
         made_one = record {
           calm = λ other call n k y p rd e nm i.
               let on = (reads_parts (is_on_stack (word_of call)) (is_send (word_of call)) rd).0 in
-              r.calm other call n k y (record { one = p.one; there = p.there; number = p.number; mode = p.mode }) rd e (old_name l thing who other call n k (record { one = p.one; there = p.there; number = p.number; mode = p.mode }) on e nm) i;
+              r.calm other call n k y p rd e (old_name l thing who other call n k p on e nm) i;
           apart = λ one two a b n m k p q s rd e f nm nn.
               let on = (reads_parts (is_on_stack (word_of b)) (is_send (word_of b)) rd).0 in
-              r.apart one two a b n m k (record { one = p.one; there = p.there; number = p.number; mode = p.mode }) (record { one = q.one; there = q.there; number = q.number; mode = q.mode }) s rd e f
-              (old_name l thing who one a n k (record { one = p.one; there = p.there; number = p.number; mode = p.mode }) (sends_on_stack a s) e nm) (old_name l thing who two b m k (record { one = q.one; there = q.there; number = q.number; mode = q.mode }) on f nn);
+              r.apart one two a b n m k p q s rd e f
+              (old_name l thing who one a n k p (sends_on_stack a s) e nm) (old_name l thing who two b m k q on f nn);
         }
 
         at : (q : Option Call) → Restful (if_some q (record w { links = l }) (λ call. reply (make (record w { links = l }) thing who) who (word_of call) (Number (next_number (record w { links = l })))))
@@ -223,7 +224,7 @@ module _ {V : Type 0} where
         let u : World V = record w { wrote = wrote } in
         subst (λ z. settle z ≡ settle_lookless (look_once z who)) (sym (is ∙ same said))
         (once_written laws u l who (order_anyway w w.channels w.links w.place wrote w.random w.moment w.notes o) (calm_beside w w.place wrote w.moment w.notes c)
-        (λ other call n p rd e f. alone other call n (record { one = p.one; there = p.there; number = p.number; mode = p.mode }) rd e f) said)
+        (λ other call n p rd e f. alone other call n p rd e f) said)
       where
         same : (said : KernelReply) → ◌≡◌ {A = World V} (record (heard_write w l said) { wrote = wrote }) (heard_write (record w { wrote = wrote }) l said)
         same (replies.Took count) = refl
@@ -246,7 +247,7 @@ module _ {V : Type 0} where
         let place : Place = record { kind = x.kind; number = x.number } in
         let u : World V = record w { place = place } in
         asks_once u x.number who x.ask (fitting x.ask said) (order_anyway w w.channels w.links place w.wrote w.random w.moment w.notes o) (calm_beside w place w.wrote w.moment w.notes c)
-        (λ l e other call n p rd f g. alone l e other call n (record { one = p.one; there = p.there; number = p.number; mode = p.mode }) rd f g)
+        (λ l e other call n p rd f g. alone l e other call n p rd f g)
 
 pub one_look_hears : {V : Type 0} → LooksAgain → OneLookHears V
 one_look_hears laws = record { hears = hears_once laws }

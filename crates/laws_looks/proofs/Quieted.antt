@@ -11,7 +11,6 @@ use Rattle.dill_calls.specs.declared.call.Call.{Call}
 use Rattle.dill_calls.specs.declared.call.Call.TheVariants as calls
 use Rattle.dill_calls.specs.declared.lists.Clause.{Clause}
 use Rattle.dill_calls.specs.declared.word.Word.{Word}
-use Rattle.dill_calls.specs.declared.word.Word.TheVariants as words
 use Rattle.dill_calls.specs.CallTable.{word_of, named_by, blocks}
 use Rattle.dill_base.specs.Maps.{if_some, change, first_some}
 use Rattle.dill_stack.specs.declared.want.ReadOut.{ReadOut}
@@ -26,7 +25,7 @@ use Rattle.dill_rules.specs.Links.{Link, Links, look, is_link, change_link, with
 use Rattle.dill_rules.specs.Sockets.{link_number, link_named, stack_of, on_link}
 use Rattle.dill_rules.specs.Naming.{end_of_clause}
 use Rattle.dill_rules.specs.Directions.{is_send, is_receive}
-use Rattle.dill_rules.specs.LinkAnswers.{is_on_stack, look_of, is_tcp_done, is_tcp_close, zero_when, answer_said, whole_answer, is_broken_for, stack_answer, link_answer}
+use Rattle.dill_rules.specs.LinkAnswers.{is_on_stack, look_of, is_tcp_done, is_tcp_close, zero_when, answer_said, whole_answer, is_broken_for, stack_answer, link_answer, reads}
 use Rattle.dill_rules.specs.Linking.{put}
 use Rattle.dill_rules.specs.Answers.{when, want_of, clause_fault, choice_fault, own_answer, lost_its_number, answer_of}
 use Rattle.dill_rules.specs.Taking.{is_cancelled}
@@ -34,10 +33,11 @@ use Rattle.dill_rules.specs.Giving.{look_on}
 use Rattle.dill_rules.specs.Settling.{IsSettled, can_finish, answer_due, pass_one, pass_all}
 use Rattle.laws_queue.specs.Well.{Numbered}
 use Rattle.laws_queue.proofs.Besides.{pass_all_besides}
-use Rattle.laws_looks.specs.Readers.{In, Pends, reads, reads_on, OneReader, NamedOnce, LooksApart, LooksSettle}
+use Rattle.laws_blind.proofs.Giving.{done_sends}
+use Rattle.laws_looks.specs.Readers.{In, PendsIn, Pends, reads_on, OneReader, NamedOnce, LooksApart, LooksSettle}
 use Rattle.laws_looks.specs.Calm.{Spent}
 use Rattle.laws_looks.proofs.Lists.{itself, equal_is, unequal_is, some_none, some_same, or_none, none_or, first_none, none_first, true_false, reads_parts, both_true}
-use Rattle.laws_looks.proofs.Fewer.{pends_same, named_once}
+use Rattle.laws_looks.proofs.Fewer.{not_pending, pends_same, named_once}
 use Rattle.laws_looks.proofs.Spent.{look_spends}
 use Rattle.laws_looks.proofs.Twice.{said_blind, looks_twice, close_looks, KeepsWay, look_keeps}
 
@@ -59,9 +59,27 @@ module _ {V : Type 0} where
       less : (a b : ℕ) → a < b → (a == b) ≡ false
       less a b h = grind (arith, nat_tests)
 
+  -- who is changed is so
+  pub changed_is : (low high who : ℕ) (f : Coroutine V → Coroutine V) → ((c : Coroutine V) → (f c).number ≡ c.number) → (cs : List (Coroutine V)) (d : Coroutine V) → Numbered low cs high → In d (change (is_coroutine who) f cs) → d.number ≡ who → (c : Coroutine V) × (d ≡ f c)
+  changed_is low high who f same [] d n i e = absurd i
+  changed_is low high who f same (c ∷ cs) d n i e = at (c.number == who) refl i (λ j. changed_is c.number high who f same cs d n.1 j e)
+    where
+      at : (b : Bool) → (c.number == who) ≡ b → In d (cond b (f c ∷ cs) (c ∷ change (is_coroutine who) f cs)) → (In d (change (is_coroutine who) f cs) → (x : Coroutine V) × (d ≡ f x)) → (x : Coroutine V) × (d ≡ f x)
+      at true g (inl it) rest = (c, it)
+      at true g (inr j) rest =
+          let r = above c.number high cs d n.1 j in
+          let q : c.number ≡ who = equal_is c.number who g in
+          absurd (omega (arith, r, q, e))
+      at false g (inl it) rest = absurd (unequal_is c.number who g (ap (λ (x : Coroutine V). x.number) (sym it) ∙ e))
+      at false g (inr j) rest = rest j
+
+  -- who is put elsewhere isn't pending
+  pub unpended : (high who : ℕ) (f : Coroutine V → Coroutine V) → ((c : Coroutine V) → (f c).number ≡ c.number) → ((c : Coroutine V) → pending_call (f c).mode ≡ None) → (cs : List (Coroutine V)) (call : Call) → Numbered 0 cs high → PendsIn (change (is_coroutine who) f cs) who call → ⊥
+  unpended high who f same none cs call n p = let r = changed_is 0 high who f same cs p.one n p.there p.number in not_pending p.one (f r.0) call (none r.0) r.1 p.mode
+
 -- ---- links that are changed
 
-pub changed_here : (f : Link → Link) → ((x : Link) → (f x).number ≡ x.number) → (l : ℕ) (xs : List Link) (x : Link) → find (is_link l) xs ≡ Some x → find (is_link l) (change (is_link l) f xs) ≡ Some (f x)
+changed_here : (f : Link → Link) → ((x : Link) → (f x).number ≡ x.number) → (l : ℕ) (xs : List Link) (x : Link) → find (is_link l) xs ≡ Some x → find (is_link l) (change (is_link l) f xs) ≡ Some (f x)
 changed_here f same l [] x e = cc
 changed_here f same l (y ∷ ys) x e = at (is_link l y) refl e (changed_here f same l ys x)
   where
@@ -81,6 +99,23 @@ changed_other f same l m (y ∷ ys) ne = at (is_link l y) (is_link m y) refl ref
     at true false g h rest = let there : ((f y).number == m) ≡ false = ap (λ n. n == m) (same y) ∙ h in rw there refl
     at false true g h rest = rw h refl
     at false false g h rest = rw h rest
+
+-- what is found then is as it was, or of that number and changed
+pub found_change : (f : Link → Link) → ((x : Link) → (f x).number ≡ x.number) → (l m : ℕ) (xs : List Link) (y : Link) → find (is_link m) (change (is_link l) f xs) ≡ Some y → (x : Link) × (find (is_link m) xs ≡ Some x) × ((y ≡ x) ⊎ ((m ≡ l) × (y ≡ f x)))
+found_change f same l m [] y e = cc
+found_change f same l m (x ∷ xs) y e = at (is_link l x) refl (is_link m x) refl e (found_change f same l m xs y)
+  where
+    at : (t : Bool) → is_link l x ≡ t → (u : Bool) → is_link m x ≡ u → find (is_link m) (cond t (f x ∷ xs) (x ∷ change (is_link l) f xs)) ≡ Some y
+        → (find (is_link m) (change (is_link l) f xs) ≡ Some y → (z : Link) × (find (is_link m) xs ≡ Some z) × ((y ≡ z) ⊎ ((m ≡ l) × (y ≡ f z))))
+        → (z : Link) × (cond u (Some x) (find (is_link m) xs) ≡ Some z) × ((y ≡ z) ⊎ ((m ≡ l) × (y ≡ f z)))
+    at true d true g h rest =
+        let it : Some (f x) ≡ Some y = sym (ap (λ b. cond b (Some (f x)) (find (is_link m) xs)) (ap (λ n. n == m) (same x) ∙ g)) ∙ h in
+        (x, refl, inr (sym (equal_is x.number m g) ∙ equal_is x.number l d, some_same (Some y) y (f x) refl (sym it)))
+    at true d false g h rest = (y, sym (ap (λ b. cond b (Some (f x)) (find (is_link m) xs)) (ap (λ n. n == m) (same x) ∙ g)) ∙ h, inl refl)
+    at false d true g h rest =
+        let it : Some x ≡ Some y = sym (ap (λ b. cond b (Some x) (find (is_link m) (change (is_link l) f xs))) g) ∙ h in
+        (x, refl, inl (some_same (Some y) y x refl (sym it)))
+    at false d false g h rest = rest (sym (ap (λ b. cond b (Some x) (find (is_link m) (change (is_link l) f xs))) g) ∙ h)
 
 -- a link that is changed to itself
 put_same : (l : ℕ) (s : Held) (xs : List Link) (x : Link) → find (is_link l) xs ≡ Some x → x.stack ≡ s → change (is_link l) (with_stack (λ old. s)) xs ≡ xs
@@ -111,13 +146,9 @@ some_broken false o e = (refl, e)
 reader_needs : (call : Call) (u : Stream) (x : Link) → is_send (word_of call) ≡ false → stack_answer call u x ≡ None → (look_of call u x.stack).said ≡ outs.Need
 reader_needs call u x n e = at (is_tcp_done (word_of call)) refl (is_tcp_close (word_of call)) refl (some_broken (is_broken_for (word_of call) x.stack) (whole_answer call u x) e).1
   where
-    done_sends : (word : Word) → is_tcp_done word ≡ true → is_send word ≡ false → ⊥
-    done_sends words.TcpDone f g = cc
-    done_sends _ f g = cc
-
     at : (a : Bool) → is_tcp_done (word_of call) ≡ a → (b : Bool) → is_tcp_close (word_of call) ≡ b
         → (if a then zero_when x.shut else (if is_send (word_of call) then zero_when (is_sent x.stack) else (if b then zero_when (x.shut && has_ended x.stack) else answer_said (look_of call u x.stack).said))) ≡ None → (look_of call u x.stack).said ≡ outs.Need
-    at true f b g h = absurd (done_sends (word_of call) f n)
+    at true f b g h = absurd (true_false (is_send (word_of call)) (done_sends (word_of call) f) n)
     at false f true g h = close_looks call u x.stack g
     at false f false g h = no_answer (look_of call u x.stack).said (ap (λ c. if c then zero_when (is_sent x.stack) else answer_said (look_of call u x.stack).said) (sym n) ∙ h)
 
@@ -152,7 +183,7 @@ answer_blind call u v x = ap (λ r. if is_broken_for (word_of call) x.stack then
 
 module _ {V : Type 0} where
   -- the world with other links and random numbers
-  abbrev pub with_look : World V → Links → Stream → World V
+  abbrev with_look : World V → Links → Stream → World V
   with_look w l u = record w { links = l; random = u }
 
   -- a world but for its coroutines, its links and what no answer looks at
@@ -195,9 +226,6 @@ module _ {V : Type 0} where
       own_is w call h b.1
 
 -- ---- the look of a call, by its link
-
-stack_at : Option Link → Option Held
-stack_at o = option_map (λ x. x.stack) o
 
 module _ {V : Type 0} where
   -- the link that a call looks at, and the world behind the look

@@ -1,49 +1,40 @@
 -- Behind the kernel's reply to an ask of a stack one look is enough.
-use Rattle.std.proofs.Common.{◌≡◌, ◌∙◌, ◌⊎◌, inl, inr, ℕ, ◌==◌, List, [], ◌∷◌, find, cond, Bool, true, false, not, ◌&&◌, ◌||◌, Option, Some, None, if◌then◌else◌, refl, sym, ap, subst}
+use Rattle.std.proofs.Common.{◌≡◌, ◌∙◌, ℕ, ◌==◌, find, Bool, true, false, ◌&&◌, ◌||◌, Option, Some, None, if◌then◌else◌, refl, sym, ap}
 use Rattle.std.specs.Prelude.{is_none}
 use Rattle.rand_core.specs.Stream.{Stream}
 use Rattle.dill_base.specs.declared.errno.Errno.TheVariants.{Econnreset}
-use Rattle.dill_base.specs.Maps.{if_some, change}
+use Rattle.dill_base.specs.Maps.{if_some}
 use Rattle.dill_calls.specs.declared.answer.Answer.{Answer}
 use Rattle.dill_calls.specs.declared.answer.Answer.TheVariants.{Fault}
 use Rattle.dill_calls.specs.declared.call.Call.{Call}
 use Rattle.dill_calls.specs.CallTable.{word_of, named_by}
 use Rattle.dill_kernel.specs.declared.replies.KernelReply.{KernelReply}
 use Rattle.dill_kernel.specs.declared.replies.KernelReply.TheVariants as replies
-use Rattle.dill_stack.specs.declared.want.Want.{Want}
-use Rattle.dill_stack.specs.Interface.{Held, is_sent, has_ended, came, ended, broke, took, read, detach_finish}
+use Rattle.dill_stack.specs.Interface.{Held, is_sent, has_ended, came, ended, broke, took}
 use Rattle.dill_stack.specs.Again.{LooksAgain}
 use Rattle.dill_rules.specs.declared.coroutine.Coroutine.{Coroutine}
 use Rattle.dill_rules.specs.World.{World, pending_call}
-use Rattle.dill_rules.specs.Links.{Link, Links, look, is_link, change_link, with_stack, as_shut, read_cold, write_cold}
+use Rattle.dill_rules.specs.Links.{Link, Links, look, change_link, with_stack, as_shut, read_cold, write_cold}
 use Rattle.dill_rules.specs.Sockets.{link_number, link_named, on_link}
-use Rattle.dill_rules.specs.Directions.{is_send, is_receive, asked, parting_of}
+use Rattle.dill_rules.specs.Directions.{is_send, is_receive}
 use Rattle.dill_rules.specs.Hearing.{heard_write, heard_shut, heard_read}
-use Rattle.dill_rules.specs.LinkAnswers.{is_on_stack, is_tcp_done, is_tcp_close, is_broken_for, zero_when, answer_said, look_by, look_of, stack_answer, link_answer}
-use Rattle.dill_rules.specs.Answers.{answer_of}
-use Rattle.dill_rules.specs.Settling.{IsSettled, settle}
+use Rattle.dill_rules.specs.LinkAnswers.{is_on_stack, is_tcp_done, is_tcp_close, is_broken_for, zero_when, answer_said, look_of, stack_answer, link_answer, reads}
+use Rattle.dill_rules.specs.Settling.{settle}
 use Rattle.laws_sound.specs.Order.{IsInOrder}
 use Rattle.laws_sound.proofs.Ordering.{order_anyway}
-use Rattle.laws_looks.specs.Readers.{In, Pends, reads, LooksApart}
+use Rattle.laws_looks.specs.Readers.{In, Pends}
 use Rattle.laws_looks.specs.Calm.{Spent, Names, Restful, IsCalm}
-use Rattle.laws_looks.specs.OneLook.{lookless_of, looked_for, settle_lookless, look_once, StirsOne, LooksAt}
-use Rattle.laws_looks.proofs.Lists.{itself, equal_is, some_none, some_same, find_in, find_none, find_passes, true_false, both_true}
+use Rattle.laws_looks.specs.OneLook.{StirsOne, LooksAt}
+use Rattle.laws_looks.proofs.Lists.{itself, equal_is, some_none, find_in, find_none, find_passes, true_false, both_true}
+use Rattle.dill_rules.specs.Lookless.{lookless_of, looked_for, settle_lookless, look_once}
 use Rattle.laws_looks.proofs.Stays.{found_alike, stays_change}
 use Rattle.laws_looks.proofs.Fewer.{fewer_parts, fewer_apart}
-use Rattle.laws_looks.proofs.Spent.{Idles, idle_reads, asked_is}
-use Rattle.laws_looks.proofs.Quieted.{aside, of_aside, due_waits, changed_here, changed_other, calm_looks, Calm}
-use Rattle.laws_looks.proofs.Restful.{named_link, names_number, calmly_mark, calmly_rests}
-use Rattle.laws_looks.proofs.Lookless.{rest_settles, answers_same, join_looks}
+use Rattle.laws_looks.proofs.Spent.{SameHalf, half_of}
+use Rattle.laws_looks.proofs.Quieted.{of_aside, due_waits, changed_other, calm_looks, Calm}
+use Rattle.laws_looks.proofs.Restful.{named_link, names_number, calmly_mark, calmly_rests, half_rests}
+use Rattle.laws_looks.proofs.Answered.{answers_same, join_looks}
+use Rattle.laws_looks.proofs.Lookless.{rest_settles}
 use Rattle.laws_looks.proofs.Stirred.{Looked, finds_none, finds, looked_is, stirred}
-
--- a receive that finds nothing doesn't hang on the sending half
-receives_on : (call : Call) (n : ℕ) (f : Held → Held) (s : Held) → named_by call ≡ Some n → is_receive (word_of call) ≡ true → ((want : Want) → Idles want s → Idles want (f s)) → Spent call s → Spent call (f s)
-receives_on call n f s e r h p =
-    let w = asked_is call n e r in
-    record {
-      look = λ u. ap (λ o. if_some o (if_some (parting_of call) (look_by call u (f s)) (λ parting. detach_finish u (f s))) (λ want. read want u (f s))) w.1 ∙ idle_reads w.0 u (f s) (h w.0 (p.read w.0 w.1));
-      read = λ want g. h want (p.read want g);
-    }
 
 -- what a send is answered is the same where both directions, the `shut` and the queue are
 abbrev SendsAlike : (Held → Held) → Type 0
@@ -72,7 +63,7 @@ module _ {V : Type 0} where
   -- ---- where no look finds anything
 
   -- the one look changes nothing
-  pub rest_looks : (w : World V) (who : ℕ) → Restful w → look_once w who ≡ w
+  rest_looks : (w : World V) (who : ℕ) → Restful w → look_once w who ≡ w
   rest_looks w who r = at (find (λ (c : Coroutine V). c.number == who) w.coroutines) refl
     where
       looked : (c : Coroutine V) (call : Call) → In c w.coroutines → c.number ≡ who → pending_call c.mode ≡ Some call → (b : Bool) → reads call ≡ b → (o : Option Answer) → lookless_of w who call ≡ o → (if b && is_none o then looked_for w who call else w) ≡ w
@@ -108,10 +99,10 @@ module _ {V : Type 0} where
     v = on_link w l (with_stack f)
 
     named_before : (n k : ℕ) → Names v n k → Names w n k
-    named_before n k p = record { entry = p.entry; there = p.there; number = p.number; link = p.link }
+    named_before n k p = p
 
     pends_before : (who : ℕ) (call : Call) → Pends v who call → Pends w who call
-    pends_before who call p = record { one = p.one; there = p.there; number = p.number; mode = p.mode }
+    pends_before who call p = p
 
     -- others aren't answered behind it
     link_kept : (who other : ℕ) (call : Call) → LooksAt w l who → Pends w other call → (other ≡ who → ⊥) → ((n : ℕ) → named_by call ≡ Some n → link_number w n ≡ Some l → is_send (word_of call) ≡ true → (x : Link) → stack_answer call w.random (with_stack f x) ≡ stack_answer call w.random x) → link_answer w call ≡ None → link_answer v call ≡ None
@@ -145,33 +136,6 @@ module _ {V : Type 0} where
         calm other call n k x p ne rd e nm i true g = absurd (ne (alone other call n p rd e (names_number w n k o nm ∙ ap Some (equal_is k l g))))
         calm other call n k x p ne rd e nm i false g = c.restful.calm other call n k x p rd e nm (sym (changed_other (with_stack f) (λ y. refl) l k w.links.all g) ∙ i)
 
-    gone_none : (xs : List Link) → find (is_link l) xs ≡ None → find (is_link l) (change (is_link l) (with_stack f) xs) ≡ None
-    gone_none [] e = refl
-    gone_none (x ∷ xs) e = at (is_link l x) refl e (gone_none xs)
-      where
-        at : (b : Bool) → is_link l x ≡ b → cond b (Some x) (find (is_link l) xs) ≡ None → (find (is_link l) xs ≡ None → find (is_link l) (change (is_link l) (with_stack f) xs) ≡ None) → find (is_link l) (cond b (with_stack f x ∷ xs) (x ∷ change (is_link l) (with_stack f) xs)) ≡ None
-        at true g h rest = cc
-        at false g h rest = rw g (rest h)
-
-    -- where a send is pending on it, a receive at most looks, and finds nothing
-    rests_changed : (sender : ℕ) (sends : Call) (m : ℕ) → Pends w sender sends → is_send (word_of sends) ≡ true → named_by sends ≡ Some m → Names w m l → ((want : Want) (s : Held) → Idles want s → Idles want (f s)) → Restful v
-    rests_changed sender sends m own sd named links h = record {
-      calm = λ other call n k y p rd e nm i. calm other call n k y (pends_before other call p) rd e (named_before n k nm) i (k == l) refl;
-      apart = λ one two a b n k j p q s rd e g nm nn. c.restful.apart one two a b n k j (pends_before one a p) (pends_before two b q) s rd e g (named_before n j nm) (named_before k j nn);
-    }
-      where
-        here : (other : ℕ) (call : Call) (n : ℕ) (y : Link) → Pends w other call → reads call ≡ true → named_by call ≡ Some n → Names w n l → (q : Option Link) → look w.links l ≡ q → look now l ≡ Some y → Spent call y.stack
-        here other call n y p rd e nm None j i = absurd (some_none (look now l) y (gone_none w.links.all j) i)
-        here other call n y p rd e nm (Some x) j i =
-            let is : y ≡ with_stack f x = some_same (look now l) y (with_stack f x) i (changed_here (with_stack f) (λ z. refl) l w.links.all x j) in
-            subst (λ (z : Link). Spent call z.stack) (sym is) (receives_on call n f x.stack e (c.restful.apart sender other sends call m n l own p sd rd named e links nm) (λ want. h want x.stack) (c.restful.calm other call n l x p rd e nm j))
-
-        calm : (other : ℕ) (call : Call) (n k : ℕ) (y : Link) → Pends w other call → reads call ≡ true → named_by call ≡ Some n → Names w n k → look now k ≡ Some y → (b : Bool) → (k == l) ≡ b → Spent call y.stack
-        calm other call n k y p rd e nm i true g =
-            let same : k ≡ l = equal_is k l g in
-            here other call n y p rd e (subst (λ z. Names w n z) same nm) (look w.links l) refl (subst (λ z. look now z ≡ Some y) same i)
-        calm other call n k y p rd e nm i false g = c.restful.calm other call n k y p rd e nm (sym (changed_other (with_stack f) (λ z. refl) l k w.links.all g) ∙ i)
-
     module _ (laws : LooksAgain) (who : ℕ) (alone : LooksAt w l who) where
       by_stirring : StirsOne v who → settle v ≡ settle_lookless (look_once v who)
       by_stirring s = stirred laws v who (order_anyway w w.channels now w.place w.wrote w.random w.moment w.notes o) (fewer_apart w v (fewer_parts w v refl refl (stays_change w.links l (with_stack f) (λ y. refl) (λ y. refl))) c.apart) s
@@ -181,7 +145,7 @@ module _ {V : Type 0} where
       once_received h = by_stirring (stirs_changed who alone (λ other call n p e g s x. h call w.random x s))
 
       -- receives find nothing either
-      once_sent : ((want : Want) (s : Held) → Idles want s → Idles want (f s)) → settle v ≡ settle_lookless (look_once v who)
+      once_sent : ((s : Held) → SameHalf s (f s)) → settle v ≡ settle_lookless (look_once v who)
       once_sent h = at (find sends_here w.coroutines) refl
         where
           on_here : Call → Bool
@@ -201,7 +165,7 @@ module _ {V : Type 0} where
             where
               linked : (q : Option ℕ) → link_number w n ≡ q → if_some q false (λ k. k == l) ≡ true → Restful v
               linked None k m = cc
-              linked (Some k) m p = rests_changed d.number call n (record { one = d; there = i; number = refl; mode = e }) s g (named_link w n l (m ∙ ap Some (equal_is k l p))) h
+              linked (Some k) m p = half_rests w d.number call n l f c.restful (record { one = d; there = i; number = refl; mode = e }) s g (named_link w n l (m ∙ ap Some (equal_is k l p))) h
 
           sending : (d : Coroutine V) → In d w.coroutines → (q : Option Call) → pending_call d.mode ≡ q → if_some q false on_here ≡ true → Restful v
           sending d i None e g = cc
@@ -226,7 +190,7 @@ module _ {V : Type 0} where
     marks mark number stack = rest_once (on_link w l mark) who (calmly_rests w (on_link w l mark) (calmly_mark w l mark number stack) c.restful)
 
     breaks : settle (on_link w l (with_stack broke)) ≡ settle_lookless (look_once (on_link w l (with_stack broke)) who)
-    breaks = once_sent w l broke o c laws who alone (λ want s e. e)
+    breaks = once_sent w l broke o c laws who alone (λ s. half_of s (broke s) refl refl refl)
 
     pub once_read : (said : KernelReply) → settle (heard_read w l said) ≡ settle_lookless (look_once (heard_read w l said) who)
     once_read (replies.Came bytes) = once_received w l (came bytes) o c laws who alone (λ call u x s. by_send call u x (came bytes) s refl refl refl)
@@ -235,7 +199,7 @@ module _ {V : Type 0} where
     once_read said = breaks
 
     pub once_written : (said : KernelReply) → settle (heard_write w l said) ≡ settle_lookless (look_once (heard_write w l said) who)
-    once_written (replies.Took count) = once_sent w l (took count) o c laws who alone (λ want s e. e)
+    once_written (replies.Took count) = once_sent w l (took count) o c laws who alone (λ s. half_of s (took count s) refl refl refl)
     once_written replies.NotYet = marks write_cold (λ x. refl) (λ x. refl)
     once_written said = breaks
 

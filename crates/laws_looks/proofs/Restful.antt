@@ -6,10 +6,8 @@ use Rattle.dill_scope.specs.Scopes.{Scopes}
 use Rattle.dill_rules.specs.World.{begin}
 use Rattle.dill_rules.specs.State.{State, lined, after, expire_next, expired, shut}
 use Rattle.dill_rules.specs.Expiring.{passed}
-use Rattle.std.specs.Option.{option_or}
 use Rattle.rand_core.specs.Stream.{Stream}
 use Rattle.dill_base.specs.declared.errno.Errno.{Errno}
-use Rattle.dill_base.specs.declared.errno.Errno.TheVariants as errnos
 use Rattle.dill_calls.specs.declared.answer.Answer.{Answer}
 use Rattle.dill_calls.specs.declared.answer.Answer.TheVariants.{Fault}
 use Rattle.dill_calls.specs.declared.call.Call.{Call}
@@ -17,12 +15,12 @@ use Rattle.dill_calls.specs.declared.call.Call.TheVariants as calls
 use Rattle.dill_calls.specs.declared.ran.Note.TheVariants.{Freed}
 use Rattle.dill_calls.specs.declared.word.Word.{Word}
 use Rattle.dill_calls.specs.declared.word.Word.TheVariants as words
-use Rattle.dill_calls.specs.CallTable.{word_of, named_by, blocks, gives_up}
+use Rattle.dill_calls.specs.CallTable.{word_of, named_by, gives_up}
 use Rattle.dill_handles.specs.Handles as handles
 use Rattle.dill_handles.specs.declared.entry.Entry.{Entry}
 use Rattle.dill_scope.proofs.Numbered.{found_number}
 use Rattle.dill_base.specs.Maps.{if_some, change, without, first_some}
-use Rattle.dill_stack.specs.Interface.{is_sent, has_ended}
+use Rattle.dill_stack.specs.Interface.{Held}
 use Rattle.dill_rules.specs.declared.coroutine.Closing.{Closing}
 use Rattle.dill_rules.specs.declared.coroutine.Coroutine.{Coroutine}
 use Rattle.dill_rules.specs.declared.thing.Thing.{Thing}
@@ -32,13 +30,12 @@ use Rattle.dill_rules.specs.Links as link
 use Rattle.dill_rules.specs.Links.{Link, Links, look, is_link, change_link, with_stack, as_closing}
 use Rattle.dill_rules.specs.Naming.{links, draws_of}
 use Rattle.dill_rules.specs.Owning.{entry_of, is_dead_as, drop, release, free_bundle}
-use Rattle.dill_rules.specs.Sockets.{link_of, link_number, link_named, on_link, on_named}
+use Rattle.dill_rules.specs.Sockets.{link_of, link_number, on_link, on_named}
 use Rattle.dill_rules.specs.Directions.{is_send, is_receive, is_handshake}
-use Rattle.dill_rules.specs.LinkAnswers.{is_on_stack, is_tcp_done, is_tcp_close, is_broken_for, zero_when, answer_said, look_of, whole_answer, stack_answer, link_answer}
+use Rattle.dill_rules.specs.LinkAnswers.{is_tcp_close, reads}
 use Rattle.dill_rules.specs.Linking.{give_stack_up}
 use Rattle.dill_rules.specs.Giving.{is_read, look_on, after_send, is_connecting_for, give_close, give_send, give_receive, give_attached, give_closed, forgo, give_forgone, give_class, give}
-use Rattle.dill_rules.specs.Answers.{when, own_answer, lost_its_number, answer_of}
-use Rattle.dill_rules.specs.Taking.{is_cancelled}
+use Rattle.dill_rules.specs.Answers.{answer_of}
 use Rattle.dill_rules.specs.Entering.{late_answer}
 use Rattle.dill_rules.specs.Expiring.{expire_one}
 use Rattle.dill_rules.specs.Settling.{IsSettled, highest_first, is_owned_by, can_finish, free_all, release_all, outcome_of, leave, finish, answer_due, give_first, settle_one, settle_within, settle, pass_all}
@@ -52,73 +49,23 @@ use Rattle.laws_sound.proofs.Answering.{settle_goes}
 use Rattle.laws_sound.proofs.Ordering.{order_anyway}
 use Rattle.laws_sound.proofs.Fitting.{has_number}
 use Rattle.laws_sound.proofs.Shutting.{once}
-use Rattle.laws_looks.specs.Readers.{In, Pends, reads, LooksApart}
+use Rattle.laws_queue.specs.Lending.{lent}
+use Rattle.laws_blind.proofs.Giving.{Unread, receive_stays, late_unread, lookless_unread}
+use Rattle.laws_looks.specs.Readers.{In, Pends, LooksApart}
 use Rattle.laws_looks.specs.Calm.{Spent, Names, Restful, DrawsNothing}
-use Rattle.laws_looks.proofs.Lists.{itself, equal_is, some_none, some_same, reads_parts, both_true, in_without, find_in, first_in}
+use Rattle.laws_looks.proofs.Lists.{itself, both_true, in_without, find_in, first_in}
 use Rattle.laws_looks.proofs.Fewer.{named_once, pends_same, fewer_reply, fewer_lined, fewer_within, fewer_apart}
-use Rattle.laws_looks.proofs.Quieted.{quiet_apart, passed_settled, due_as, calm_all, changed_here, changed_other}
-use Rattle.laws_looks.proofs.Spent.{after_spent}
-
-or_either : {X : Type 0} (a b : Option X) (x : X) → option_or a b ≡ Some x → (a ≡ Some x) ⊎ (b ≡ Some x)
-or_either None b x e = inr e
-or_either (Some y) b x e = inl e
-
-when_is : (b : Bool) (a c : Answer) → when b a ≡ Some c → a ≡ c
-when_is true a c e = cc
-when_is false a c e = cc
+use Rattle.laws_looks.proofs.Quieted.{quiet_apart, passed_settled, due_as, calm_all, found_change}
+use Rattle.laws_looks.proofs.Answered.{answers_same}
+use Rattle.laws_looks.proofs.Spent.{SameHalf, half_spent, asked_is, after_half}
 
 -- a link that is marked keeps its stack
 marked : (mark : Link → Link) → ((x : Link) → (mark x).number ≡ x.number) → ((x : Link) → (mark x).stack ≡ x.stack) → (l m : ℕ) (xs : List Link) (y : Link) → find (is_link m) (change (is_link l) mark xs) ≡ Some y → (x : Link) × (find (is_link m) xs ≡ Some x) × (y.stack ≡ x.stack)
-marked mark number stack l m [] y e = cc
-marked mark number stack l m (x ∷ xs) y e = at (is_link l x) (is_link m x) refl e (marked mark number stack l m xs y)
+marked mark number stack l m xs y e = let r = found_change mark number l m xs y e in (r.0, r.1, at r.0 r.2)
   where
-    at : (t u : Bool) → is_link m x ≡ u → find (is_link m) (cond t (mark x ∷ xs) (x ∷ change (is_link l) mark xs)) ≡ Some y → (find (is_link m) (change (is_link l) mark xs) ≡ Some y → (z : Link) × (find (is_link m) xs ≡ Some z) × (y.stack ≡ z.stack)) → (z : Link) × (cond u (Some x) (find (is_link m) xs) ≡ Some z) × (y.stack ≡ z.stack)
-    at true true g h rest =
-        let it : Some (mark x) ≡ Some y = sym (ap (λ b. cond b (Some (mark x)) (find (is_link m) xs)) (ap (λ n. n == m) (number x) ∙ g)) ∙ h in
-        let is : mark x ≡ y = cc in
-        (x, refl, ap (λ z. z.stack) (sym is) ∙ stack x)
-    at true false g h rest = (y, sym (ap (λ b. cond b (Some (mark x)) (find (is_link m) xs)) (ap (λ n. n == m) (number x) ∙ g)) ∙ h, refl)
-    at false true g h rest =
-        let it : Some x ≡ Some y = sym (ap (λ b. cond b (Some x) (find (is_link m) (change (is_link l) mark xs))) g) ∙ h in
-        (x, refl, ap (λ z. z.stack) (some_same (Some y) y x refl (sym it)))
-    at false false g h rest = rest (sym (ap (λ b. cond b (Some x) (find (is_link m) (change (is_link l) mark xs))) g) ∙ h)
-
--- no look answers whoever looks
-abbrev pub Unread : Call → Answer → Type 0
-Unread call answer = reads call ≡ true → is_tcp_close (word_of call) ≡ false → is_read answer ≡ false
-
-done_send : (word : Word) → is_tcp_done word ≡ true → is_send word ≡ true
-done_send words.TcpDone e = refl
-done_send _ e = cc
-
-stack_unread : (call : Call) (u : Stream) (x : Link) (answer : Answer) → Spent call x.stack → is_send (word_of call) ≡ false → is_tcp_close (word_of call) ≡ false → stack_answer call u x ≡ Some answer → is_read answer ≡ false
-stack_unread call u x answer s n c e = at (is_broken_for (word_of call) x.stack) e
-  where
-    whole : (d : Bool) → is_tcp_done (word_of call) ≡ d → (a b : Bool) → is_send (word_of call) ≡ a → is_tcp_close (word_of call) ≡ b → (if d then zero_when x.shut else (if a then zero_when (is_sent x.stack) else (if b then zero_when (x.shut && has_ended x.stack) else answer_said (look_of call u x.stack).said))) ≡ Some answer → is_read answer ≡ false
-    whole true f a b g h i = absurd (let t = done_send (word_of call) f in bad (is_send (word_of call)) t n)
-      where
-        bad : (k : Bool) → k ≡ true → k ≡ false → ⊥
-        bad true p q = cc
-        bad false p q = cc
-    whole false f true b g h i = absurd (bad (is_send (word_of call)) g n)
-      where
-        bad : (k : Bool) → k ≡ true → k ≡ false → ⊥
-        bad true p q = cc
-        bad false p q = cc
-    whole false f false true g h i = absurd (bad (is_tcp_close (word_of call)) h c)
-      where
-        bad : (k : Bool) → k ≡ true → k ≡ false → ⊥
-        bad true p q = cc
-        bad false p q = cc
-    whole false f false false g h i = let none : ◌≡◌ {A = Option Answer} None (Some answer) = sym (ap (λ l. answer_said l.said) (s.look u)) ∙ i in cc
-
-    at : (b : Bool) → (if b then Some (Fault errnos.Econnreset) else whole_answer call u x) ≡ Some answer → is_read answer ≡ false
-    at true f = let it : Fault errnos.Econnreset ≡ answer = cc in ap is_read (sym it)
-    at false f = whole (is_tcp_done (word_of call)) refl (is_send (word_of call)) (is_tcp_close (word_of call)) refl refl f
-
-late_unread : (call : Call) → Unread call (late_answer call)
-late_unread (calls.Msleep deadline) e f = cc
-late_unread call e f = refl
+    at : (x : Link) → (y ≡ x) ⊎ ((m ≡ l) × (y ≡ mark x)) → y.stack ≡ x.stack
+    at x (inl same) = ap (λ z. z.stack) same
+    at x (inr here) = ap (λ z. z.stack) here.1 ∙ stack x
 
 module _ {V : Type 0} where
   -- fewer are pending, fewer numbers are live, and stacks and words are as they were
@@ -128,6 +75,10 @@ module _ {V : Type 0} where
     pub names : (n l : ℕ) → Names v n l → Names w n l
     pub stacks : (l : ℕ) (y : Link) → look v.links l ≡ Some y → (x : Link) × (look w.links l ≡ Some x) × (y.stack ≡ x.stack)
 
+  -- rest sees no random number
+  pub rest_lent : (w : World V) (u : Stream) → Restful w → Restful (lent u w)
+  rest_lent w u r = record { calm = λ who call n l x p rd e nm i. r.calm who call n l x p rd e nm i; apart = λ who other call more n m l p q s rd e f i j. r.apart who other call more n m l p q s rd e f i j }
+
   pub calmly_same : (w v : World V) → v.random ≡ w.random → v.coroutines ≡ w.coroutines → v.handles ≡ w.handles → v.links ≡ w.links → Calmly w v
   calmly_same w v e f g h = record {
     random = e;
@@ -136,7 +87,7 @@ module _ {V : Type 0} where
     stacks = λ l y i. (y, subst (λ (x : Links). look x l ≡ Some y) h i, refl);
   }
 
-  pub calmly_then : (w v u : World V) → Calmly w v → Calmly v u → Calmly w u
+  calmly_then : (w v u : World V) → Calmly w v → Calmly v u → Calmly w u
   calmly_then w v u a b = record {
     random = b.random ∙ a.random;
     pends = λ who call p. a.pends who call (b.pends who call p);
@@ -144,7 +95,7 @@ module _ {V : Type 0} where
     stacks = λ l y i. let s = b.stacks l y i in let r = a.stacks l s.0 s.1 in (r.0, r.1, s.2 ∙ r.2);
   }
 
-  pub calmly_some : {A : Type 0} (o : Option A) (w : World V) (f : A → World V) → ((a : A) → Calmly w (f a)) → Calmly w (if_some o w f)
+  calmly_some : {A : Type 0} (o : Option A) (w : World V) (f : A → World V) → ((a : A) → Calmly w (f a)) → Calmly w (if_some o w f)
   calmly_some None w f h = calmly_same w w refl refl refl refl
   calmly_some (Some a) w f h = h a
 
@@ -156,15 +107,15 @@ module _ {V : Type 0} where
   calmly_reply w who word answer = record {
     random = refl;
     pends = (fewer_reply w who word answer).calls;
-    names = λ n l p. record { entry = p.entry; there = p.there; number = p.number; link = p.link };
+    names = λ n l p. p;
     stacks = λ l y i. (y, i, refl);
   }
 
   pub calmly_mark : (w : World V) (l : ℕ) (mark : Link → Link) → ((x : Link) → (mark x).number ≡ x.number) → ((x : Link) → (mark x).stack ≡ x.stack) → Calmly w (on_link w l mark)
   calmly_mark w l mark number stack = record {
     random = refl;
-    pends = λ who call p. record { one = p.one; there = p.there; number = p.number; mode = p.mode };
-    names = λ n m p. record { entry = p.entry; there = p.there; number = p.number; link = p.link };
+    pends = λ who call p. p;
+    names = λ n m p. p;
     stacks = λ m y i. marked mark number stack l m w.links.all y i;
   }
 
@@ -175,15 +126,15 @@ module _ {V : Type 0} where
   calmly_drop w (things.Socket l) = calmly_mark w l as_closing (λ x. refl) (λ x. refl)
   calmly_drop w (things.Value kind value) = calmly_same w w refl refl refl refl
 
-  pub calmly_retire : (w : World V) (number : ℕ) → Calmly w (record w { handles = handles.retire w.handles number })
+  calmly_retire : (w : World V) (number : ℕ) → Calmly w (record w { handles = handles.retire w.handles number })
   calmly_retire w number = record {
     random = refl;
-    pends = λ who call p. record { one = p.one; there = p.there; number = p.number; mode = p.mode };
+    pends = λ who call p. p;
     names = λ n l p. record { entry = p.entry; there = in_without (handles.is_entry number) w.handles.entries p.entry p.there; number = p.number; link = p.link };
     stacks = λ l y i. (y, i, refl);
   }
 
-  pub calmly_release : (w : World V) (number : ℕ) → Calmly w (release w number)
+  calmly_release : (w : World V) (number : ℕ) → Calmly w (release w number)
   calmly_release w number =
       calmly_some (entry_of w number) w (λ x. note (drop (record w { handles = handles.retire w.handles number }) x.thing) (Freed number))
       (λ x. let less : World V = record w { handles = handles.retire w.handles number } in
@@ -192,27 +143,27 @@ module _ {V : Type 0} where
   calmly_unkept : (w : World V) (count : ℕ) → Calmly w (record w { handles = handles.unkeep w.handles count })
   calmly_unkept w count = record {
     random = refl;
-    pends = λ who call p. record { one = p.one; there = p.there; number = p.number; mode = p.mode };
-    names = λ n l p. record { entry = p.entry; there = p.there; number = p.number; link = p.link };
+    pends = λ who call p. p;
+    names = λ n l p. p;
     stacks = λ l y i. (y, i, refl);
   }
 
-  pub calmly_up : (w : World V) (who : ℕ) (call : Call) (e : Errno) (kept : ℕ) → Calmly w (give_stack_up w who call e kept)
+  calmly_up : (w : World V) (who : ℕ) (call : Call) (e : Errno) (kept : ℕ) → Calmly w (give_stack_up w who call e kept)
   calmly_up w who call e kept =
       let less : World V = record w { handles = handles.unkeep w.handles kept } in
       let v = if_some (named_by call) w (λ number. release less number) in
       calmly_then w v (reply v who (word_of call) (Fault e)) (calmly_some (named_by call) w (λ number. release less number) (λ number. calmly_then w less (release less number) (calmly_unkept w kept) (calmly_release less number))) (calmly_reply v who (word_of call) (Fault e))
 
-  pub calmly_forgone : (w : World V) (who : ℕ) → Calmly w (forgo w who)
+  calmly_forgone : (w : World V) (who : ℕ) → Calmly w (forgo w who)
   calmly_forgone w who =
       let less : World V = record w { handles = handles.unkeep w.handles 1 } in
       calmly_then w less (forgo w who) (calmly_unkept w 1) (at less (find (is_connecting_for who) w.links.all))
     where
       at : (less : World V) (o : Option Link) → Calmly less (if_some o (record less { links = link.unkeep less.links }) (λ x. on_link less x.number as_closing))
-      at less None = record { random = refl; pends = λ who call p. record { one = p.one; there = p.there; number = p.number; mode = p.mode }; names = λ n l p. record { entry = p.entry; there = p.there; number = p.number; link = p.link }; stacks = λ l y i. (y, i, refl) }
+      at less None = record { random = refl; pends = λ who call p. p; names = λ n l p. p; stacks = λ l y i. (y, i, refl) }
       at less (Some x) = calmly_mark less x.number as_closing (λ y. refl) (λ y. refl)
 
-  pub calmly_free : (w : World V) (x : Closing) → Calmly w (free_bundle w x)
+  calmly_free : (w : World V) (x : Closing) → Calmly w (free_bundle w x)
   calmly_free w x = calmly_same w (free_bundle w x) refl refl refl refl
 
   calmly_finish : (w : World V) (c : Coroutine V) → Calmly w (finish w c)
@@ -232,14 +183,14 @@ module _ {V : Type 0} where
       ended false v u e f g = record {
         random = refl;
         pends = λ who call p. record { one = p.one; there = in_without (is_coroutine c.number) v.coroutines p.one p.there; number = p.number; mode = p.mode };
-        names = λ n l p. record { entry = p.entry; there = p.there; number = p.number; link = p.link };
+        names = λ n l p. p;
         stacks = λ l y i. (y, i, refl);
       }
 
       leaves : (v : World V) → Calmly v (leave v c)
       leaves v =
           let u = ended (c.number == 1) v (from_start (record v { ended = Some (outcome_of c.mode) })) refl refl refl in
-          record { random = u.random; pends = λ who call p. u.pends who call (record { one = p.one; there = p.there; number = p.number; mode = p.mode }); names = λ n l p. u.names n l (record { entry = p.entry; there = p.there; number = p.number; link = p.link }); stacks = u.stacks }
+          record { random = u.random; pends = λ who call p. u.pends who call p; names = λ n l p. u.names n l p; stacks = u.stacks }
 
   -- what is calm stays so
   pub calmly_rests : (w v : World V) → Calmly w v → Restful w → Restful v
@@ -268,41 +219,22 @@ module _ {V : Type 0} where
 
   -- ---- a send is answered
 
+  -- what a send leaves to receives leaves its link at rest
+  pub half_rests : (w : World V) (who : ℕ) (call : Call) (n l : ℕ) (f : Held → Held) → Restful w → Pends w who call → is_send (word_of call) ≡ true → named_by call ≡ Some n → Names w n l → ((s : Held) → SameHalf s (f s)) → Restful (on_link w l (with_stack f))
+  half_rests w who call n l f r p s e nl h = record { calm = λ other more m k y q rd g nm i. let c = found_change (with_stack f) (λ x. refl) l k w.links.all y i in calm other more m k y q rd g nm c.0 c.1 c.2; apart = r.apart }
+    where
+      calm : (other : ℕ) (more : Call) (m k : ℕ) (y : Link) → Pends w other more → reads more ≡ true → named_by more ≡ Some m → Names w m k → (x : Link) → look w.links k ≡ Some x → (y ≡ x) ⊎ ((k ≡ l) × (y ≡ with_stack f x)) → Spent more y.stack
+      calm other more m k y q rd g nm x i (inl same) = subst (λ z. Spent more z.stack) (sym same) (r.calm other more m k x q rd g nm i)
+      calm other more m k y q rd g nm x i (inr here) =
+          let want = asked_is more m g (r.apart who other call more n m l p q s rd e g nl (subst (λ z. Names w m z) here.0 nm)) in
+          subst (λ z. Spent more z.stack) (sym here.1) (half_spent more want.0 x.stack (f x.stack) want.1 (h x.stack) (r.calm other more m k x q rd g nm i))
+
   sent_rests : (w : World V) (who : ℕ) (call : Call) (answer : Answer) (n : ℕ) → Restful w → Pends w who call → is_send (word_of call) ≡ true → named_by call ≡ Some n → Rests w (on_named w n (with_stack (after_send (word_of call) answer)))
   sent_rests w who call answer n r p s e = at (link_number w n) refl
     where
-      f : Link → Link
-      f = with_stack (after_send (word_of call) answer)
-
-      here : (l : ℕ) → link_number w n ≡ Some l → Restful (on_link w l f)
-      here l i = record {
-        calm = λ other more m k y q rd g nm j. calm other more m k y (record { one = q.one; there = q.there; number = q.number; mode = q.mode }) rd g (record { entry = nm.entry; there = nm.there; number = nm.number; link = nm.link }) j (k == l) refl;
-        apart = λ one two c more a b k x y u v g h i j. r.apart one two c more a b k (record { one = x.one; there = x.there; number = x.number; mode = x.mode }) (record { one = y.one; there = y.there; number = y.number; mode = y.mode }) u v g h (record { entry = i.entry; there = i.there; number = i.number; link = i.link }) (record { entry = j.entry; there = j.there; number = j.number; link = j.link });
-      }
-        where
-          on : (other : ℕ) (more : Call) (m : ℕ) (y : Link) → Pends w other more → reads more ≡ true → named_by more ≡ Some m → Names w m l → (o : Option Link) → look w.links l ≡ o → look (change_link w.links l f) l ≡ Some y → Spent more y.stack
-          on other more m y q rd g nm None j h = absurd (some_none (look (change_link w.links l f) l) y (nobody w.links.all j) h)
-            where
-              nobody : (xs : List Link) → find (is_link l) xs ≡ None → find (is_link l) (change (is_link l) f xs) ≡ None
-              nobody [] d = refl
-              nobody (x ∷ xs) d = by (is_link l x) refl d (nobody xs)
-                where
-                  by : (b : Bool) → is_link l x ≡ b → cond b (Some x) (find (is_link l) xs) ≡ None → (find (is_link l) xs ≡ None → find (is_link l) (change (is_link l) f xs) ≡ None) → find (is_link l) (cond b (f x ∷ xs) (x ∷ change (is_link l) f xs)) ≡ None
-                  by true u v rest = cc
-                  by false u v rest = rw u (rest v)
-          on other more m y q rd g nm (Some x) j h =
-              let is : y ≡ f x = some_same (look (change_link w.links l f) l) y (f x) h (changed_here f (λ z. refl) l w.links.all x j) in
-              subst (λ z. Spent more z.stack) (sym is) (after_spent more m (word_of call) answer x.stack g (r.apart who other call more n m l p q s rd e g (named_link w n l i) nm) (r.calm other more m l x q rd g nm j))
-
-          calm : (other : ℕ) (more : Call) (m k : ℕ) (y : Link) → Pends w other more → reads more ≡ true → named_by more ≡ Some m → Names w m k → look (change_link w.links l f) k ≡ Some y → (b : Bool) → (k == l) ≡ b → Spent more y.stack
-          calm other more m k y q rd g nm j true h =
-              let same : k ≡ l = equal_is k l h in
-              on other more m y q rd g (subst (λ z. Names w m z) same nm) (look w.links l) refl (subst (λ z. look (change_link w.links l f) z ≡ Some y) same j)
-          calm other more m k y q rd g nm j false h = r.calm other more m k y q rd g nm (sym (changed_other f (λ z. refl) l k w.links.all h) ∙ j)
-
-      at : (o : Option ℕ) → link_number w n ≡ o → Rests w (if_some o w (λ l. on_link w l f))
+      at : (o : Option ℕ) → link_number w n ≡ o → Rests w (if_some o w (λ l. on_link w l (with_stack (after_send (word_of call) answer))))
       at None i = record { restful = r; random = refl }
-      at (Some l) i = record { restful = here l i; random = refl }
+      at (Some l) i = record { restful = half_rests w who call n l (after_send (word_of call) answer) r p s e (named_link w n l i) (after_half (word_of call) answer); random = refl }
 
   -- ---- answers
 
@@ -340,7 +272,7 @@ module _ {V : Type 0} where
       rests_if (is_send word) w (give_send w who call answer) _
       (λ e. let v = if_some (named_by call) w (λ number. on_named w number (with_stack (after_send word answer))) in rests_reply w v who word answer (named_rests w who call answer r p e))
       (λ e. rests_if (is_receive word) w (give_receive w who call answer) _
-      (λ f. received f (u (reads_as (is_send word) (is_receive word) (is_handshake word || gives_up word) e (inl f)) (receive_open word f)))
+      (λ f. received f (u (reads_as (is_send word) (is_receive word) (is_handshake word || gives_up word) e (inl f)) (receive_stays word f)))
       (λ f. rests_if (is_tcp_close word) w (give_closed w who call answer) _
       (λ g. closed_rests w who call answer r)
       (λ g. rests_if (is_handshake word || gives_up word) w (give_attached w who call answer) _
@@ -355,10 +287,6 @@ module _ {V : Type 0} where
       reads_as false false true e f = refl
       reads_as false false false e (inl f) = cc
       reads_as false false false e (inr f) = cc
-
-      receive_open : (word : Word) → is_receive word ≡ true → is_tcp_close word ≡ false
-      receive_open words.TcpClose e = cc
-      receive_open word e = refl
 
       received : is_receive (word_of call) ≡ true → is_read answer ≡ false → Rests w (give_receive w who call answer)
       received f g = at (is_read answer) g
@@ -375,40 +303,8 @@ module _ {V : Type 0} where
 
   -- ---- what is due is no look's answer
 
-  link_unread : (w : World V) (who : ℕ) (call : Call) (answer : Answer) → Restful w → Pends w who call → reads call ≡ true → is_tcp_close (word_of call) ≡ false → link_answer w call ≡ Some answer → is_read answer ≡ false
-  link_unread w who call answer r p rd c e = at (is_on_stack (word_of call)) (named_by call) refl e
-    where
-      linked : (n l : ℕ) → named_by call ≡ Some n → link_number w n ≡ Some l → (o : Option Link) → look w.links l ≡ o → if_some o None (stack_answer call w.random) ≡ Some answer → is_read answer ≡ false
-      linked n l f g None h i = cc
-      linked n l f g (Some x) h i = stack_unread call w.random x answer (r.calm who call n l x p rd f (named_link w n l g) h) (reads_parts (is_on_stack (word_of call)) (is_send (word_of call)) rd).1 c i
-
-      named : (n : ℕ) → named_by call ≡ Some n → (o : Option ℕ) → link_number w n ≡ o → if_some (if_some o None (look w.links)) None (stack_answer call w.random) ≡ Some answer → is_read answer ≡ false
-      named n f None g h = cc
-      named n f (Some l) g h = linked n l f g (look w.links l) refl h
-
-      at : (b : Bool) (o : Option ℕ) → named_by call ≡ o → (if b then if_some o None (λ number. if_some (link_named w number) None (stack_answer call w.random)) else None) ≡ Some answer → is_read answer ≡ false
-      at false o f g = cc
-      at true None f g = cc
-      at true (Some n) f g = named n f (link_number w n) refl g
-
-  own_link : (w : World V) (call : Call) (answer : Answer) → reads call ≡ true → own_answer w call ≡ Some answer → link_answer w call ≡ Some answer
-  own_link w (calls.BundleWait number deadline) answer h e = cc
-  own_link w (calls.Hclose number) answer h e = cc
-  own_link w (calls.Chsend number bytes deadline) answer h e = cc
-  own_link w (calls.Chrecv number size deadline) answer h e = cc
-  own_link w (calls.Choose deadline all) answer h e = cc
-  own_link w call answer h e = e
-
   due_unread : (w : World V) (who : ℕ) (call : Call) (answer : Answer) → Restful w → Pends w who call → answer_of w who call ≡ Some answer → Unread call answer
-  due_unread w who call answer r p e rd c = at (or_either (when (blocks (word_of call) && is_cancelled w who) (Fault errnos.Ecanceled)) (option_or (when (lost_its_number w call) (Fault errnos.Ebadf)) (own_answer w call)) answer e)
-    where
-      more : (when (lost_its_number w call) (Fault errnos.Ebadf) ≡ Some answer) ⊎ (own_answer w call ≡ Some answer) → is_read answer ≡ false
-      more (inl f) = ap is_read (sym (when_is (lost_its_number w call) (Fault errnos.Ebadf) answer f))
-      more (inr f) = link_unread w who call answer r p rd c (own_link w call answer rd f)
-
-      at : (when (blocks (word_of call) && is_cancelled w who) (Fault errnos.Ecanceled) ≡ Some answer) ⊎ (option_or (when (lost_its_number w call) (Fault errnos.Ebadf)) (own_answer w call) ≡ Some answer) → is_read answer ≡ false
-      at (inl f) = ap is_read (sym (when_is (blocks (word_of call) && is_cancelled w who) (Fault errnos.Ecanceled) answer f))
-      at (inr f) = more (or_either (when (lost_its_number w call) (Fault errnos.Ebadf)) (own_answer w call) answer f)
+  due_unread w who call answer r p e = lookless_unread w who call answer (sym (answers_same w who call (λ rd n l x f g h. r.calm who call n l x p rd f (named_link w n l g) h)) ∙ e)
 
   -- ---- settling and expiries
 
@@ -450,7 +346,7 @@ module _ {V : Type 0} where
   pub passes_rest : (w : World V) → Restful w → pass_all w ≡ w
   passes_rest w r = calm_all w.coroutines w (λ c i call e rd n l x f g h. r.calm c.number call n l x (record { one = c; there = i; number = refl; mode = e }) rd f (named_link w n l g) h)
 
-  pub settle_rests : (w : World V) → Restful w → Rests w (settle w)
+  settle_rests : (w : World V) → Restful w → Rests w (settle w)
   settle_rests w r =
       let v = settle_within (length w.coroutines) w in
       let one = within_rests (length w.coroutines) w r in
@@ -474,7 +370,7 @@ module _ {V : Type 0} where
   calmly_lined w = record {
     random = refl;
     pends = (fewer_lined w).calls;
-    names = λ n l p. record { entry = p.entry; there = p.there; number = p.number; link = p.link };
+    names = λ n l p. p;
     stacks = λ l y i. (y, i, refl);
   }
 

@@ -17,11 +17,10 @@ use Rattle.dill_stack.proofs.DropShort.{finish_short}
 use Rattle.dill_stack.proofs.Greetings.{heard_short}
 use Rattle.dill_stack.proofs.ReadShort.{read_short}
 use Rattle.dill_rules.specs.Directions.{is_handshake, asked, parting_of}
-use Rattle.dill_rules.specs.LinkAnswers.{heard_as, still, look_by, look_of}
+use Rattle.dill_rules.specs.LinkAnswers.{heard_as, still, look_by, look_of, reads}
 use Rattle.dill_rules.specs.Links.{Link}
 use Rattle.dill_rules.specs.World.{World}
 use Rattle.laws_queue.specs.Lending.{no_random}
-use Rattle.laws_looks.specs.Readers.{reads}
 use Rattle.laws_looks.specs.Short.{Awaits, NeedsAreShort}
 
 asked_reads : (call : Call) (want : Want) → asked call ≡ Some want → reads call ≡ true

@@ -15,13 +15,13 @@ use Rattle.dill_stack.specs.Interface.{Held, drop_unread, frame, line, done}
 use Rattle.dill_rules.specs.declared.coroutine.Coroutine.{Coroutine}
 use Rattle.dill_rules.specs.declared.thing.Thing.{Thing}
 use Rattle.dill_rules.specs.declared.thing.Thing.TheVariants as things
-use Rattle.dill_rules.specs.Directions.{is_send, is_first, is_end, message_of, line_said, parting_of}
+use Rattle.dill_rules.specs.Directions.{is_send, is_first, is_end, message_of, line_said, asked, parting_of}
 use Rattle.dill_rules.specs.Giving.{is_connecting_for, look_on}
 use Rattle.dill_rules.specs.Hearing.{heat_ready}
 use Rattle.dill_rules.specs.LinkAnswers.{is_on_stack, look_of}
-use Rattle.dill_rules.specs.Linking.{if_ok, with_random, put, ask_stack, heat, queue, queue_end, queue_line, queue_message, dropped_for}
+use Rattle.dill_rules.specs.Linking.{if_ok, with_random, put, ask_stack, heat, reserve, queue, queue_end, queue_line, queue_message, dropped_for}
 use Rattle.dill_rules.specs.Links as link
-use Rattle.dill_rules.specs.Links.{Link, Links, is_link, change_link, connector, with_stack, as_closing, as_stream, heated}
+use Rattle.dill_rules.specs.Links.{Link, Links, is_link, change_link, connector, with_stack, as_closing, as_stream, heated, reserved}
 use Rattle.dill_rules.specs.declared.link.Sort.{Sort}
 use Rattle.dill_rules.specs.Owning.{drop}
 use Rattle.dill_rules.specs.Settling.{pass_one, pass_all}
@@ -143,6 +143,15 @@ module _ {V : Type 0} where
 
   pub heat_stays : (w : World V) (call : Call) (read write : Bool) → LinksStay w (heat w call read write)
   heat_stays w call read write = some_stays (named_by call) w w (λ number. on_named w number (heated read write)) (soft_same w.links) (λ number. on_named_stays w number (heated read write) (λ x. refl) (λ x. refl) (λ x. refl))
+
+  -- what a receive does before it is pending
+  pub ready_stays : (w : World V) (call : Call) → LinksStay w (heat (reserve w call) call true false)
+  ready_stays w call =
+      let v = reserve w call in
+      soft_then w.links v.links (heat v call true false).links
+      (some_stays (named_by call) w w (λ number. if_some (asked call) w (λ want. on_named w number (reserved want))) (soft_same w.links)
+      (λ number. some_stays (asked call) w w (λ want. on_named w number (reserved want)) (soft_same w.links) (λ want. on_named_stays w number (reserved want) (λ x. refl) (λ x. refl) (λ x. refl))))
+      (heat_stays v call true false)
 
   pub queue_stays : (w : World V) (call : Call) → LinksStay w (queue w call)
   queue_stays w call =

@@ -1,5 +1,5 @@
 -- Where one coroutine stirs, its look may go before all else.
-use Rattle.std.proofs.Common.{◌≡◌, ◌∙◌, ◌⊎◌, inl, inr, ℕ, zero, suc, ◌==◌, ◌<◌, List, [], ◌∷◌, length, find, fold, Bool, true, false, not, ◌&&◌, Option, Some, None, if◌then◌else◌, refl, sym, ap, subst, arith}
+use Rattle.std.proofs.Common.{◌≡◌, ◌∙◌, ◌⊎◌, inl, inr, ℕ, zero, suc, ◌==◌, List, [], ◌∷◌, length, find, fold, Bool, true, false, ◌&&◌, Option, Some, None, if◌then◌else◌, refl, sym, ap, subst, arith}
 use Rattle.std.specs.Prelude.{is_none, option_map}
 use Rattle.std.specs.Option.{option_or}
 use Rattle.rand_core.specs.Stream.{Stream}
@@ -8,41 +8,41 @@ use Rattle.dill_base.specs.Maps.{if_some, first_some}
 use Rattle.dill_calls.specs.declared.answer.Answer.{Answer}
 use Rattle.dill_calls.specs.declared.answer.Answer.TheVariants.{Fault}
 use Rattle.dill_calls.specs.declared.call.Call.{Call}
-use Rattle.dill_calls.specs.declared.word.Word.{Word}
-use Rattle.dill_calls.specs.declared.word.Word.TheVariants as words
 use Rattle.dill_calls.specs.CallTable.{word_of, named_by, blocks}
 use Rattle.dill_scope.proofs.Numbered.{found_number}
 use Rattle.dill_stack.specs.Interface.{Held, is_sent, has_ended}
-use Rattle.dill_stack.specs.declared.want.ReadOut.TheVariants as outs
 use Rattle.dill_stack.specs.Again.{LooksAgain}
 use Rattle.dill_rules.specs.declared.coroutine.Coroutine.{Coroutine}
 use Rattle.dill_rules.specs.declared.coroutine.Mode.TheVariants as modes
-use Rattle.dill_rules.specs.World.{World, is_coroutine, coroutine_of, call_of, with_mode, pending_call}
-use Rattle.dill_rules.specs.Links.{Link, look}
-use Rattle.dill_rules.specs.Sockets.{link_number, link_named, stack_of}
+use Rattle.dill_rules.specs.World.{World, is_coroutine, coroutine_of, with_mode, pending_call}
+use Rattle.dill_rules.specs.Links.{Link}
+use Rattle.dill_rules.specs.Sockets.{link_named, stack_of}
 use Rattle.dill_rules.specs.Directions.{is_send}
-use Rattle.dill_rules.specs.LinkAnswers.{is_on_stack, is_tcp_done, is_tcp_close, is_broken_for, zero_when, answer_said, look_of, stack_answer, link_answer}
+use Rattle.dill_rules.specs.LinkAnswers.{is_on_stack, is_tcp_done, is_tcp_close, is_broken_for, zero_when, answer_said, look_of, stack_answer, reads}
 use Rattle.dill_rules.specs.Linking.{put}
 use Rattle.dill_rules.specs.Answers.{when, own_answer, lost_its_number, answer_of}
 use Rattle.dill_rules.specs.Taking.{is_cancelled}
 use Rattle.dill_rules.specs.Giving.{look_on, give}
-use Rattle.dill_rules.specs.Settling.{IsSettled, can_finish, finish, answer_due, give_first, settle_one, settle_within, pass_one, pass_all, settle}
+use Rattle.dill_rules.specs.Settling.{IsSettled, finish, answer_due, give_first, settle_one, settle_within, pass_one, pass_all, settle}
+use Rattle.dill_rules.specs.Lookless.{stack_lookless, link_lookless, own_lookless, lookless_of, lookless_due, give_lookless, settle_one_lookless, lookless_within, settle_lookless, looked_for, look_once}
 use Rattle.laws_queue.specs.Kept.{kept_late, root_closed}
 use Rattle.laws_queue.specs.Well.{Numbered}
 use Rattle.laws_queue.proofs.Acting.{give_gives}
 use Rattle.laws_queue.proofs.Settling.{settles_all}
 use Rattle.laws_sound.specs.Order.{IsInOrder}
 use Rattle.laws_sound.proofs.Making.{length_changed}
-use Rattle.laws_looks.specs.Readers.{In, Pends, reads, LooksApart}
-use Rattle.laws_looks.specs.Calm.{Spent, Names, Restful}
-use Rattle.laws_looks.specs.OneLook.{stack_lookless, link_lookless, own_lookless, lookless_of, lookless_due, give_lookless, settle_one_lookless, lookless_within, settle_lookless, looked_for, look_once, StirsOne, OneLookSettles}
-use Rattle.laws_looks.proofs.Lists.{itself, equal_is, unequal_is, some_none, some_same, or_none, none_or, true_false, reads_parts, find_in}
+use Rattle.laws_blind.proofs.Giving.{done_sends}
+use Rattle.laws_looks.specs.Readers.{In, Pends, LooksApart}
+use Rattle.laws_looks.specs.Calm.{Restful}
+use Rattle.laws_looks.specs.OneLook.{StirsOne, OneLookSettles}
+use Rattle.laws_looks.proofs.Lists.{equal_is, unequal_is, some_none, some_same, or_none, true_false, reads_parts, find_in}
 use Rattle.laws_looks.proofs.Twice.{close_looks}
 use Rattle.laws_looks.proofs.Fewer.{named_once}
-use Rattle.laws_looks.proofs.Quieted.{above, found_of, due_as, Missing, Found, look_cases, Calm, Readers, Waits, Step, waits_due, calm_passes, pass_step, passed_settled}
+use Rattle.laws_looks.proofs.Quieted.{above, found_of, due_as, Calm, Readers, Waits, Step, waits_due, calm_passes, pass_step, passed_settled}
 use Rattle.laws_looks.proofs.Restful.{named_link, names_number, passes_rest, within_rests, rested}
-use Rattle.laws_looks.proofs.Lookless.{own_is_link, due_same, lookless_same, rest_settles, expiry_rests, closing_rests}
-use Rattle.laws_looks.proofs.Stirring.{reads_named, given_rests}
+use Rattle.laws_looks.proofs.Answered.{own_is_link}
+use Rattle.laws_looks.proofs.Lookless.{lookless_same, rest_settles, expiry_rests, closing_rests}
+use Rattle.laws_looks.proofs.Stirring.{reads_named, CalmBut, given_rests}
 
 -- ---- what is answered without a look is answered
 
@@ -66,15 +66,11 @@ stack_more call u x a e = at (is_broken_for (word_of call) x.stack) (is_tcp_done
 look_answers : (call : Call) (u : Stream) (x : Link) → is_send (word_of call) ≡ false → stack_lookless call x ≡ None → stack_answer call u x ≡ answer_said (look_of call u x.stack).said
 look_answers call u x s e = at (is_broken_for (word_of call) x.stack) (is_tcp_done (word_of call)) refl (is_send (word_of call)) s (is_tcp_close (word_of call)) refl e
   where
-    done_sends : (word : Word) → is_tcp_done word ≡ true → is_send word ≡ false → ⊥
-    done_sends words.TcpDone f g = cc
-    done_sends _ f g = cc
-
     at : (b d : Bool) → is_tcp_done (word_of call) ≡ d → (t : Bool) → t ≡ false → (c : Bool) → is_tcp_close (word_of call) ≡ c
         → (if b then Some (Fault Econnreset) else (if d then zero_when x.shut else (if t then zero_when (is_sent x.stack) else (if c then zero_when (x.shut && has_ended x.stack) else None)))) ≡ None
         → (if b then Some (Fault Econnreset) else (if d then zero_when x.shut else (if t then zero_when (is_sent x.stack) else (if c then zero_when (x.shut && has_ended x.stack) else answer_said (look_of call u x.stack).said)))) ≡ answer_said (look_of call u x.stack).said
     at true d f t g c h i = cc
-    at false true f t g c h i = absurd (done_sends (word_of call) f s)
+    at false true f t g c h i = absurd (true_false (is_send (word_of call)) (done_sends (word_of call) f) s)
     at false false f true g c h i = cc
     at false false f false g true h i = i ∙ sym (ap answer_said (close_looks call u x.stack h))
     at false false f false g false h i = refl
@@ -214,20 +210,20 @@ module _ {V : Type 0} where
       ap (λ u. fold pass_one u xs) (before x (inl refl) (λ same. let r = above x.number high xs c n.1 i in omega (arith, r, same)))
       ∙ fold_at w v c x.number high xs n.1 i e (λ d j. before d (inr j)) (λ d j. after d (inr j))
 
-  module _ (laws : LooksAgain) (w : World V) (who : ℕ) (o : IsInOrder w) (a : LooksApart w) (st : StirsOne w who) where
+  module _ (laws : LooksAgain) (w : World V) (who : ℕ) (o : IsInOrder w) (a : LooksApart w) where
     numbered : Numbered 0 w.coroutines w.last_coroutine
     numbered = o.fits.numbered
 
     -- where the coroutine doesn't look, no look finds anything
-    rests_else : ((call : Call) → Pends w who call → reads call ≡ true → ⊥) → Restful w
-    rests_else none = record {
-      calm = λ other call n l x p rd e nm i. st.calm other call n l x p (λ same. none call (record { one = p.one; there = p.there; number = p.number ∙ same; mode = p.mode }) rd) rd e nm i;
+    rests_else : CalmBut w who → ((call : Call) → Pends w who call → reads call ≡ true → ⊥) → Restful w
+    rests_else calm none = record {
+      calm = λ other call n l x p rd e nm i. calm other call n l x p (λ same. none call (record { one = p.one; there = p.there; number = p.number ∙ same; mode = p.mode }) rd) rd e nm i;
       apart = λ one two c more n m l p q sd rd e f nm nn.
           let same : n ≡ m = named_once w a n m l (names_number w n l o nm) (names_number w m l o nn) in
           a.sends m one two c more p q sd (e ∙ ap Some same) (reads_named more m rd f);
     }
 
-    module _ (c : Coroutine V) (call : Call) (found : coroutine_of w who ≡ Some c) (number : c.number ≡ who) (there : In c w.coroutines) (mode : pending_call c.mode ≡ Some call) (rd : reads call ≡ true) where
+    module _ (st : StirsOne w who) (c : Coroutine V) (call : Call) (found : coroutine_of w who ≡ Some c) (number : c.number ≡ who) (there : In c w.coroutines) (mode : pending_call c.mode ≡ Some call) (rd : reads call ≡ true) where
       pends : Pends w who call
       pends = record { one = c; there = there; number = number; mode = mode }
 
@@ -356,11 +352,11 @@ module _ {V : Type 0} where
           at (Some x) e = sure x e
 
     -- the one look goes before all else
-    pub stirred : settle w ≡ settle_lookless (look_once w who)
-    stirred = at (coroutine_of w who) refl
+    pub stirs_where : CalmBut w who → ((call : Call) → Pends w who call → reads call ≡ true → StirsOne w who) → settle w ≡ settle_lookless (look_once w who)
+    stirs_where calm st = at (coroutine_of w who) refl
       where
         by : (c : Coroutine V) → coroutine_of w who ≡ Some c → (q : Option Call) → pending_call c.mode ≡ q → settle w ≡ settle_lookless (if_some q w (λ call. if reads call && is_none (lookless_of w who call) then looked_for w who call else w))
-        by c e None f = rest_settles w (rests_else none)
+        by c e None f = rest_settles w (rests_else calm none)
           where
             none : (call : Call) → Pends w who call → reads call ≡ true → ⊥
             none call p rd = some_none (pending_call c.mode) call f (ap (λ (x : Coroutine V). pending_call x.mode) (sym same) ∙ p.mode)
@@ -370,21 +366,27 @@ module _ {V : Type 0} where
         by c e (Some call) f = reading (reads call) refl
           where
             reading : (b : Bool) → reads call ≡ b → settle w ≡ settle_lookless (if b && is_none (lookless_of w who call) then looked_for w who call else w)
-            reading false g = rest_settles w (rests_else none)
+            reading false g = rest_settles w (rests_else calm none)
               where
                 none : (more : Call) → Pends w who more → reads more ≡ true → ⊥
                 none more p rd =
                     let same : p.one ≡ c = some_same (find (is_coroutine p.one.number) w.coroutines) p.one c (found_of 0 w.last_coroutine w.coroutines p.one numbered p.there) (ap (λ k. find (is_coroutine k) w.coroutines) p.number ∙ e) in
                     let its : more ≡ call = some_same (pending_call c.mode) more call (ap (λ (x : Coroutine V). pending_call x.mode) (sym same) ∙ p.mode) f in
                     true_false (reads call) (ap reads (sym its) ∙ rd) g
-            reading true g = settles_by c call e (found_number (λ (x : Coroutine V). x.number) who w.coroutines c e) (find_in (is_coroutine who) w.coroutines c e) f g
+            reading true g =
+                let number = found_number (λ (x : Coroutine V). x.number) who w.coroutines c e in
+                let there = find_in (is_coroutine who) w.coroutines c e in
+                settles_by (st call (record { one = c; there = there; number = number; mode = f }) g) c call e number there f g
 
         at : (q : Option (Coroutine V)) → coroutine_of w who ≡ q → settle w ≡ settle_lookless (if_some (if_some q None (λ c. pending_call c.mode)) w (λ call. if reads call && is_none (lookless_of w who call) then looked_for w who call else w))
-        at None e = rest_settles w (rests_else none)
+        at None e = rest_settles w (rests_else calm none)
           where
             none : (call : Call) → Pends w who call → reads call ≡ true → ⊥
             none call p rd = some_none (coroutine_of w who) p.one e (ap (λ k. find (is_coroutine k) w.coroutines) (sym p.number) ∙ found_of 0 w.last_coroutine w.coroutines p.one numbered p.there)
         at (Some c) e = by c e (pending_call c.mode) refl
+
+    pub stirred : StirsOne w who → settle w ≡ settle_lookless (look_once w who)
+    stirred st = stirs_where st.calm (λ call p rd. st)
 
 pub one_look_settles : {V : Type 0} → LooksAgain → OneLookSettles V
 one_look_settles laws = record {

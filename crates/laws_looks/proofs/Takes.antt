@@ -1,9 +1,8 @@
 -- As a handshake, a detach or `tcp_close` is entered, nothing is due but of the caller, and no look of another finds anything.
-use Rattle.std.proofs.Common.{◌≡◌, ◌∙◌, ◌⊎◌, inl, inr, ℕ, ◌==◌, List, [], ◌∷◌, find, cond, Bool, true, false, not, ◌&&◌, ◌||◌, Option, Some, None, if◌then◌else◌, refl, sym, ap, subst}
-use Rattle.std.specs.Prelude.{is_none, option_map}
+use Rattle.std.proofs.Common.{◌≡◌, ◌∙◌, inl, inr, ℕ, ◌==◌, List, [], ◌∷◌, find, cond, Bool, true, false, not, ◌||◌, Option, Some, None, if◌then◌else◌, refl, sym, ap, subst}
+use Rattle.std.specs.Prelude.{option_map}
 use Rattle.std.specs.List.{list_any}
-use Rattle.std.proofs.lemmas.Bool.{or_parts}
-use Rattle.rand_core.specs.Stream.{Stream}
+use Rattle.std.proofs.lemmas.Bool.{or_parts, or_right}
 use Rattle.dill_base.specs.declared.errno.Errno.{Errno}
 use Rattle.dill_base.specs.declared.errno.Errno.TheVariants as errnos
 use Rattle.dill_base.specs.Maps.{if_some, change}
@@ -15,37 +14,37 @@ use Rattle.dill_handles.specs.Handles as handles
 use Rattle.dill_handles.specs.declared.entry.Entry.{Entry}
 use Rattle.dill_stack.specs.declared.layer.Top.{Top}
 use Rattle.dill_stack.specs.declared.parting.Parting.{Parting}
-use Rattle.dill_stack.specs.Interface.{Held, detach_start}
+use Rattle.dill_stack.specs.Interface.{detach_start}
 use Rattle.dill_stack.specs.Again.{LooksAgain}
-use Rattle.dill_rules.specs.declared.coroutine.Coroutine.{Coroutine}
-use Rattle.dill_rules.specs.declared.coroutine.Mode.TheVariants as modes
 use Rattle.dill_rules.specs.declared.thing.Thing.{Thing}
 use Rattle.dill_rules.specs.declared.thing.Thing.TheVariants as things
-use Rattle.dill_rules.specs.World.{World, is_coroutine, with_mode, pend, pending_call, is_ending}
+use Rattle.dill_rules.specs.World.{World, pend}
 use Rattle.dill_rules.specs.Links.{Link, look}
 use Rattle.dill_rules.specs.Kinds.{kind_of, is_of_kind, kind_needed, has_top, is_other_kind, is_other_top, names_other}
 use Rattle.dill_rules.specs.Naming.{chosen}
 use Rattle.dill_rules.specs.Owning.{entry_of, take_thing, take}
 use Rattle.dill_rules.specs.Refusals.{holds, order, giving_order, is_refused_by_stack, refuse}
-use Rattle.dill_rules.specs.Sockets.{link_of, link_number, link_named}
-use Rattle.dill_rules.specs.Directions.{is_send, is_handshake, parting_of, needs_top}
+use Rattle.dill_rules.specs.Sockets.{link_number, link_named}
+use Rattle.dill_rules.specs.Directions.{is_handshake, parting_of, needs_top}
 use Rattle.dill_rules.specs.LinkAnswers.{is_on_stack, stack_answer, link_answer}
-use Rattle.dill_rules.specs.Linking.{ask_stack, heat, greet_by, enter_receive, enter_handshake, dropped_for, begin_detach, begin_giving_up}
+use Rattle.dill_rules.specs.Linking.{ask_stack, heat, greet_by, enter_receive, enter_handshake, begin_detach, begin_giving_up}
 use Rattle.dill_rules.specs.Settling.{settle}
-use Rattle.dill_rules.specs.Turning.{as_running, resume}
+use Rattle.dill_rules.specs.Turning.{resume}
+use Rattle.dill_rules.specs.Lookless.{look_once, settle_lookless}
 use Rattle.laws_queue.specs.Well.{Numbered}
-use Rattle.laws_queue.proofs.Numbers.{numbered_change}
 use Rattle.laws_sound.specs.Order.{IsInOrder}
-use Rattle.laws_looks.specs.Readers.{In, Pends, reads, LooksApart}
-use Rattle.laws_looks.specs.Calm.{Spent, Names, Restful, IsCalm}
-use Rattle.laws_looks.specs.OneLook.{settle_lookless, look_once, StirsOne, called, taken_for, OneLookEnters}
-use Rattle.laws_looks.proofs.Lists.{equal_is, some_none, some_same, find_none}
+use Rattle.laws_looks.specs.Readers.{Pends, LooksApart}
+use Rattle.laws_looks.specs.Calm.{IsCalm}
+use Rattle.laws_looks.specs.OneLook.{called, taken_for, OneLookEnters}
+use Rattle.laws_looks.proofs.Lists.{find_none}
 use Rattle.laws_looks.proofs.Fewer.{named_once}
 use Rattle.laws_looks.proofs.Quieted.{answer_blind}
-use Rattle.laws_looks.proofs.Restful.{names_number}
-use Rattle.laws_looks.proofs.Enters.{Fit, fits}
+use Rattle.laws_looks.proofs.Beside.{AnyCall}
+use Rattle.laws_looks.proofs.Enters.{takes_it, fits}
 use Rattle.laws_looks.proofs.Stirred.{stirred}
-use Rattle.laws_looks.proofs.Entered.{Alike, same_link, Joins, joins_stirs, changed_mode, changed_others, Near, near_heat, near_ask, near_dropped, receive_stirs}
+use Rattle.laws_looks.proofs.Entered.{same_link, Joins, joins_pends, joins_stirs, Near, near_called, near_heat, near_ask, near_dropped, near_joins, receive_joins}
+use Rattle.laws_looks.proofs.Others.{still_pends, any_calm, alone_calm, receive_beside, handshake_beside, begun_beside}
+use Rattle.laws_looks.proofs.Stirring.{CalmBut}
 
 module _ {T : Type 0} where
   -- another owner changes no thing
@@ -66,23 +65,9 @@ module _ {T : Type 0} where
       at true e = here (handles.is_entry m x)
       at false e = there (handles.is_entry m x) (find (handles.is_entry m) (change (handles.is_entry n) (handles.with_owner owner) es)) (find (handles.is_entry m) es) e
 
-  owned_in : (n owner : ℕ) (es : List (Entry T)) (e : Entry T) → In e (change (handles.is_entry n) (handles.with_owner owner) es) → (x : Entry T) × In x es × (x.number ≡ e.number) × (x.thing ≡ e.thing)
-  owned_in n owner [] e i = absurd i
-  owned_in n owner (y ∷ ys) e i = at (handles.is_entry n y) i (owned_in n owner ys e)
-    where
-      at : (b : Bool) → In e (cond b (handles.with_owner owner y ∷ ys) (y ∷ change (handles.is_entry n) (handles.with_owner owner) ys)) → (In e (change (handles.is_entry n) (handles.with_owner owner) ys) → (x : Entry T) × In x ys × (x.number ≡ e.number) × (x.thing ≡ e.thing)) → (x : Entry T) × ((x ≡ y) ⊎ In x ys) × (x.number ≡ e.number) × (x.thing ≡ e.thing)
-      at true (inl same) rest = (y, inl refl, sym (ap (λ (z : Entry T). z.number) same), sym (ap (λ (z : Entry T). z.thing) same))
-      at true (inr j) rest = (e, inr j, refl, refl)
-      at false (inl same) rest = (y, inl refl, sym (ap (λ (z : Entry T). z.number) same), sym (ap (λ (z : Entry T). z.thing) same))
-      at false (inr j) rest = let r = rest j in (r.0, inr r.1, r.2, r.3)
-
 not_other : (f : Errno → Bool) (b : Bool) → find f (if b then giving_order else order) ≡ None → f errnos.Enotsup ≡ false
 not_other f true e = find_none f giving_order e errnos.Enotsup (inr (inl refl))
 not_other f false e = find_none f order e errnos.Enotsup (inr (inr (inl refl)))
-
-or_right : (a b : Bool) → b ≡ true → (a || b) ≡ true
-or_right true b e = refl
-or_right false b e = e
 
 not_false : (b : Bool) → not b ≡ false → b ≡ true
 not_false true e = refl
@@ -141,12 +126,8 @@ module _ {V : Type 0} where
         alike = record { scopes = near.alike.scopes; closings = near.alike.closings; channels = near.alike.channels; things = λ m. owner_alike n m who u.handles.entries ∙ near.alike.things m };
         others = near.others;
         numbered = near.numbered;
-        names = λ m k p. near.names m k (before m k p (owned_in n who u.handles.entries p.entry p.there));
         beside = near.beside;
       }
-        where
-          before : (m k : ℕ) (p : Names (record u { handles = handles.set_owner u.handles n who }) m k) → (x : Entry Thing) × In x u.handles.entries × (x.number ≡ p.entry.number) × (x.thing ≡ p.entry.thing) → Names u m k
-          before m k p r = record { entry = r.0; there = r.1; number = r.2 ∙ p.number; link = ap link_of r.3 ∙ p.link }
 
       by : (x : Entry Thing) → Bare V x.thing → Near w (take_thing (record u { handles = handles.set_owner u.handles n who }) x.thing who) who call
       by x (bare h) = subst (λ z. Near w z who call) (sym (h (record u { handles = handles.set_owner u.handles n who }) who)) there
@@ -155,63 +136,37 @@ module _ {V : Type 0} where
       at None e = near
       at (Some x) e = by x (plain x e)
 
-  -- ---- the call is pending, or it is over at once
+  -- ---- the call is pending, and nobody else on its number
 
-  -- who stays where somebody else stands elsewhere
-  in_kept : (who : ℕ) (f : Coroutine V → Coroutine V) (cs : List (Coroutine V)) (d : Coroutine V) → In d cs → (d.number ≡ who → ⊥) → In d (change (is_coroutine who) f cs)
-  in_kept who f [] d i ne = i
-  in_kept who f (c ∷ cs) d i ne = at (c.number == who) refl i (λ j. in_kept who f cs d j ne)
-    where
-      at : (b : Bool) → (c.number == who) ≡ b → (d ≡ c) ⊎ In d cs → (In d cs → In d (change (is_coroutine who) f cs)) → In d (cond b (f c ∷ cs) (c ∷ change (is_coroutine who) f cs))
-      at true g (inl same) rest = absurd (ne (ap (λ (x : Coroutine V). x.number) same ∙ equal_is c.number who g))
-      at true g (inr j) rest = inr j
-      at false g (inl same) rest = inl same
-      at false g (inr j) rest = inr (rest j)
-
-  -- nobody else is pending on the number of a call
   abbrev Alone : World V → ℕ → Call → Type 0
   Alone w who call = (other : ℕ) (more : Call) (n : ℕ) → Pends w other more → (other ≡ who → ⊥) → named_by call ≡ Some n → named_by more ≡ Some n → ⊥
 
-  module _ (w u : World V) (who : ℕ) (call : Call) (o : IsInOrder w) (c : IsCalm w) (near : Near w u who call) (alone : Alone w who call) where
-    -- another call is on another link
-    apart : (other : ℕ) (more : Call) (n k : ℕ) → Pends w other more → (other ≡ who → ⊥) → named_by more ≡ Some n → link_number w n ≡ Some k → (m : ℕ) → named_by call ≡ Some m → link_number w m ≡ Some k → ⊥
-    apart other more n k p ne e f m g h = alone other more n p ne (g ∙ ap Some (named_once w c.apart m n k h f)) e
+  alone_joins : (w u : World V) (who : ℕ) (call : Call) → IsCalm w → Near w u who call → Alone w who call → Joins w (pend u who call) who call
+  alone_joins w u who call c near alone = near_joins w u who call near links
+    where
+      links : (other : ℕ) (more : Call) → Pends w other more → (other ≡ who → ⊥) → link_answer w more ≡ None → link_answer u more ≡ None
+      links other more p ne e = at (is_on_stack (word_of more)) (named_by more) refl e
+        where
+          blind : (q : Option Link) → if_some q None (stack_answer more w.random) ≡ None → if_some q None (stack_answer more u.random) ≡ None
+          blind None h = refl
+          blind (Some x) h = answer_blind more u.random w.random x ∙ h
 
-    near_links : (other : ℕ) (more : Call) → Pends w other more → (other ≡ who → ⊥) → link_answer w more ≡ None → link_answer u more ≡ None
-    near_links other more p ne e = at (is_on_stack (word_of more)) (named_by more) refl e
-      where
-        blind : (q : Option Link) → if_some q None (stack_answer more w.random) ≡ None → if_some q None (stack_answer more u.random) ≡ None
-        blind None h = refl
-        blind (Some x) h = answer_blind more u.random w.random x ∙ h
+          by : (n : ℕ) → named_by more ≡ Some n → (q : Option ℕ) → link_number w n ≡ q → if_some (if_some q None (look w.links)) None (stack_answer more w.random) ≡ None → if_some (if_some q None (look u.links)) None (stack_answer more u.random) ≡ None
+          by n g None h i = refl
+          by n g (Some k) h i =
+              ap (λ (q : Option Link). if_some q None (stack_answer more u.random)) (near.beside k (λ m f j. alone other more n p ne (f ∙ ap Some (named_once w c.apart m n k j h)) g))
+              ∙ blind (look w.links k) i
 
-        by : (n : ℕ) → named_by more ≡ Some n → (q : Option ℕ) → link_number w n ≡ q → if_some (if_some q None (look w.links)) None (stack_answer more w.random) ≡ None → if_some (if_some q None (look u.links)) None (stack_answer more u.random) ≡ None
-        by n g None h i = refl
-        by n g (Some k) h i = ap (λ (q : Option Link). if_some q None (stack_answer more u.random)) (near.beside k (λ m. apart other more n k p ne g h m)) ∙ blind (look w.links k) i
-
-        at : (b : Bool) (q : Option ℕ) → named_by more ≡ q → (if b then if_some q None (λ number. if_some (link_named w number) None (stack_answer more w.random)) else None) ≡ None → (if b then if_some q None (λ number. if_some (link_named u number) None (stack_answer more u.random)) else None) ≡ None
-        at false q g h = refl
-        at true None g h = refl
-        at true (Some n) g h = ap (λ q. if_some (if_some q None (look u.links)) None (stack_answer more u.random)) (same_link w u near.alike n) ∙ by n g (link_number w n) refl h
-
-    near_calm : (other : ℕ) (more : Call) (n k : ℕ) (y : Link) → Pends w other more → (other ≡ who → ⊥) → reads more ≡ true → named_by more ≡ Some n → Names u n k → look u.links k ≡ Some y → Spent more y.stack
-    near_calm other more n k y p ne rd e nm i =
-        let old = near.names n k nm in
-        c.restful.calm other more n k y p rd e old (sym (near.beside k (λ m. apart other more n k p ne e (names_number w n k o old) m)) ∙ i)
-
-    near_joins : Joins w (pend u who call) who call
-    near_joins = record {
-      alike = record { scopes = near.alike.scopes; closings = near.alike.closings; channels = near.alike.channels; things = near.alike.things };
-      others = λ d i ne. near.others d (changed_others who (with_mode (modes.Pending call)) u.coroutines d (λ x. refl) i ne) ne;
-      own = λ d i e. changed_mode 0 u.last_coroutine who (modes.Pending call) u.coroutines d near.numbered i e;
-      links = near_links;
-      calm = λ other more n k y p ne rd e nm i. near_calm other more n k y p ne rd e (record { entry = nm.entry; there = nm.there; number = nm.number; link = nm.link }) i;
-    }
+          at : (b : Bool) (q : Option ℕ) → named_by more ≡ q → (if b then if_some q None (λ number. if_some (link_named w number) None (stack_answer more w.random)) else None) ≡ None → (if b then if_some q None (λ number. if_some (link_named u number) None (stack_answer more u.random)) else None) ≡ None
+          at false q g h = refl
+          at true None g h = refl
+          at true (Some n) g h = ap (λ q. if_some (if_some q None (look u.links)) None (stack_answer more u.random)) (same_link w u near.alike n) ∙ by n g (link_number w n) refl h
 
   -- ---- the calls
 
-  module _ (p : Program V) (w : World V) (who : ℕ) (view : V) (call : Call) (numbered : Numbered 0 w.coroutines w.last_coroutine) (o : IsInOrder w) (c : IsCalm w) (free : refuse p (resume w who view) who view call ≡ None) (takes : (is_handshake (word_of call) || gives_up (word_of call)) ≡ true) where
+  module _ (p : Program V) (w : World V) (who : ℕ) (view : V) (call : Call) (numbered : Numbered 0 w.coroutines w.last_coroutine) (c : IsCalm w) (free : refuse p (resume w who view) who view call ≡ None) (takes : (is_handshake (word_of call) || gives_up (word_of call)) ≡ true) where
     alone_there : Alone w who call
-    alone_there other more n q ne e f = (fits p (resume w who view) who view call free).taker n other more (record { one = q.one; there = in_kept who (as_running view) w.coroutines q.one q.there (λ same. ne (sym q.number ∙ same)); number = q.number; mode = q.mode }) e f takes
+    alone_there other more n q ne e f = (fits p (resume w who view) who view call free).taker n other more (still_pends w who view other more q ne) (takes_it call n e takes) e f
 
     not_others : (is_other_kind (resume w who view) call ≡ false) × (is_other_top (resume w who view) call ≡ false)
     not_others =
@@ -220,28 +175,19 @@ module _ {V : Type 0} where
         let two = or_parts (is_other_kind r call) (is_other_top r call || list_any (λ number. not (is_of_kind r 2 number)) (chosen call)) one.0 in
         (two.0, (or_parts (is_other_top r call) (list_any (λ number. not (is_of_kind r 2 number)) (chosen call)) two.1).0)
 
-    near_called : Near w (called w who view call) who call
-    near_called = record {
-      alike = record { scopes = refl; closings = refl; channels = refl; things = λ n. refl };
-      others = λ d i ne. changed_others who (as_running view) w.coroutines d (λ x. refl) i ne;
-      numbered = numbered_change (is_coroutine who) (as_running view) w.coroutines 0 w.last_coroutine (λ d. refl) numbered;
-      names = λ n k q. record { entry = q.entry; there = q.there; number = q.number; link = q.link };
-      beside = λ k none. refl;
-    }
-
     near_taken : Near w (if_some (named_by call) (called w who view call) (λ number. take (called w who view call) number who)) who call
     near_taken = at (named_by call) refl
       where
         at : (q : Option ℕ) → named_by call ≡ q → Near w (if_some q (called w who view call) (λ number. take (called w who view call) number who)) who call
-        at None e = near_called
-        at (Some n) e = near_take w (called w who view call) who call n (λ x f. bare_call (resume w who view) call n x e f takes not_others.0 not_others.1) near_called
+        at None e = near_called w who view call numbered
+        at (Some n) e = near_take w (called w who view call) who call n (λ x f. bare_call (resume w who view) call n x e f takes not_others.0 not_others.1) (near_called w who view call numbered)
 
     pub handshake_joins : Joins w (enter_handshake (called w who view call) who call) who call
     handshake_joins =
         let k = called w who view call in
         let taken = if_some (named_by call) k (λ number. take k number who) in
         let asked = ask_stack taken call (greet_by call) in
-        near_joins w (heat asked call true true) who call o c (near_heat w asked who call true true (near_ask w taken who call (greet_by call) near_taken)) alone_there
+        alone_joins w (heat asked call true true) who call c (near_heat w asked who call true true (near_ask w taken who call (greet_by call) near_taken)) alone_there
 
     pub giving_joins : Joins w (begin_giving_up (taken_for (called w who view call) who call) who call) who call
     giving_joins = at (parting_of call)
@@ -252,19 +198,30 @@ module _ {V : Type 0} where
         at : (q : Option Parting) → Joins w (let own = taken_for (called w who view call) who call in if_some q (pend (heat own call true true) who call) (begin_detach own who call)) who call
         at None =
             let own = taken_for (called w who view call) who call in
-            near_joins w (heat own call true true) who call o c (near_heat w own who call true true near_own) alone_there
+            alone_joins w (heat own call true true) who call c (near_heat w own who call true true near_own) alone_there
         at (Some parting) =
             let own = taken_for (called w who view call) who call in
             let b = blocks (word_of call) in
             let asked = ask_stack own call (λ random s. detach_start parting random s) in
-            near_joins w (heat asked call b b) who call o c (near_heat w asked who call b b (near_ask w own who call (λ random s. detach_start parting random s) near_own)) alone_there
+            alone_joins w (heat asked call b b) who call c (near_heat w asked who call b b (near_ask w own who call (λ random s. detach_start parting random s) near_own)) alone_there
 
-pub one_look_enters : {V : Type 0} (p : Program V) → LooksAgain → OneLookEnters p
-one_look_enters p laws = record {
-  receives = λ w who view call v is o c g a. subst (λ u. settle u ≡ settle_lookless (look_once u who)) (sym is)
-      (stirred laws (enter_receive (called w who view call) who call) who (subst IsInOrder is g) (subst LooksApart is a) (receive_stirs w who view call o.fits.numbered c));
-  handshakes = λ w who view call v is o c free h g a. subst (λ u. settle u ≡ settle_lookless (look_once u who)) (sym is)
-      (stirred laws (enter_handshake (called w who view call) who call) who (subst IsInOrder is g) (subst LooksApart is a) (joins_stirs w (enter_handshake (called w who view call) who call) who call c.settled (handshake_joins p w who view call o.fits.numbered o c free (ap (λ b. b || gives_up (word_of call)) h))));
-  gives_up = λ w who view call v is o c free h g a. subst (λ u. settle u ≡ settle_lookless (look_once u who)) (sym is)
-      (stirred laws (begin_giving_up (taken_for (called w who view call) who call) who call) who (subst IsInOrder is g) (subst LooksApart is a) (joins_stirs w (begin_giving_up (taken_for (called w who view call) who call) who call) who call c.settled (giving_joins p w who view call o.fits.numbered o c free (or_right (is_handshake (word_of call)) (gives_up (word_of call)) h))));
-}
+module _ {V : Type 0} (p : Program V) (laws : LooksAgain) where
+  -- who joins looks, and no other look finds anything
+  joined_once : (w v u : World V) (who : ℕ) (view : V) (call : Call) → u ≡ v → IsInOrder w → IsCalm w → IsInOrder u → LooksApart u → Joins w v who call → ((pends : (other : ℕ) (more : Call) → Pends v other more → (other ≡ who → ⊥) → Pends w other more) → CalmBut v who) → settle u ≡ settle_lookless (look_once u who)
+  joined_once w v u who view call is o c g a j calm =
+      subst (λ z. settle z ≡ settle_lookless (look_once z who)) (sym is)
+      (stirred laws v who (subst IsInOrder is g) (subst LooksApart is a) (joins_stirs w v who call c.settled j (calm (joins_pends w v who call j))))
+
+  pub one_look_enters : OneLookEnters p
+  one_look_enters = record {
+    receives = λ w who view call v is o c g a. let u = enter_receive (called w who view call) who call in
+        joined_once w u v who view call is o c g a (receive_joins w who view call o.fits.numbered) (λ pends. any_calm w u who o c pends (receive_beside AnyCall (called w who view call) who call));
+    handshakes = λ w who view call v is o c free h g a.
+        let u = enter_handshake (called w who view call) who call in
+        let t : (is_handshake (word_of call) || gives_up (word_of call)) ≡ true = ap (λ b. b || gives_up (word_of call)) h in
+        joined_once w u v who view call is o c g a (handshake_joins p w who view call o.fits.numbered c free t) (λ pends. alone_calm p w who view call o c free t u pends (handshake_beside p w who view call o c free));
+    gives_up = λ w who view call v is o c free h g a.
+        let u = begin_giving_up (taken_for (called w who view call) who call) who call in
+        let t : (is_handshake (word_of call) || gives_up (word_of call)) ≡ true = or_right (is_handshake (word_of call)) (gives_up (word_of call)) h in
+        joined_once w u v who view call is o c g a (giving_joins p w who view call o.fits.numbered c free t) (λ pends. alone_calm p w who view call o c free t u pends (begun_beside p w who view call o c free));
+  }

@@ -18,27 +18,30 @@ use Rattle.dill_rules.specs.World.{World, begin}
 use Rattle.dill_rules.specs.Links.{Link, look}
 use Rattle.dill_rules.specs.Sockets.{link_of}
 use Rattle.dill_rules.specs.Directions.{is_send, is_receive, asked}
-use Rattle.dill_rules.specs.LinkAnswers.{still, look_of}
+use Rattle.dill_rules.specs.LinkAnswers.{still, look_of, reads}
 use Rattle.dill_rules.specs.Expiring.{expire_one}
 use Rattle.dill_rules.specs.Settling.{IsSettled, settle}
 use Rattle.dill_rules.specs.State.{State, expired, shut}
 use Rattle.laws_queue.specs.Kept.{Kept, opening_kept, queued, kept_turn, kept_hear, kept_expired, kept_shut, kept_woke, lend_kept}
 use Rattle.laws_queue.specs.Well.{IsWell}
 use Rattle.laws_sound.specs.Orderly.{IsOrderly}
-use Rattle.laws_looks.specs.Readers.{In, Pends, reads, LooksApart}
+use Rattle.laws_looks.specs.Readers.{In, Pends, LooksApart}
 
 -- no look of this call finds anything at this stack
 pub record Spent (call : Call) (s : Held) : Type 0 where
   pub look : (u : Stream) → look_of call u s ≡ still u s
   pub read : (want : Want) → asked call ≡ Some want → read_of want s ≡ outcome 0 s.layers Need
 
+-- a live number names the link
+pub record NamesIn (es : List (Entry Thing)) (n l : ℕ) : Type 0 where
+  pub entry : Entry Thing
+  pub there : In entry es
+  pub number : entry.number ≡ n
+  pub link : link_of entry.thing ≡ Some l
+
 module _ {V : Type 0} where
-  -- a live number names the link
-  pub record Names (w : World V) (n l : ℕ) : Type 0 where
-    pub entry : Entry Thing
-    pub there : In entry w.handles.entries
-    pub number : entry.number ≡ n
-    pub link : link_of entry.thing ≡ Some l
+  abbrev pub Names : World V → ℕ → ℕ → Type 0
+  Names w n l = NamesIn w.handles.entries n l
 
   -- No look finds anything, and where a send is pending none but a receive looks.
   pub record Restful (w : World V) : Type 0 where

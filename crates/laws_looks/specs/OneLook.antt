@@ -1,90 +1,37 @@
--- Settling without looks: what a pending call is answered of all but what a look says, and the one look before it.
-use Rattle.std.specs.Prelude.{◌≡◌, ℕ, zero, suc, List, length, true, find, Bool, ◌&&◌, Option, Some, None, if◌then◌else◌, is_none}
-use Rattle.std.specs.Option.{option_or}
-use Rattle.dill_base.specs.declared.errno.Errno.TheVariants.{Ecanceled, Ebadf, Econnreset}
-use Rattle.dill_base.specs.Maps.{if_some, first_some}
-use Rattle.dill_calls.specs.declared.answer.Answer.{Answer}
-use Rattle.dill_calls.specs.declared.answer.Answer.TheVariants.{Fault}
+-- Where settling needs no look, or one look of one coroutine before it.
+use Rattle.std.specs.Prelude.{◌≡◌, ℕ, true, find, Option, Some, None}
+use Rattle.dill_base.specs.Maps.{if_some}
 use Rattle.dill_calls.specs.declared.call.Call.{Call}
-use Rattle.dill_calls.specs.CallTable.{word_of, blocks, named_by}
+use Rattle.dill_calls.specs.CallTable.{word_of, named_by}
 use Rattle.dill_calls.specs.CallTable as table
 use Rattle.dill_calls.specs.Program.{Program}
 use Rattle.dill_calls.specs.declared.ran.LackPlace.{LackPlace}
 use Rattle.dill_kernel.specs.declared.replies.KernelAsk.{KernelAsk}
 use Rattle.dill_kernel.specs.declared.replies.KernelAsk.TheVariants as asks
 use Rattle.dill_kernel.specs.declared.replies.KernelReply.{KernelReply}
-use Rattle.dill_stack.specs.Interface.{is_sent, has_ended}
 use Rattle.dill_rules.specs.declared.coroutine.Coroutine.{Coroutine}
-use Rattle.dill_rules.specs.World.{World, coroutine_of, call_of, is_answered, pending_call, begin}
+use Rattle.dill_rules.specs.World.{World, coroutine_of, is_answered, pending_call, begin}
 use Rattle.dill_rules.specs.Links.{Link, look}
-use Rattle.dill_rules.specs.Sockets.{link_number, link_named, stack_of}
-use Rattle.dill_rules.specs.Directions.{is_send, is_handshake}
+use Rattle.dill_rules.specs.Sockets.{link_number}
+use Rattle.dill_rules.specs.Directions.{is_handshake}
 use Rattle.dill_rules.specs.Owning.{take}
 use Rattle.dill_rules.specs.Refusals.{refuse}
-use Rattle.dill_rules.specs.LinkAnswers.{is_tcp_done, is_tcp_close, is_on_stack, is_broken_for, zero_when, answer_said, look_of}
-use Rattle.dill_rules.specs.Taking.{is_cancelled}
-use Rattle.dill_rules.specs.Answers.{when, own_answer, lost_its_number, answer_of}
-use Rattle.dill_rules.specs.Giving.{look_on, give}
+use Rattle.dill_rules.specs.LinkAnswers.{reads}
+use Rattle.dill_rules.specs.Answers.{answer_of}
 use Rattle.dill_rules.specs.Linking.{enter_receive, enter_handshake, dropped_for, begin_giving_up}
 use Rattle.dill_rules.specs.Entering.{keep_for}
-use Rattle.dill_rules.specs.Turning.{resume, move_of, go_on}
+use Rattle.dill_rules.specs.Turning.{resume, go_on}
 use Rattle.dill_rules.specs.Hearing.{heard}
 use Rattle.dill_rules.specs.Trying.{Try}
-use Rattle.dill_rules.specs.Settling.{can_finish, finish, settle}
+use Rattle.dill_rules.specs.Settling.{can_finish, settle}
+use Rattle.dill_rules.specs.Lookless.{settle_lookless, look_once}
 use Rattle.laws_queue.specs.Kept.{Kept, kept_late, root_closed}
-use Rattle.laws_sound.specs.Linkless.{MovesLinkless}
 use Rattle.laws_sound.specs.Order.{IsInOrder}
 use Rattle.laws_sound.specs.Orderly.{IsOrderly}
-use Rattle.laws_looks.specs.Readers.{In, Pends, reads, LooksApart}
+use Rattle.laws_looks.specs.Readers.{In, Pends, LooksApart}
 use Rattle.laws_looks.specs.Calm.{Spent, Names, Restful, IsCalm}
 
--- all that a stack answers but what a look says
-abbrev pub stack_lookless : Call → Link → Option Answer
-stack_lookless call x = if is_broken_for (word_of call) x.stack then Some (Fault Econnreset)
-    else (if is_tcp_done (word_of call) then zero_when x.shut
-    else (if is_send (word_of call) then zero_when (is_sent x.stack)
-    else (if is_tcp_close (word_of call) then zero_when (x.shut && has_ended x.stack)
-    else None)))
-
 module _ {V : Type 0} where
-  abbrev pub link_lookless : World V → Call → Option Answer
-  link_lookless w call = if_some (named_by call) None (λ number. if_some (link_named w number) None (stack_lookless call))
-
-  -- what a pending call is answered of itself, but for a look
-  abbrev pub own_lookless : World V → Call → Option Answer
-  own_lookless w call = if is_on_stack (word_of call) then link_lookless w call else own_answer w call
-
-  -- what it is answered without a look
-  abbrev pub lookless_of : World V → ℕ → Call → Option Answer
-  lookless_of w who call = option_or (when (blocks (word_of call) && is_cancelled w who) (Fault Ecanceled))
-      (option_or (when (lost_its_number w call) (Fault Ebadf)) (own_lookless w call))
-
-  abbrev pub lookless_due : World V → Coroutine V → Option (ℕ × Call × Answer)
-  lookless_due w c = if_some (pending_call c.mode) None (λ call. if_some (lookless_of w c.number call) None (λ answer. Some (c.number, call, answer)))
-
-  -- the first of these answers, of the lowest coroutine
-  abbrev pub give_lookless : World V → World V
-  give_lookless w = if_some (first_some (lookless_due w) w.coroutines) w (λ x. give w x.0 x.1 x.2)
-
-  abbrev pub settle_one_lookless : World V → World V
-  settle_one_lookless w = if_some (find (can_finish w) w.coroutines) (give_lookless w) (finish w)
-
-  abbrev pub lookless_within : ℕ → World V → World V
-  lookless_within zero w = w
-  lookless_within (suc k) w = lookless_within k (settle_one_lookless w)
-
-  -- settling that looks at no stack
-  abbrev pub settle_lookless : World V → World V
-  settle_lookless w = lookless_within (length w.coroutines) w
-
-  -- a call looks at its stack: it is answered, or what the look passes is used
-  abbrev pub looked_for : World V → ℕ → Call → World V
-  looked_for w who call = if_some (stack_of w call) w (λ s. if_some (answer_said (look_of call w.random s).said) (look_on w call) (give w who call))
-
-  -- The one look of a coroutine: where it is pending in a call that looks, and has no answer without a look.
-  abbrev pub look_once : World V → ℕ → World V
-  look_once w who = if_some (call_of w who) w (λ call. if reads call && is_none (lookless_of w who call) then looked_for w who call else w)
-
   -- Nothing is due but of this coroutine, and no look of another finds anything.
   pub record StirsOne (w : World V) (who : ℕ) : Type 0 where
     pub endings : find (can_finish w) w.coroutines ≡ None
@@ -133,9 +80,7 @@ pub record OneLookEnters {V : Type 0} (p : Program V) : Type 0 where
   pub gives_up : (w : World V) (who : ℕ) (view : V) (call : Call) (v : World V) → v ≡ begin_giving_up (taken_for (called w who view call) who call) who call → IsInOrder w → IsCalm w
       → refuse p (resume w who view) who view call ≡ None → table.gives_up (word_of call) ≡ true → IsInOrder v → LooksApart v → settle v ≡ settle_lookless (look_once v who)
 
--- So in a turn whose call looks at its stack. Where its call is none of a link, or it makes none, no look is needed.
+-- So in a turn, whatever is called: one look of its coroutine, before all else, is enough.
 pub record OneLookTurns {V : Type 0} (p : Program V) : Type 0 where
-  pub turns : (lack : Option LackPlace) (w : World V) (who : ℕ) (c : Coroutine V) (v : World V) (call : Call) → v ≡ go_on p lack (begin w) who c.body → IsOrderly w → IsCalm w
-      → coroutine_of w who ≡ Some c → is_answered c.mode ≡ true → Pends v who call → reads call ≡ true → settle v ≡ settle_lookless (look_once v who)
-  pub others : (lack : Option LackPlace) (w : World V) (who : ℕ) (view : V) (v : World V) → v ≡ go_on p lack (begin w) who view → IsOrderly w → IsCalm w
-      → MovesLinkless (move_of p (begin w) who view) → (settle v ≡ settle_lookless v) × ((one : ℕ) → look_once v one ≡ v)
+  pub turns : (lack : Option LackPlace) (w : World V) (who : ℕ) (c : Coroutine V) (v : World V) → v ≡ go_on p lack (begin w) who c.body → IsOrderly w → IsCalm w
+      → coroutine_of w who ≡ Some c → is_answered c.mode ≡ true → settle v ≡ settle_lookless (look_once v who)

@@ -1,5 +1,5 @@
 -- Who looks at stacks: at most one pending call at each, and at most one number names it.
-use Rattle.std.specs.Prelude.{◌≡◌, ◌⊎◌, ℕ, ◌==◌, ◌<◌, ◌≤◌, List, [], ◌∷◌, Bool, true, false, not, ◌&&◌, Option, Some, is_none, nat_le, filter_map}
+use Rattle.std.specs.Prelude.{◌≡◌, ◌⊎◌, ℕ, ◌==◌, ◌<◌, ◌≤◌, List, [], ◌∷◌, Bool, true, false, ◌&&◌, Option, Some, is_none, nat_le, filter_map}
 use Rattle.rand_core.specs.Stream.{Stream}
 use Rattle.dill_base.specs.Maps.{if_some}
 use Rattle.dill_calls.specs.declared.call.Call.{Call}
@@ -12,7 +12,7 @@ use Rattle.dill_rules.specs.World.{World, pending_call, opening}
 use Rattle.dill_rules.specs.Links.{Link, Links, look, connector}
 use Rattle.dill_rules.specs.Sockets.{link_of, link_number}
 use Rattle.dill_rules.specs.Directions.{is_send, is_receive}
-use Rattle.dill_rules.specs.LinkAnswers.{is_on_stack}
+use Rattle.dill_rules.specs.LinkAnswers.{reads}
 use Rattle.dill_rules.specs.Trying.{Try}
 use Rattle.dill_rules.specs.Hearing.{heard}
 use Rattle.dill_rules.specs.Expiring.{expire_one}
@@ -26,10 +26,6 @@ use Rattle.laws_sound.specs.Numbers.{Event, event}
 abbrev pub In : {X : Type 0} → X → List X → Type 0
 In x [] = ⊥
 In x (y ∷ ys) = (x ≡ y) ⊎ In x ys
-
--- the call looks at its stack: a receive, a handshake, a detach or `tcp_close`
-abbrev pub reads : Call → Bool
-reads call = is_on_stack (word_of call) && not (is_send (word_of call))
 
 -- a call that looks at the stack of this number
 abbrev pub reads_on : ℕ → Call → Bool
@@ -46,11 +42,14 @@ may_name l n = nat_le n l.last && if_some (look l n) true (λ x. is_none (connec
 
 module _ {V : Type 0} where
   -- a coroutine of this number is pending in the call
-  pub record Pends (w : World V) (who : ℕ) (call : Call) : Type 0 where
+  pub record PendsIn (cs : List (Coroutine V)) (who : ℕ) (call : Call) : Type 0 where
     pub one : Coroutine V
-    pub there : In one w.coroutines
+    pub there : In one cs
     pub number : one.number ≡ who
     pub mode : pending_call one.mode ≡ Some call
+
+  abbrev pub Pends : World V → ℕ → Call → Type 0
+  Pends w who call = PendsIn w.coroutines who call
 
   -- one pending call at most looks at a stack
   abbrev pub OneReader : World V → Type 0

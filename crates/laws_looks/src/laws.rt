@@ -1,3 +1,4 @@
+ghost use Rattle.laws_looks.specs.AtRest.{RestSeesNoRandom};
 ghost use Rattle.laws_looks.specs.Calm.{DrawsNothing, KeepsCalm};
 ghost use Rattle.laws_looks.specs.Keeping.{CountsLinks, LinksAreKept};
 ghost use Rattle.laws_looks.specs.OneLook.{OneLookEnters, OneLookHears, OneLookSettles, OneLookTurns};
@@ -67,6 +68,11 @@ pub fn one_look_settles<B: Body>()
     again_laws();
 }
 
+/// Where no look finds anything, settling, what expires and the closing of the root see no random number.
+pub fn rest_sees_no_random<B: Body>()
+    ensures { RestSeesNoRandom B }
+{}
+
 /// So it is behind each reply of the kernel: one look of whoever looks at the stack that was asked for is enough.
 pub fn one_look_hears<B: Body>()
     ensures { OneLookHears B }
@@ -81,7 +87,7 @@ pub fn one_look_enters<B: Body>()
     again_laws();
 }
 
-/// So in a turn whose call looks at its stack: the look of the caller, before all else, is enough.
+/// So in a turn, whatever is called: one look of its coroutine, before all else, is enough.
 pub fn one_look_turns<B: Body>()
     ensures { OneLookTurns B.means }
 {
