@@ -16,7 +16,7 @@ use Rattle.dill_stack.specs.Rooms.{Stocked}
 use Rattle.dill_stack.specs.Read.{Outcome, outcome, read_message, no_more, is_terminal, read_ws, received}
 use Rattle.dill_stack.specs.Dropping.{Dropped, Item, End, Stops, drop_one, drop_message, drop_frames, drop_line, dropped_within, dropped, drop_limit, is_given, has_met, left_with}
 use Rattle.dill_stack.specs.Receiving.{ws_of}
-use Rattle.dill_stack.specs.Standing.{tower, base_layers, joined_room, HasBase, HasEnds, IsTower, ends_of}
+use Rattle.dill_stack.specs.Standing.{tower, base_layers, HasBase, HasEnds, IsTower, ends_of}
 use Rattle.dill_stack.specs.Taking.{IsFraming, any_met, lowest, found, meet, base_front, behind}
 use Rattle.dill_stack.specs.Leaving.{step_of, outcome_of, all_dropped, is_top_met, below_top, sifted, step_at, terms_at}
 use Rattle.dill_http.specs.Lines.{front_of_line}
@@ -151,17 +151,6 @@ stack_below ts b room i = record { fits = i.fits; based = based_below ts b i.bas
 pub stack_at : (at : ℕ) (ts : List TermLayer) (b : Base) (room : ℕ) → IsTower ts b room → IsTower (terms_at at ts) b room
 stack_at zero ts b room i = stack_below ts b room i
 stack_at (suc n) ts b room i = stack_meet (suc n) ts b room i
-
-none_joined : (b : Base) → ws_of (base_layers b) ≡ None → joined_room b ≡ 0
-none_joined base.Bytes h = refl
-none_joined (base.Prefix form) h = refl
-none_joined (base.Suffix end) h = refl
-none_joined (base.Http http) h = refl
-none_joined (base.Ws framed) h = cc
-
--- Where no frames stand there, there is no room for a message in fragments.
-pub plain_room : (ts : List TermLayer) (b : Base) → ws_of (tower ts (base_layers b)) ≡ None → joined_room b ≡ 0
-plain_room ts b h = none_joined b (sym (ws_tower ts (base_layers b)) ∙ h)
 
 -- the link alone is left
 pub stack_bare : (ts : List TermLayer) (b : Base) (room : ℕ) → ts ≡ [] → IsTower ts b room → IsTower ts base.Bytes room

@@ -16,7 +16,7 @@ use Rattle.dill_stack.specs.declared.parting.Parting.{Parting}
 use Rattle.dill_stack.specs.Parting.{parting_fault, close_payload, with_parting, detach_start, detach_finish}
 use Rattle.dill_stack.specs.declared.want.ReadOut.TheVariants.{Need}
 use Rattle.dill_stack.specs.Doing.{IsKey, on_link, below_end, below_parting}
-use Rattle.dill_stack.specs.Standing.{has_end_of, is_frames_top, is_top_done, closed_base, base_key, joined_room, tower, base_layers, ends_of, ending_of, done_top, HasBase, HasEnds, IsTower}
+use Rattle.dill_stack.specs.Standing.{has_end_of, is_frames_top, is_top_done, closed_base, base_key, tower, base_layers, ends_of, ending_of, done_top, HasBase, HasEnds, IsTower, JoinsWithin}
 use Rattle.dill_stack.proofs.Sends.{composed_tower, on_key, keyed, masks_tower}
 use Rattle.dill_stack.proofs.Towers.{on_tower}
 
@@ -62,15 +62,6 @@ done_refused random s e h = rw h refl
 pub dones : (random : Stream) (s : Held) → done_fault false s ≡ None → done random s ≡ with_end s.layers random s
 unfolding done
 dones random s h = rw h refl
-
-pub rest_of : (before now : Stocked) → now ≡ record before { held = now.held } → now ≡ record before { held = now.held; sending = now.sending; joined = now.joined }
-rest_of before now h = h ∙ ap (λ n. record before { held = now.held; sending = n }) (sym (ap (λ s. s.sending) h)) ∙ ap (λ n. record before { held = now.held; sending = now.sending; joined = n }) (sym (ap (λ s. s.joined) h))
-
-pub more_of : (before now : Stocked) → now ≡ record before { held = now.held } → before.joined ≤ now.joined
-more_of before now h = omega (arith, ap (λ s. s.joined) h)
-
-pub room_of : (before now : Stocked) → now ≡ record before { held = now.held } → before.sending ≤ now.sending
-room_of before now h = omega (arith, ap (λ s. s.sending) h)
 
 -- A framing has no end to send.
 pub ends_nothing : (layers : List Placed) (ts : List TermLayer) (b : Base) (random : Stream) (s : Held) → layers ≡ tower ts (base_layers b) → ts ≡ [] → (b ≡ base.Bytes → ⊥) → ((x : HttpLayer) → b ≡ base.Http x → ⊥) → with_end layers random s ≡ Ok (s, random)
@@ -140,12 +131,12 @@ stack_closed (t ∷ ts) b room h i = absurd (never h)
     never : false ≡ true → ⊥
     never e = cc
 
-pub room_closed : (b : Base) → joined_room (closed_base b) ≡ joined_room b
-room_closed base.Bytes = refl
-room_closed (base.Prefix form) = refl
-room_closed (base.Suffix end) = refl
-room_closed (base.Http http) = refl
-room_closed (base.Ws framed) = refl
+pub joins_closed : (n : ℕ) (b : Base) → JoinsWithin n b → JoinsWithin n (closed_base b)
+joins_closed n base.Bytes j = j
+joins_closed n (base.Prefix form) j = j
+joins_closed n (base.Suffix end) j = j
+joins_closed n (base.Http http) j = j
+joins_closed n (base.Ws framed) j = j
 
 -- without ends by terminal messages no end is masked
 pub end_plain : (layers : List Placed) (ts : List TermLayer) (b : Base) (random : Stream) → layers ≡ tower ts (base_layers b) → ts ≡ [] → random_after (below_end layers) random ≡ random

@@ -46,17 +46,12 @@ unfolding greet
 greets text r h random s k = rw k refl
 
 -- A client's head is in the queue, and its layer on the link.
-pub has_greeted : (text : Bool) (r h key : List ℕ) (due : Result (Held × Stream) Errno) (before room now : Stocked) (random left : Stream) → due ≡ Ok (greeting text r h (key_text random) before.held, (nonce random).1) → room ≡ record before { sending = room.sending } → before.sending ≤ room.sending → now ≡ record room { held = greeting text r h key room.held; joined = now.joined } → room.joined ≤ now.joined → key ≡ key_text random → left ≡ (nonce random).1 → IsDone due before now left
-has_greeted text r h key due before room now random left d p m n j k l =
-    let w : now ≡ record before { held = greeting text r h key before.held; sending = room.sending; joined = now.joined } = n ∙ ap {A = Stocked} (λ x. record x { held = greeting text r h key x.held; joined = now.joined }) p in
-    let e : now.held ≡ greeting text r h key before.held = ap {A = Stocked} (λ x. x.held) w in
-    let f : now.sending ≡ room.sending = ap {A = Stocked} (λ x. x.sending) w in
-    let i : room.joined ≡ before.joined = ap {A = Stocked} (λ x. x.joined) p in
+pub has_greeted : (text : Bool) (r h key : List ℕ) (due : Result (Held × Stream) Errno) (before now : Stocked) (random left : Stream) → due ≡ Ok (greeting text r h (key_text random) before.held, (nonce random).1) → now ≡ record before { held = greeting text r h key before.held } → key ≡ key_text random → left ≡ (nonce random).1 → IsDone due before now left
+has_greeted text r h key due before now random left d n k l =
+    let e : now.held ≡ greeting text r h key before.held = ap {A = Stocked} (λ x. x.held) n in
     record {
       due = d ∙ ap {A = List ℕ} (λ x. Ok (greeting text r h x before.held, (nonce random).1)) (sym k) ∙ ap {A = Held} (λ x. Ok (x, (nonce random).1)) (sym e) ∙ ap {A = Stream} (λ x. Ok (now.held, x)) (sym l);
-      rest = w ∙ ap {A = Held} (λ x. record before { held = x; sending = room.sending; joined = now.joined }) (sym e) ∙ ap {A = ℕ} (λ x. record before { held = now.held; sending = x; joined = now.joined }) (sym f);
-      room = omega (arith, f, m);
-      more = omega (arith, i, j);
+      rest = n ∙ ap {A = Held} (λ x. record before { held = x }) (sym e);
     }
 
 pub expect_refused : (text : Bool) (s : Held) (e : Errno) → greet_fault false false s ≡ Some e → expect_greet text s ≡ Err e
@@ -68,18 +63,11 @@ unfolding expect_greet
 expects text s h = rw h refl
 
 -- A server's layer is on the link, and waits.
-pub has_expected : (text : Bool) (before mid now : Stocked) → expect_greet text before.held ≡ Ok (record before.held { layers = Ws (fresh_ws Server text) ∷ before.held.layers; task = Expects }) → before.held.layers ≡ [] → mid ≡ record before { held = record before.held { layers = Ws (fresh_ws Server text) ∷ [] }; joined = mid.joined } → before.joined ≤ mid.joined → now ≡ record mid { held = record mid.held { task = Expects } }
-    → (expect_greet text before.held ≡ Ok now.held) × (now ≡ record before { held = now.held; sending = now.sending; joined = now.joined }) × (before.sending ≤ now.sending) × (before.joined ≤ now.joined)
-has_expected text before mid now d b p j n =
-    let w : now ≡ record before { held = record before.held { layers = Ws (fresh_ws Server text) ∷ []; task = Expects }; joined = mid.joined } = n ∙ ap {A = Stocked} (λ x. record x { held = record x.held { task = Expects } }) p in
+pub has_expected : (text : Bool) (before mid now : Stocked) → expect_greet text before.held ≡ Ok (record before.held { layers = Ws (fresh_ws Server text) ∷ before.held.layers; task = Expects }) → before.held.layers ≡ [] → mid ≡ record before { held = record before.held { layers = Ws (fresh_ws Server text) ∷ [] } } → now ≡ record mid { held = record mid.held { task = Expects } } → (expect_greet text before.held ≡ Ok now.held) × (now ≡ record before { held = now.held })
+has_expected text before mid now d b p n =
+    let w : now ≡ record before { held = record before.held { layers = Ws (fresh_ws Server text) ∷ []; task = Expects } } = n ∙ ap {A = Stocked} (λ x. record x { held = record x.held { task = Expects } }) p in
     let e : now.held ≡ record before.held { layers = Ws (fresh_ws Server text) ∷ []; task = Expects } = ap {A = Stocked} (λ x. x.held) w in
-    let f : now.sending ≡ before.sending = ap {A = Stocked} (λ x. x.sending) w in
-    let g : now.joined ≡ mid.joined = ap {A = Stocked} (λ x. x.joined) w in (
-      d ∙ ap (λ l. Ok (record before.held { layers = Ws (fresh_ws Server text) ∷ l; task = Expects })) b ∙ ap {A = Held} Ok (sym e),
-      w ∙ ap {A = Held} (λ x. record before { held = x; joined = mid.joined }) (sym e) ∙ ap {A = ℕ} (λ x. record before { held = now.held; sending = x; joined = mid.joined }) (sym f) ∙ ap {A = ℕ} (λ x. record before { held = now.held; sending = now.sending; joined = x }) (sym g),
-      omega (arith, f),
-      omega (arith, g, j),
-    )
+    (d ∙ ap (λ l. Ok (record before.held { layers = Ws (fresh_ws Server text) ∷ l; task = Expects })) b ∙ ap {A = Held} Ok (sym e), w ∙ ap {A = Held} (λ x. record before { held = x }) (sym e))
 
 pub not_expected : (e : StackFault) (due : Result Held Errno) (x : Held) (before now : Stocked) → due ≡ Ok x → e ≡ NoMemory → now ≡ before → Changes due (Err e) before now
 not_expected NoMemory due x before now d m h = (rw d refl, h)

@@ -15,17 +15,10 @@ use Rattle.dill_stack.specs.Held.{Held}
 use Rattle.dill_stack.specs.Read.{Outcome, outcome, read_line, read_list, by_line, ends_fields, given_line, line_answer, received}
 use Rattle.dill_stack.specs.Receiving.{read_of}
 use Rattle.dill_stack.specs.Standing.{tower, base_layers, HasBase}
-use Rattle.dill_stack.specs.Taking.{DrawsNone, line_read, size_of, second_of}
+use Rattle.dill_stack.specs.Taking.{DrawsNone, line_read}
 use Rattle.dill_stack.proofs.TowerReads.{draws_none}
 
--- the room for a line, and what is read where neither bytes nor a message is asked for
-pub line_sizes : (w : Want) → ((n : ℕ) → w ≡ want.Exact n → ⊥) → ((n : ℕ) → w ≡ want.Message n → ⊥) → (size_of w ≡ 8192) × (second_of w ≡ 8192)
-line_sizes (want.Exact n) h k = absurd (h n refl)
-line_sizes (want.Message n) h k = absurd (k n refl)
-line_sizes want.Request h k = (refl, refl)
-line_sizes want.Status h k = (refl, refl)
-line_sizes want.Field h k = (refl, refl)
-
+-- what is read where neither bytes nor a message is asked for
 pub line_reads : (w : Want) (s : Held) → ((n : ℕ) → w ≡ want.Exact n → ⊥) → ((n : ℕ) → w ≡ want.Message n → ⊥) → read_of w s ≡ line_read w s
 unfolding read_list
 line_reads (want.Exact n) s h k = absurd (h n refl)

@@ -48,3 +48,5 @@ pub mod GreetCuts
 pub mod DropTold
 pub mod FrameDrops
 pub mod TermFrameDrops
+mod Roominess
+mod Copies

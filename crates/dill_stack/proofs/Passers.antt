@@ -19,12 +19,11 @@ use Rattle.dill_stack.specs.Composed.{and_then, is_masking, key_of, masks, spell
 use Rattle.dill_stack.specs.Refusing.{fault_of}
 use Rattle.dill_stack.specs.Refusals.{is_met}
 use Rattle.dill_stack.specs.Rooms.{Roomy, Stocked}
-use Rattle.dill_stack.specs.Standing.{tower, base_layers, base_key, is_open_base, joined_room, ws_layer, HasEnds, IsTower}
+use Rattle.dill_stack.specs.Standing.{tower, base_layers, base_key, is_open_base, ws_layer, HasEnds, IsTower, JoinsWithin}
 use Rattle.dill_stack.specs.Receiving.{ws_of, answers_pings, with_pongs_of, ponged, read}
 use Rattle.dill_stack.specs.Stepping.{pass_of_ws, next_pass, with_ws, passed_on, stepped}
-use Rattle.dill_stack.specs.Taking.{joined_of}
 use Rattle.dill_stack.specs.WsReading.{Passed, pass_by_front, ws_front}
-use Rattle.dill_stack.specs.Framing.{JoinsWithin, LinkPassed, LinkPasses, Passes, PassedBy, StackPassed, StackPasses, HasStepped, answers_of, key_in, masks_of}
+use Rattle.dill_stack.specs.Framing.{LinkPassed, LinkPasses, Passes, PassedBy, StackPassed, StackPasses, HasStepped, answers_of, key_in, masks_of}
 use Rattle.dill_stack.proofs.TowerReads.{ws_tower}
 use Rattle.dill_stack.proofs.StepReads.{Moves, moves, IsPass, is_pass, ws_with, Left, step_left, read_steps}
 use Rattle.dill_stack.proofs.Passings.{empty_front}
@@ -86,8 +85,8 @@ link_passed limit f g u v pings q =
       pass = q.pass;
       layers = refl;
       bytes = q.bytes;
-      room = q.room;
-      stands = λ ts n t. record { fits = omega (arith, q.room, t.fits); based = tt; ends = ends_same ts (ws_layer f) (ws_layer g) i.text i.side t.ends; room = t.room };
+      joins = λ n j. omega (arith, q.room, j);
+      stands = λ ts n t. record { fits = tt; based = tt; ends = ends_same ts (ws_layer f) (ws_layer g) i.text i.side t.ends; room = t.room };
     }
 
 pub link_passes : (limit : ℕ) (f g : Framed) (u v : Roomy ℕ) (r : Pass) → Passes limit f u r g v → LinkPasses limit (base.Ws f) u r (base.Ws g) v
@@ -95,20 +94,15 @@ link_passes limit f g u v passes.Nothing h = (h.0, ap base.Ws h.1, h.2)
 link_passes limit f g u v passes.Frame h = link_passed limit f g u v [] h
 link_passes limit f g u v (passes.Ping payload) h = link_passed limit f g u v (payload ∷ []) h
 
-pub joins_within : (ts : List TermLayer) (b : Base) (limit : ℕ) → joined_of (Message limit) (ws_of (tower ts (base_layers b))) ≤ joined_room b → JoinsWithin limit b
-joins_within ts b limit h = on_link b (subst (λ o. joined_of (Message limit) o ≤ joined_room b) (ws_tower ts (base_layers b)) h)
-  where
-    on_link : (b : Base) → joined_of (Message limit) (ws_of (base_layers b)) ≤ joined_room b → JoinsWithin limit b
-    on_link base.Bytes h = tt
-    on_link (base.Prefix form) h = tt
-    on_link (base.Suffix end) h = tt
-    on_link (base.Http http) h = tt
-    on_link (base.Ws framed) h = h
-
 pub link_stands : (limit : ℕ) (old new : Base) (u v : Roomy ℕ) (r : Pass) → LinkPasses limit old u r new v → (ts : List TermLayer) (n : ℕ) → IsTower ts old n → IsTower ts new n
 link_stands limit old new u v passes.Nothing h = λ ts n i. subst (λ (b : Base). IsTower ts b n) (sym h.1) i
 link_stands limit old new u v passes.Frame h = h.stands
 link_stands limit old new u v (passes.Ping payload) h = h.stands
+
+pub link_joins : (limit : ℕ) (old new : Base) (u v : Roomy ℕ) (r : Pass) → LinkPasses limit old u r new v → (n : ℕ) → JoinsWithin n old → JoinsWithin n new
+link_joins limit old new u v passes.Nothing h = λ n j. subst (λ (b : Base). JoinsWithin n b) (sym h.1) j
+link_joins limit old new u v passes.Frame h = h.joins
+link_joins limit old new u v (passes.Ping payload) h = h.joins
 
 pub link_room : (limit : ℕ) (old new : Base) (u v : Roomy ℕ) (r : Pass) → LinkPasses limit old u r new v → v.room ≡ u.room
 link_room limit old new u v passes.Nothing h = ap (λ (x : Roomy ℕ). x.room) h.2
@@ -121,7 +115,7 @@ with_tower x (t ∷ ts) below = ap (λ l. Term t ∷ l) (with_tower x ts below)
 
 -- a stack over this layer on the link, with these bytes unread
 abbrev pub over_link : List TermLayer → Base → Roomy ℕ → Stocked → Stocked
-over_link ts b u s = record s { held = record s.held { layers = tower ts (base_layers b); unread = u.items }; unread = u.room; joined = joined_room b }
+over_link ts b u s = record s { held = record s.held { layers = tower ts (base_layers b); unread = u.items } }
 
 unmet_pass : (limit : ℕ) (s : Held) (o : Option Passed) → is_met s.layers ≡ false → pass_of_ws limit s.unread (ws_of s.layers) ≡ o → next_pass limit s ≡ o
 unmet_pass limit s o m e = ap (λ b. if b then None else pass_of_ws limit s.unread (ws_of s.layers)) m ∙ e
@@ -133,8 +127,7 @@ stack_passed limit ts old new u v s pings k m =
       pings_are = k.pings_are;
       pass = unmet_pass limit (over_link ts old u s).held (Some k.p) m (ap (pass_of_ws limit u.items) (ws_tower ts (base_layers old)) ∙ k.pass);
       now_is = ap {A = Roomy ℕ} (λ x. over_link ts new x s) k.bytes
-          ∙ ap {A = List Placed} (λ l. record s { held = record s.held { layers = l; unread = drop k.p.used u.items }; unread = u.room; joined = joined_room new }) (ap (tower ts) k.layers ∙ sym (with_tower k.p.ws ts (base_layers old)))
-          ∙ ap {A = ℕ} (λ n. record s { held = record s.held { layers = with_ws k.p.ws (tower ts (base_layers old)); unread = drop k.p.used u.items }; unread = u.room; joined = n }) k.room;
+          ∙ ap {A = List Placed} (λ l. record s { held = record s.held { layers = l; unread = drop k.p.used u.items } }) (ap (tower ts) k.layers ∙ sym (with_tower k.p.ws ts (base_layers old)));
     }
 
 pub stack_passes : (limit : ℕ) (ts : List TermLayer) (old new : Base) (u v : Roomy ℕ) (s : Stocked) (r : Pass) → LinkPasses limit old u r new v → is_met (tower ts (base_layers old)) ≡ false → StackPasses limit r (over_link ts old u s) (over_link ts new v s)
@@ -225,13 +218,11 @@ standing_with x (Ws ws ∷ below) k = k
 pub record Reaches (limit most at : ℕ) (from to : Stocked) (random now : Stream) : Type 0 where
   pub same : read (Message limit) now to.held ≡ read (Message limit) random from.held
   pub rest : to ≡ record from { held = to.held }
-  pub fits : HasMessages to.held.layers
   pub standing : IsStanding to.held.layers
-  pub joined : joined_of (Message limit) (ws_of to.held.layers) ≤ to.joined
   pub count : at + length to.held.unread ≤ most
 
-pub reaches_first : (limit most : ℕ) (s : Stocked) (random : Stream) → HasMessages s.held.layers → IsStanding s.held.layers → joined_of (Message limit) (ws_of s.held.layers) ≤ s.joined → length s.held.unread ≤ most → Reaches limit most 0 s s random random
-reaches_first limit most s random h k j l = record { same = refl; rest = refl; fits = h; standing = k; joined = j; count = omega (arith, l) }
+pub reaches_first : (limit most : ℕ) (s : Stocked) (random : Stream) → IsStanding s.held.layers → length s.held.unread ≤ most → Reaches limit most 0 s s random random
+reaches_first limit most s random k l = record { same = refl; rest = refl; standing = k; count = omega (arith, l) }
 
 pub reaches_on : (limit most at : ℕ) (from mid to : Stocked) (random now later : Stream) → Reaches limit most at from mid random now → HasStepped limit mid to now later → Reaches limit most (at + 1) from to random later
 reaches_on limit most at from mid to random now later i h =
@@ -241,16 +232,11 @@ reaches_on limit most at from mid to random now later i h =
     let left : Left h.p mid.held (stepped h.p now mid.held).0 = step_left h.p now mid.held in
     let layers : to.held.layers ≡ with_ws h.p.ws mid.held.layers = ap {A = Held} (λ s. s.layers) held ∙ left.layers in
     let unread : to.held.unread ≡ drop h.p.used mid.held.unread = ap {A = Held} (λ s. s.unread) held ∙ left.unread in
-    let there : ws_of to.held.layers ≡ Some h.p.ws = ap ws_of layers ∙ ws_with h.p.ws mid.held.layers q.ws q.there in
-    let room : limit ≤ mid.joined = subst (λ o. joined_of (Message limit) o ≤ mid.joined) q.there i.joined in
-    let joined : to.joined ≡ mid.joined = ap {A = Stocked} (λ s. s.joined) h.now_is in
     let size : length to.held.unread ≡ length mid.held.unread - h.p.used = ap length unread ∙ length-drop h.p.used mid.held.unread in
     record {
       same = ap {A = Held} (λ t. read (Message limit) later t) held ∙ ap (λ r. read (Message limit) r (stepped h.p now mid.held).0) h.left_is ∙ sym (read_steps limit now mid.held h.p i.standing h.pass) ∙ i.same;
       rest = h.now_is ∙ ap {A = Stocked} (λ s. record s { held = (stepped h.p now mid.held).0 }) i.rest ∙ ap {A = Held} (λ t. record from { held = t }) (sym held);
-      fits = subst HasMessages (sym layers) (messages_with h.p.ws mid.held.layers i.fits);
       standing = subst IsStanding (sym layers) (standing_with h.p.ws mid.held.layers i.standing);
-      joined = subst (λ o. joined_of (Message limit) o ≤ to.joined) (sym there) (omega (arith, room, joined));
       count = omega (arith, i.count, size, w.some, w.there);
     }
 

@@ -4,6 +4,7 @@ use Rattle.std.specs.Prelude.{◌==◌, is_some}
 use Rattle.dill_base.specs.declared.errno.Errno.{Errno}
 use Rattle.dill_base.specs.declared.errno.Errno.TheVariants.{Epipe, Eproto}
 use Rattle.dill_calls.specs.declared.answer.Answer.TheVariants.{Bytes}
+use Rattle.dill_stack.specs.declared.layer.Top.TheVariants as top
 use Rattle.dill_stack.specs.declared.placed.Base.{Base}
 use Rattle.dill_stack.specs.declared.placed.Base.TheVariants as base
 use Rattle.dill_stack.specs.declared.placed.Framed.{Framed}
@@ -12,16 +13,16 @@ use Rattle.dill_stack.specs.declared.seeing.Seen.TheVariants as seen
 use Rattle.dill_stack.specs.declared.want.ReadOut.{ReadOut}
 use Rattle.dill_stack.specs.declared.want.ReadOut.TheVariants.{Given, Need, Fault}
 use Rattle.dill_stack.specs.declared.want.Want.TheVariants.{Message}
-use Rattle.dill_stack.specs.Layers.{TermLayer, WsLayer, Placed, Prefix, Suffix, Term, Http, Ws, IsStanding}
+use Rattle.dill_stack.specs.Layers.{TermLayer, WsLayer, Placed, Prefix, Suffix, Term, Http, Ws, HasMessages, IsStanding, top_of}
 use Rattle.dill_stack.specs.Held.{Held}
 use Rattle.dill_stack.specs.Rooms.{Roomy, Stocked}
 use Rattle.dill_stack.specs.Read.{Outcome, outcome, no_more, behind_passed, read_list, read_ws, is_terminal, over_term, read_message}
 use Rattle.dill_stack.specs.Receiving.{ws_of, broken_by, read_of}
 use Rattle.dill_stack.specs.Refusals.{is_met}
 use Rattle.dill_stack.specs.Seeing.{emptied, Sees, PassesNone, LinkSees, StackMessage, StackClose, StackOpen, StackSees, joined_in, joined_by, emptied_by, emptied_layers, joined_given}
-use Rattle.dill_stack.specs.Standing.{tower, base_layers, is_frames_top, joined_room, ws_layer, emptied_base, joined_bytes, IsTower}
+use Rattle.dill_stack.specs.Standing.{tower, base_layers, is_frames_top, ws_layer, emptied_base, joined_bytes, IsTower, JoinsWithin}
 use Rattle.dill_stack.specs.Stepping.{pass_of_ws, next_pass, with_ws}
-use Rattle.dill_stack.specs.Taking.{over_layers, after, lowest, meet, room_after, second_after}
+use Rattle.dill_stack.specs.Taking.{over_layers, after, lowest, meet}
 use Rattle.dill_stack.specs.WsReading.{Passed, nothing_passed, pass_by_front, ws_front, Shown, shown}
 use Rattle.dill_stack.proofs.Again.{passed_nothing}
 use Rattle.dill_stack.proofs.Passers.{ends_same, over_link, with_tower}
@@ -173,12 +174,12 @@ passes_none limit ts b u s m n = on_link b (ap (pass_of_ws limit u.items) (sym (
     on_link (base.Ws framed) e = e
 
 -- the layer may change what it has joined, and that it has met its end
-framed_stands : (f g : Framed) (ts : List TermLayer) (n : ℕ) → g.joined.room ≡ f.joined.room → g.text ≡ f.text → g.side ≡ f.side → IsTower ts (base.Ws f) n → IsTower ts (base.Ws g) n
-framed_stands f g ts n r t s i = record { fits = omega (arith, r, i.fits); based = tt; ends = ends_same ts (ws_layer f) (ws_layer g) t s i.ends; room = i.room }
+framed_stands : (f g : Framed) (ts : List TermLayer) (n : ℕ) → g.text ≡ f.text → g.side ≡ f.side → IsTower ts (base.Ws f) n → IsTower ts (base.Ws g) n
+framed_stands f g ts n t s i = record { fits = tt; based = tt; ends = ends_same ts (ws_layer f) (ws_layer g) t s i.ends; room = i.room }
 
 sees_stands : (limit : ℕ) (f g : Framed) (u v : Roomy ℕ) (r : Seen) (ts : List TermLayer) (n : ℕ) → Sees limit f u r g v → IsTower ts (base.Ws f) n → IsTower ts (base.Ws g) n
-sees_stands limit f g u v seen.Message ts n h i = framed_stands f g ts n (ap (λ (x : Framed). x.joined.room) h.joins) (ap (λ (x : Framed). x.text) h.joins) (ap (λ (x : Framed). x.side) h.joins) i
-sees_stands limit f g u v seen.Close ts n h i = framed_stands f g ts n (ap (λ (x : Framed). x.joined.room) h.met) (ap (λ (x : Framed). x.text) h.met) (ap (λ (x : Framed). x.side) h.met) i
+sees_stands limit f g u v seen.Message ts n h i = framed_stands f g ts n (ap (λ (x : Framed). x.text) h.joins) (ap (λ (x : Framed). x.side) h.joins) i
+sees_stands limit f g u v seen.Close ts n h i = framed_stands f g ts n (ap (λ (x : Framed). x.text) h.met) (ap (λ (x : Framed). x.side) h.met) i
 sees_stands limit f g u v (seen.Open b) ts n h i = subst (λ (x : Framed). IsTower ts (base.Ws x) n) (sym h.1) i
 sees_stands limit f g u v (seen.Refused e) ts n h i = subst (λ (x : Framed). IsTower ts (base.Ws x) n) (sym h.1) i
 
@@ -188,6 +189,20 @@ see_stands limit (base.Prefix form) new u v r ts n h i = subst (λ (b : Base). I
 see_stands limit (base.Suffix end) new u v r ts n h i = subst (λ (b : Base). IsTower ts b n) (sym h.0) i
 see_stands limit (base.Http http) new u v r ts n h i = subst (λ (b : Base). IsTower ts b n) (sym h.0) i
 see_stands limit (base.Ws f) new u v r ts n h i = subst (λ (b : Base). IsTower ts b n) (sym h.1) (sees_stands limit f h.0 u v r ts n h.2 i)
+
+sees_joins : (limit : ℕ) (f g : Framed) (u v : Roomy ℕ) (r : Seen) → Sees limit f u r g v → g.joined.room ≡ f.joined.room
+sees_joins limit f g u v seen.Message h = ap (λ (x : Framed). x.joined.room) h.joins
+sees_joins limit f g u v seen.Close h = ap (λ (x : Framed). x.joined.room) h.met
+sees_joins limit f g u v (seen.Open b) h = ap (λ (x : Framed). x.joined.room) h.1
+sees_joins limit f g u v (seen.Refused e) h = ap (λ (x : Framed). x.joined.room) h.1
+
+-- and has the room that it had
+pub see_joins : (limit : ℕ) (old new : Base) (u v : Roomy ℕ) (r : Seen) (n : ℕ) → LinkSees limit old u r new v → JoinsWithin n old → JoinsWithin n new
+see_joins limit base.Bytes new u v r n h j = subst (λ (b : Base). JoinsWithin n b) (sym h.0) j
+see_joins limit (base.Prefix form) new u v r n h j = subst (λ (b : Base). JoinsWithin n b) (sym h.0) j
+see_joins limit (base.Suffix end) new u v r n h j = subst (λ (b : Base). JoinsWithin n b) (sym h.0) j
+see_joins limit (base.Http http) new u v r n h j = subst (λ (b : Base). JoinsWithin n b) (sym h.0) j
+see_joins limit (base.Ws f) new u v r n h j = subst (λ (b : Base). JoinsWithin n b) (sym h.1) (omega (arith, sees_joins limit f h.0 u v r h.2, j))
 
 sees_room : (limit : ℕ) (f g : Framed) (u v : Roomy ℕ) (r : Seen) → Sees limit f u r g v → v.room ≡ u.room
 sees_room limit f g u v seen.Message h = ap (λ (x : Roomy ℕ). x.room) h.bytes
@@ -214,8 +229,8 @@ framed_sees limit ts f g u v s seen.Message h m n =
       there = ws_tower ts (base_layers (base.Ws f));
       reads = reads_shown (ws_layer f) u.items s.held.receiving.done limit _ m n (h.shows s.held.receiving.done);
       now_is = ap {A = Roomy ℕ} (λ x. over_link ts (base.Ws g) x s) h.bytes
-          ∙ ap {A = Framed} (λ x. record s { held = record s.held { layers = tower ts (Ws (ws_layer x) ∷ []); unread = drop h.used u.items }; unread = u.room; joined = x.joined.room }) h.joins
-          ∙ ap {A = List Placed} (λ l. record s { held = record s.held { layers = l; unread = drop h.used u.items }; unread = u.room; joined = f.joined.room }) (sym (with_tower (record (ws_layer f) { joined = g.joined.items }) ts (Ws (ws_layer f) ∷ [])));
+          ∙ ap {A = Framed} (λ x. record s { held = record s.held { layers = tower ts (Ws (ws_layer x) ∷ []); unread = drop h.used u.items } }) h.joins
+          ∙ ap {A = List Placed} (λ l. record s { held = record s.held { layers = l; unread = drop h.used u.items } }) (sym (with_tower (record (ws_layer f) { joined = g.joined.items }) ts (Ws (ws_layer f) ∷ [])));
     }
 framed_sees limit ts f g u v s seen.Close h m n =
     record {
@@ -224,8 +239,8 @@ framed_sees limit ts f g u v s seen.Close h m n =
       there = ws_tower ts (base_layers (base.Ws f));
       reads = reads_shown (ws_layer f) u.items s.held.receiving.done limit _ m n (h.shows s.held.receiving.done) ∙ ap {A = Framed} (λ x. outcome h.used (Ws (ws_layer x) ∷ []) (Fault Epipe)) h.met;
       now_is = ap {A = Roomy ℕ} (λ x. over_link ts (base.Ws g) x s) h.bytes
-          ∙ ap {A = Framed} (λ x. record s { held = record s.held { layers = tower ts (Ws (ws_layer x) ∷ []); unread = drop h.used u.items }; unread = u.room; joined = x.joined.room }) h.met
-          ∙ ap {A = List Placed} (λ l. record s { held = record s.held { layers = l; unread = drop h.used u.items }; unread = u.room; joined = f.joined.room }) (sym (with_tower (record (ws_layer f) { met = true }) ts (Ws (ws_layer f) ∷ [])));
+          ∙ ap {A = Framed} (λ x. record s { held = record s.held { layers = tower ts (Ws (ws_layer x) ∷ []); unread = drop h.used u.items } }) h.met
+          ∙ ap {A = List Placed} (λ l. record s { held = record s.held { layers = l; unread = drop h.used u.items } }) (sym (with_tower (record (ws_layer f) { met = true }) ts (Ws (ws_layer f) ∷ [])));
     }
 framed_sees limit ts f g u v s (seen.Open b) h m n =
     record {
@@ -296,7 +311,7 @@ none_used layers said = ap (λ (o : Outcome). o.used) (over_used layers 0 0 said
 
 -- a stack after an outcome, with these bytes unread
 abbrev after_of : Outcome → Stocked → List ℕ → Stocked
-after_of o s u = record s { held = broken_by o.said (record s.held { layers = o.layers; unread = u }); answer = room_after o.said s.answer; second = second_after o.said s.second }
+after_of o s u = record s { held = broken_by o.said (record s.held { layers = o.layers; unread = u }) }
 
 -- giving the message that was joined is what a receive does
 pub reads_given : (limit : ℕ) (before now : Stocked) → IsStanding before.held.layers → is_met before.held.layers ≡ false → StackMessage limit before now → ((read_message before.held.layers before.held.unread before.held.receiving.done limit).said ≡ (joined_given now.held).said) × (after (read_message before.held.layers before.held.unread before.held.receiving.done limit) before ≡ after (joined_given now.held) now)
@@ -346,12 +361,12 @@ emptied_stands ts (base.Suffix end) n i = i
 emptied_stands ts (base.Http http) n i = i
 emptied_stands ts (base.Ws framed) n i = record { fits = i.fits; based = tt; ends = ends_same ts (ws_layer framed) (emptied (ws_layer framed)) refl refl i.ends; room = i.room }
 
-pub emptied_room : (b : Base) → joined_room (emptied_base b) ≡ joined_room b
-emptied_room base.Bytes = refl
-emptied_room (base.Prefix form) = refl
-emptied_room (base.Suffix end) = refl
-emptied_room (base.Http http) = refl
-emptied_room (base.Ws framed) = refl
+pub emptied_joins : (n : ℕ) (b : Base) → JoinsWithin n b → JoinsWithin n (emptied_base b)
+emptied_joins n base.Bytes j = j
+emptied_joins n (base.Prefix form) j = j
+emptied_joins n (base.Suffix end) j = j
+emptied_joins n (base.Http http) j = j
+emptied_joins n (base.Ws framed) j = j
 
 given_tower : (ts : List TermLayer) (b : Base) (s : Held) → s.layers ≡ tower ts (base_layers b) → joined_given s ≡ over_layers (tower ts (base_layers (emptied_base b))) (outcome 0 [] (Given (Bytes (joined_bytes b))))
 given_tower ts b s e =
@@ -420,3 +435,29 @@ met_message (Ws ws ∷ below) u ended limit k w m = by below k m
 pub list_is : (limit : ℕ) (s : Held) → read_of (Message limit) s ≡ read_message s.layers s.unread s.receiving.done limit
 unfolding read_list
 list_is limit s = refl
+
+-- ---- where the top has no messages
+
+pub bytes_message : (layers : List Placed) (u : List ℕ) (ended : Bool) (limit : ℕ) → top_of layers ≡ top.Bytes → read_message layers u ended limit ≡ outcome 0 layers Need
+bytes_message [] u ended limit e = refl
+bytes_message (Prefix form ∷ below) u ended limit e = cc
+bytes_message (Suffix end ∷ below) u ended limit e = cc
+bytes_message (Term t ∷ below) u ended limit e = cc
+bytes_message (Http http ∷ below) u ended limit e = cc
+bytes_message (Ws ws ∷ below) u ended limit e = cc
+
+pub head_message : (layers : List Placed) (u : List ℕ) (ended : Bool) (limit : ℕ) → top_of layers ≡ top.Http → read_message layers u ended limit ≡ outcome 0 layers Need
+head_message [] u ended limit e = cc
+head_message (Prefix form ∷ below) u ended limit e = cc
+head_message (Suffix end ∷ below) u ended limit e = cc
+head_message (Term t ∷ below) u ended limit e = cc
+head_message (Http http ∷ below) u ended limit e = refl
+head_message (Ws ws ∷ below) u ended limit e = cc
+
+pub tops_message : (layers : List Placed) → (top_of layers ≡ top.Bytes → ⊥) → (top_of layers ≡ top.Http → ⊥) → HasMessages layers
+tops_message [] b h = b refl
+tops_message (Prefix form ∷ below) b h = tt
+tops_message (Suffix end ∷ below) b h = tt
+tops_message (Term t ∷ below) b h = tt
+tops_message (Http http ∷ below) b h = h refl
+tops_message (Ws ws ∷ below) b h = tt

@@ -112,14 +112,11 @@ unfolding frame
 frame_refused m s random e h = rw h refl
 
 -- A message has gone into the queue.
-pub framed : (key m : List ℕ) (due : Result (Held × Stream) Errno) (before room now : Stocked) (count : ℕ) (random left : Stream) → due ≡ Ok (queued Plain (on_link (drawn_key random).0 before.held.layers m) before.held, random_after before.held.layers random) → room ≡ record before { sending = max before.sending count } → now ≡ record room { held = queued Plain (on_link key room.held.layers m) room.held } → IsKey key before.held.layers random → left ≡ random_after before.held.layers random → IsDone due before now left
-framed key m due before room now count random left d r n k l =
-    let w : now ≡ record before { held = queued Plain (on_link key before.held.layers m) before.held; sending = max before.sending count } = n ∙ ap {A = Stocked} (λ x. record x { held = queued Plain (on_link key x.held.layers m) x.held }) r in
-    rw w record {
+pub framed : (key m : List ℕ) (due : Result (Held × Stream) Errno) (before now : Stocked) (random left : Stream) → due ≡ Ok (queued Plain (on_link (drawn_key random).0 before.held.layers m) before.held, random_after before.held.layers random) → now ≡ record before { held = queued Plain (on_link key before.held.layers m) before.held } → IsKey key before.held.layers random → left ≡ random_after before.held.layers random → IsDone due before now left
+framed key m due before now random left d n k l =
+    rw n record {
       due = d ∙ ap (λ x. Ok (queued Plain x before.held, random_after before.held.layers random)) (sym (on_key before.held.layers key m random k)) ∙ ap (λ x. Ok (queued Plain (on_link key before.held.layers m) before.held, x)) (sym l);
       rest = refl;
-      room = omega arith;
-      more = omega arith;
     }
 
 pub lacking : (due : Result (Held × Stream) Errno) (x : Held × Stream) (before now : Stocked) (random : Stream) → due ≡ Ok x → now ≡ before → IsLacking due before now random random
@@ -134,7 +131,7 @@ unfolding line
 lines first w s h = rw h refl
 
 -- what became of a line that isn't refused
-pub lined : (r : Result (Unit {0}) StackFault) (w : List ℕ) (due : Result Held Errno) (before now : Stocked) (room : ℕ) → due ≡ Ok (with_line AmongFields w before.held) → OnOk r (now ≡ record before { held = with_line AmongFields w before.held; sending = max before.sending room }) → OnErr r (now ≡ before) → IfErr r (λ e. e ≡ NoMemory) → Changes due r before now
-lined (Ok u) w due before now room d o e n = (d ∙ ap Ok (sym (ap (λ x. x.held) o)), rw o refl, rw o (omega arith), rw o (omega arith))
-lined (Err NoMemory) w due before now room d o e n = (rw d refl, e)
-lined (Err (Refused f)) w due before now room d o e n = cc
+pub lined : (r : Result (Unit {0}) StackFault) (w : List ℕ) (due : Result Held Errno) (before now : Stocked) → due ≡ Ok (with_line AmongFields w before.held) → OnOk r (now ≡ record before { held = with_line AmongFields w before.held }) → OnErr r (now ≡ before) → IfErr r (λ e. e ≡ NoMemory) → Changes due r before now
+lined (Ok u) w due before now d o e n = (d ∙ ap Ok (sym (ap (λ x. x.held) o)), rw o refl)
+lined (Err NoMemory) w due before now d o e n = (rw d refl, e)
+lined (Err (Refused f)) w due before now d o e n = cc

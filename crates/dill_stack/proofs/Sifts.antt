@@ -20,9 +20,9 @@ use Rattle.dill_stack.specs.Refusals.{is_met, is_met_layer}
 use Rattle.dill_stack.specs.Dropping.{Dropped, Item, End, Stops, drop_limit, is_given, left_with, drop_message, drop_frames, drop_one}
 use Rattle.dill_stack.specs.Leaving.{below_layers, below_top, is_top_met, top_met, drop_over, joined_dropped, close_dropped, next_dropped, outcome_of, step_of, terms_at, used_in}
 use Rattle.dill_stack.specs.Seeing.{emptied, emptied_by, emptied_layers, joined_by, joined_in, StackMessage, StackClose, StackOpen}
-use Rattle.dill_stack.specs.Standing.{tower, base_layers, emptied_base, joined_bytes, HasJoinedRoom}
+use Rattle.dill_stack.specs.Standing.{tower, base_layers, emptied_base, joined_bytes}
 use Rattle.dill_stack.specs.Stepping.{with_ws}
-use Rattle.dill_stack.specs.Taking.{behind, joined_left, joined_of, over_layers, lowest}
+use Rattle.dill_stack.specs.Taking.{behind, over_layers, lowest}
 use Rattle.dill_stack.proofs.Drops.{sifted_as, sifts}
 use Rattle.dill_stack.proofs.Seers.{emptied_tower, joined_in_tower, joined_there, over_ws, over_used, over_fault, over_more, with_same, with_twice, met_message}
 use Rattle.dill_stack.proofs.StepReads.{ws_with}
@@ -167,23 +167,16 @@ drops_message (Ws w ∷ below) u ended ws used all k m e r =
 
 -- ---- a stack behind an item
 
-pub stays_joined : (layers : List Placed) (room : ℕ) → is_some (ws_of layers) ≡ true → joined_left layers room ≡ room
-stays_joined layers room e = ap (λ b. if b then room else 0) e
-
--- a stack behind an item, with the room that stays
 abbrev pub behind_item : Dropped → Stocked → Stocked
-behind_item d s = record s { held = behind (outcome_of d) s.held; joined = joined_left (outcome_of d).layers s.joined }
-
-pub stop_item : (s : Stocked) (said : ReadOut) (d : Dropped) → is_some (ws_of s.held.layers) ≡ true → d ≡ Stops (outcome 0 s.held.layers said) → s ≡ behind_item d s
-stop_item s said d w e = ap {A = ℕ} (λ n. record s { joined = n }) (sym (stays_joined s.held.layers s.joined w)) ∙ ap (λ x. behind_item x s) (sym e)
+behind_item d s = record s { held = behind (outcome_of d) s.held }
 
 pub step_used : (n : ℕ) (d : Dropped) → step_of (used_in n d) ≡ step_of d
 step_used n (Item o) = refl
 step_used n (End o) = refl
 step_used n (Stops o) = refl
 
-of_item : (o : Outcome) (n : ℕ) (s : Stocked) (l : List Placed) → o.used ≡ 0 → (let mid : Stocked = record s { held = record s.held { layers = l; unread = drop n s.held.unread } } in record mid { held = behind o mid.held; joined = joined_left o.layers mid.joined }) ≡ record s { held = record s.held { layers = o.layers; unread = drop n s.held.unread }; joined = joined_left o.layers s.joined }
-of_item o n s l z = ap {A = ℕ} (λ k. record s { held = record s.held { layers = o.layers; unread = drop k (drop n s.held.unread) }; joined = joined_left o.layers s.joined }) z
+of_item : (o : Outcome) (n : ℕ) (s : Stocked) (l : List Placed) → o.used ≡ 0 → (let mid : Stocked = record s { held = record s.held { layers = l; unread = drop n s.held.unread } } in record mid { held = behind o mid.held }) ≡ record s { held = record s.held { layers = o.layers; unread = drop n s.held.unread } }
+of_item o n s l z = ap {A = ℕ} (λ k. record s { held = record s.held { layers = o.layers; unread = drop k (drop n s.held.unread) } }) z
 
 pub item_used : (d : Dropped) (n : ℕ) (s mid : Stocked) (l : List Placed) → (outcome_of d).used ≡ 0 → mid ≡ record s { held = record s.held { layers = l; unread = drop n s.held.unread } } → behind_item d mid ≡ behind_item (used_in n d) s
 item_used (Item o) n s mid l z e = ap {A = Stocked} (behind_item (Item o)) e ∙ of_item o n s l z
@@ -235,38 +228,6 @@ message_used (Term t ∷ below) m = at (is_terminal t o.said) (is_given o.said)
     at false true = over_used_zero below (Given (Bytes m))
     at false false = over_used_zero below (Given (Bytes m))
 
--- the WebSocket layer stays below
-over_ws_of : (layers : List Placed) (said : ReadOut) → ws_of (over_layers layers (outcome 0 [] said)).layers ≡ ws_of layers
-over_ws_of [] said = refl
-over_ws_of (Prefix form ∷ below) said = refl
-over_ws_of (Suffix end ∷ below) said = refl
-over_ws_of (Http http ∷ below) said = refl
-over_ws_of (Ws ws ∷ below) said = refl
-over_ws_of (Term t ∷ below) said = at (is_terminal t o.said) (over_ws_of below said)
-  where
-    o : Outcome
-    o = over_layers below (outcome 0 [] said)
-
-    at : (b : Bool) → ws_of o.layers ≡ ws_of below → ws_of (if b then record o { layers = Term (record t { met = true }) ∷ o.layers; said = Fault Epipe } else record o { layers = Term t ∷ o.layers }).layers ≡ ws_of below
-    at true e = e
-    at false e = e
-
-pub message_ws : (layers : List Placed) (m : List ℕ) → ws_of (outcome_of (drop_over layers m)).layers ≡ ws_of layers
-message_ws [] m = refl
-message_ws (Prefix form ∷ below) m = refl
-message_ws (Suffix end ∷ below) m = refl
-message_ws (Http http ∷ below) m = refl
-message_ws (Ws ws ∷ below) m = refl
-message_ws (Term t ∷ below) m = at (is_terminal t o.said) (is_given o.said)
-  where
-    o : Outcome
-    o = over_layers below (outcome 0 [] (Given (Bytes m)))
-
-    at : (a b : Bool) → ws_of (outcome_of (if a then End (left_with o.layers o) else if b then Item (record o { layers = Term t ∷ o.layers }) else Stops (record o { layers = Term t ∷ o.layers }))).layers ≡ ws_of below
-    at true b = over_ws_of below (Given (Bytes m))
-    at false true = over_ws_of below (Given (Bytes m))
-    at false false = over_ws_of below (Given (Bytes m))
-
 -- the message that was joined, as it is dropped
 pub joined_is : (before mid : Stocked) (c : StackMessage 16384 before mid) → joined_dropped mid.held ≡ drop_over (with_ws (emptied c.ws) before.held.layers) c.all
 joined_is before mid c =
@@ -280,11 +241,9 @@ pub message_drops : (before mid : Stocked) → IsStanding before.held.layers →
 message_drops before mid k m c =
     let d : Dropped = drop_over (with_ws (emptied c.ws) before.held.layers) c.all in
     let j : joined_dropped mid.held ≡ d = joined_is before mid c in
-    let n : next_dropped before.held ≡ used_in c.used d = drops_message before.held.layers before.held.unread before.held.receiving.done c.ws c.used c.all k m c.there c.reads in
-    let w : is_some (ws_of (outcome_of d).layers) ≡ true = ap is_some (message_ws (with_ws (emptied c.ws) before.held.layers) c.all ∙ ws_with (emptied c.ws) before.held.layers c.ws c.there) in (
+    let n : next_dropped before.held ≡ used_in c.used d = drops_message before.held.layers before.held.unread before.held.receiving.done c.ws c.used c.all k m c.there c.reads in (
       ap step_of j ∙ sym (step_used c.used d) ∙ ap step_of (sym n),
       ap (λ x. record mid { held = behind (outcome_of x) mid.held }) j
-          ∙ ap {A = ℕ} (λ r. record mid { held = behind (outcome_of d) mid.held; joined = r }) (sym (stays_joined (outcome_of d).layers mid.joined w))
           ∙ item_used d c.used before mid _ (message_used (with_ws (emptied c.ws) before.held.layers) c.all) c.now_is
           ∙ ap (λ x. behind_item x before) (sym n),
     )
@@ -363,13 +322,6 @@ close_top (Suffix end ∷ below) e = refl
 close_top (Term t ∷ below) e = absurd (e refl)
 close_top (Http http ∷ below) e = refl
 close_top (Ws ws ∷ below) e = refl
-
-pub joins_16384 : (layers : List Placed) (room : ℕ) → HasJoinedRoom layers room → joined_of (Message 16384) (ws_of layers) ≤ room
-joins_16384 layers room h = at (ws_of layers) h
-  where
-    at : (o : Option WsLayer) → IfSome o (λ ws. 16384 ≤ room) → joined_of (Message 16384) o ≤ room
-    at None h = omega arith
-    at (Some ws) h = h
 
 pub held_of_joined : (ts : List TermLayer) (below : List Placed) (m : List ℕ) (at : ℕ) (s : Stocked) → record s { held = record s.held { layers = tower (terms_at at ts) below } } ≡ record s { held = behind (outcome_of (sifted_as ts 0 below m (Some at))) s.held }
 held_of_joined ts below m zero s = refl

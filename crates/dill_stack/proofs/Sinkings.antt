@@ -31,7 +31,7 @@ use Rattle.dill_stack.specs.Dropping.{Dropped, Item, End, Stops, drop_limit, is_
 use Rattle.dill_stack.specs.Leaving.{next_dropped, outcome_of, step_of}
 use Rattle.dill_stack.specs.Standing.{IsDroppable}
 use Rattle.dill_stack.specs.Stepping.{pass_of_ws, next_pass, with_ws, stepped, behind_pass}
-use Rattle.dill_stack.specs.Taking.{behind, joined_left}
+use Rattle.dill_stack.specs.Taking.{behind}
 use Rattle.dill_stack.specs.Framing.{HasStepped}
 use Rattle.dill_stack.specs.Sinking.{look_within, GoesOn, StopsWith, Sinks}
 use Rattle.dill_stack.proofs.Again.{passed_nothing}
@@ -305,20 +305,6 @@ look_item o q random s k =
     ∙ ap (λ p. with_pongs_of (ws_of s.layers) (p ++ q.pings) random t) k.pings
     ∙ pongs_alike (ws_of s.layers) (ws_of o.layers) q.pings random t k.stays)
 
-some_alike : (o x : Option WsLayer) → SameWs o x → is_some x ≡ is_some o
-some_alike None None e = refl
-some_alike None (Some x) e = absurd e
-some_alike (Some ws) None e = absurd e
-some_alike (Some ws) (Some x) e = refl
-
--- the room stays, or there was none
-room_stays : (layers : List Placed) (o : Outcome) (room : ℕ) → SameWs (ws_of layers) (ws_of o.layers) → (ws_of layers ≡ None → room ≡ 0) → joined_left o.layers room ≡ room
-room_stays layers o room e z = ap (λ b. if b then room else 0) (some_alike (ws_of layers) (ws_of o.layers) e) ∙ at (ws_of layers) z
-  where
-    at : (w : Option WsLayer) → (w ≡ None → room ≡ 0) → (if is_some w then room else 0) ≡ room
-    at None z = sym (z refl)
-    at (Some ws) z = refl
-
 some_layers : (layers : List Placed) (u : List ℕ) (ended : Bool) (o : Outcome) → drop_one layers u ended ≡ Item o → 1 ≤ length layers
 some_layers [] u ended o e = cc
 some_layers (x ∷ layers) u ended o e = omega arith
@@ -332,8 +318,8 @@ item_less p s l layers u ended o k e = at (drop_one layers u ended) e (one_fine 
     at (Stops q) e f = cc
 
 -- what dropping an item leaves
-pub drop_sinks : (p : PrefixLaws) (s : SuffixLaws) (l : LineLaws) (r : DropStep) (before now : Stocked) (random : Stream) → IsStanding before.held.layers → (1 ≤ length before.held.layers → IsDroppable before.held.layers) → (ws_of before.held.layers ≡ None → before.joined ≡ 0) → next_pass 16384 before.held ≡ None → r ≡ step_of (next_dropped before.held) → now ≡ behind_item (next_dropped before.held) before → Sinks r before now random random
-drop_sinks p s l step.Item before now random k f z n e b =
+pub drop_sinks : (p : PrefixLaws) (s : SuffixLaws) (l : LineLaws) (r : DropStep) (before now : Stocked) (random : Stream) → IsStanding before.held.layers → (1 ≤ length before.held.layers → IsDroppable before.held.layers) → next_pass 16384 before.held ≡ None → r ≡ step_of (next_dropped before.held) → now ≡ behind_item (next_dropped before.held) before → Sinks r before now random random
+drop_sinks p s l step.Item before now random k f n e b =
     let d : Dropped = next_dropped before.held in
     let o : Outcome = outcome_of d in
     let i : d ≡ Item o = is_item d e in
@@ -352,9 +338,9 @@ drop_sinks p s l step.Item before now random k f z n e b =
                 ∙ ap {A = Held} (λ x. look_within t.0 random x) (sym held),
           );
       less = omega (arith, size, m.0, m.1);
-      rest = b ∙ ap {A = ℕ} (λ j. record before { held = behind o before.held; joined = j }) (room_stays before.held.layers o before.joined q.stays z) ∙ ap {A = Held} (λ x. record before { held = x }) (sym held);
+      rest = b ∙ ap {A = Held} (λ x. record before { held = x }) (sym held);
     }
-drop_sinks p s l step.End before now random k f z n e b =
+drop_sinks p s l step.End before now random k f n e b =
     let d : Dropped = next_dropped before.held in
     let o : Outcome = outcome_of d in
     let i : d ≡ End o = is_end d e in
@@ -369,9 +355,9 @@ drop_sinks p s l step.End before now random k f z n e b =
           ∙ look_stop o random before.held q
           ∙ ap (λ x. let y : Looked = record { stack = behind o before.held; said = x; random = random } in y) a
           ∙ ap {A = Held} (λ x. let y : Looked = record { stack = x; said = Given (Number 0); random = random } in y) (sym held);
-      rest = b ∙ ap {A = Held} (λ x. record before { held = x; joined = joined_left x.layers before.joined }) (sym held);
+      rest = b ∙ ap {A = Held} (λ x. record before { held = x }) (sym held);
     }
-drop_sinks p s l (step.Stops said) before now random k f z n e b =
+drop_sinks p s l (step.Stops said) before now random k f n e b =
     let d : Dropped = next_dropped before.held in
     let o : Outcome = outcome_of d in
     let w = is_stop d said e in
@@ -385,7 +371,7 @@ drop_sinks p s l (step.Stops said) before now random k f z n e b =
           ∙ look_stop o random before.held q
           ∙ ap (λ x. let y : Looked = record { stack = behind o before.held; said = x; random = random } in y) (sym w.1)
           ∙ ap {A = Held} (λ x. let y : Looked = record { stack = x; said = said; random = random } in y) (sym held);
-      rest = b ∙ ap {A = Held} (λ x. record before { held = x; joined = joined_left x.layers before.joined }) (sym held);
+      rest = b ∙ ap {A = Held} (λ x. record before { held = x }) (sym held);
     }
 
 -- ---- all of them
@@ -412,10 +398,10 @@ reaches_on most at from mid to random now later i g =
       count = omega (arith, i.count, g.less);
     }
 
-pub reaches_stop : (most at : ℕ) (from mid to : Stocked) (random now later : Stream) (said : ReadOut) → Reaches most at from mid random now → StopsWith said mid to now later → (look_within (suc (length from.held.unread)) random from.held ≡ record { stack = to.held; said = said; random = later }) × (to ≡ record from { held = to.held; joined = joined_left to.held.layers from.joined })
+pub reaches_stop : (most at : ℕ) (from mid to : Stocked) (random now later : Stream) (said : ReadOut) → Reaches most at from mid random now → StopsWith said mid to now later → (look_within (suc (length from.held.unread)) random from.held ≡ record { stack = to.held; said = said; random = later }) × (to ≡ record from { held = to.held })
 reaches_stop most at from mid to random now later said i g = (
   i.same ∙ g.same i.left i.enough,
-  g.rest ∙ ap {A = Stocked} (λ s. record s { held = to.held; joined = joined_left to.held.layers s.joined }) i.rest,
+  g.rest ∙ ap {A = Stocked} (λ s. record s { held = to.held }) i.rest,
 )
 
 pub reaches_out : {A : Type 0} (most at : ℕ) (from to : Stocked) (random now : Stream) → most + 1 ≤ at → Reaches most at from to random now → A

@@ -23,8 +23,7 @@ use Rattle.dill_stack.specs.Refusing.{fault_of}
 use Rattle.dill_stack.specs.Read.{Outcome, outcome, read_message, over_term, by_front, no_more}
 use Rattle.dill_stack.specs.Receiving.{ws_of, broken_by, read, read_of, with_pongs_of, answers_pings}
 use Rattle.dill_stack.specs.Standing.{tower, base_layers, HasBase, HasEnds, IsTower}
-use Rattle.dill_stack.specs.Taking.{any_met, lowest, found, meet, base_front, base_need, IsFraming, DrawsNone, over_layers, after, room_after, second_after}
-use Rattle.dill_stack.specs.Needs.{message_need}
+use Rattle.dill_stack.specs.Taking.{any_met, lowest, found, meet, base_front, IsFraming, DrawsNone, over_layers, after}
 
 pub meet_set : (ts : List TermLayer) (n : ℕ) (t : TermLayer) → n < length ts → set ts n (record (get_or ts n t) { met = true }) ≡ meet n ts
 meet_set [] n t h = absurd (omega arith)
@@ -213,21 +212,9 @@ stack_meet n ts b room i = record { fits = i.fits; based = based_meet n ts b i.b
 pub stays_met : (s : Stocked) (o : Outcome) → o ≡ outcome 0 s.held.layers (Fault Epipe) → s ≡ after o s
 stays_met s o h = sym (ap (λ x. after x s) h)
 
-kept_if : (c : Bool) (n k : ℕ) → (room_after (if c then Fault Epipe else Fault Eproto) n ≡ n) × (second_after (if c then Fault Epipe else Fault Eproto) k ≡ k)
-kept_if true n k = (refl, refl)
-kept_if false n k = (refl, refl)
-
--- Where nothing whole is there, no answer is handed out.
-kept_rooms : (e b : Bool) (u : List ℕ) (r : ReadOut) (n k : ℕ) → r ≡ no_more e b u → (room_after r n ≡ n) × (second_after r k ≡ k)
-kept_rooms false b u r n k h = (ap (λ x. room_after x n) h, ap (λ x. second_after x k) h)
-kept_rooms true b u r n k h =
-    let p = kept_if (b && length u == 0) n k in
-    (ap (λ x. room_after x n) h ∙ p.0, ap (λ x. second_after x k) h ∙ p.1)
-
+-- Where nothing whole is there, nothing is used.
 pub need_after : (s : Stocked) (o : Outcome) (r : ReadOut) (b : Bool) → o ≡ outcome 0 s.held.layers (no_more s.held.receiving.done b s.held.unread) → r ≡ no_more s.held.receiving.done b s.held.unread → record s { held = broken_by r s.held } ≡ after o s
-need_after s o r b h q =
-    let k = kept_rooms s.held.receiving.done b s.held.unread r s.answer s.second q in
-    sym (ap (λ x. after x s) (h ∙ ap (outcome 0 s.held.layers) (sym q)) ∙ ap (λ n. record s { held = broken_by r s.held; answer = n; second = second_after r s.second }) k.0 ∙ ap (λ n. record s { held = broken_by r s.held; second = n }) k.1)
+need_after s o r b h q = sym (ap (λ x. after x s) (h ∙ ap (outcome 0 s.held.layers) (sym q)))
 
 -- a stack and the random numbers, whether pings are answered or not
 abbrev pub kept_if_so : Bool → Held → Stream → Held × Stream
@@ -257,19 +244,9 @@ unfolding read
 reads_plain want random s h = ap (λ (p : Held × Stream). record { stack = broken_by (read_of want s).said p.0; said = (read_of want s).said; random = p.1 }) (h random (record s { layers = (read_of want s).layers; unread = drop (read_of want s).used s.unread }))
 
 -- what a receive leaves that has passed frames first
-pub look_after : (want : Want) (random now : Stream) (from mid to : Stocked) (said : ReadOut) → mid ≡ record from { held = mid.held } → read want now mid.held ≡ read want random from.held → DrawsNone (read_of want mid.held) mid.held → said ≡ (read_of want mid.held).said → to ≡ after (read_of want mid.held) mid → to ≡ record from { held = (read want random from.held).stack; answer = room_after said from.answer; second = second_after said from.second }
-look_after want random now from mid to said r e d h t =
+pub look_after : (want : Want) (random now : Stream) (from mid to : Stocked) → mid ≡ record from { held = mid.held } → read want now mid.held ≡ read want random from.held → DrawsNone (read_of want mid.held) mid.held → to ≡ after (read_of want mid.held) mid → to ≡ record from { held = (read want random from.held).stack }
+look_after want random now from mid to r e d t =
     let o : Outcome = read_of want mid.held in
-    let held : broken_by o.said (record mid.held { layers = o.layers; unread = drop o.used mid.held.unread }) ≡ (read want random from.held).stack = sym (ap (λ l. l.stack) (reads_plain want now mid.held d)) ∙ ap (λ l. l.stack) e in
-    t
-    ∙ ap {A = Stocked} (λ s. record s { held = broken_by o.said (record mid.held { layers = o.layers; unread = drop o.used mid.held.unread }); answer = room_after o.said s.answer; second = second_after o.said s.second }) r
-    ∙ ap {A = Held} (λ k. record from { held = k; answer = room_after o.said from.answer; second = second_after o.said from.second }) held
-    ∙ ap {A = ReadOut} (λ x. record from { held = (read want random from.held).stack; answer = room_after x from.answer; second = second_after x from.second }) (sym h)
-
-pub need_tower : (ts : List TermLayer) (b : Base) (l : ℕ) → message_need l (tower ts (base_layers b)) ≡ base_need l b
-need_tower [] base.Bytes l = refl
-need_tower [] (base.Prefix form) l = refl
-need_tower [] (base.Suffix end) l = refl
-need_tower [] (base.Http http) l = refl
-need_tower [] (base.Ws framed) l = refl
-need_tower (t ∷ ts) b l = need_tower ts b l
+    let left : Held = broken_by o.said (record mid.held { layers = o.layers; unread = drop o.used mid.held.unread }) in
+    let held : left ≡ (read want random from.held).stack = sym (ap (λ l. l.stack) (reads_plain want now mid.held d)) ∙ ap (λ l. l.stack) e in
+    t ∙ ap {A = Stocked} (λ s. record s { held = left }) r ∙ ap {A = Held} (λ k. record from { held = k }) held

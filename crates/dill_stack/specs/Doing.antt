@@ -1,6 +1,6 @@
 -- What calls that may want memory, or are refused, do to a stack.
 use Rattle.std.specs.List.{list_any}
-use Rattle.std.specs.Prelude.{if◌then◌else◌, true, ◌≡◌, ◌≤◌, ◌++◌, ℕ, List, [], ◌∷◌, Result, Ok, Err, IsOk}
+use Rattle.std.specs.Prelude.{if◌then◌else◌, true, ◌≡◌, ◌++◌, ℕ, List, [], ◌∷◌, Result, Ok, Err, IsOk}
 use Rattle.rand_core.specs.Stream.{Stream}
 use Rattle.dill_base.specs.declared.errno.Errno.{Errno}
 use Rattle.dill_frames.specs.Prefix.{prefix_spelling}
@@ -11,12 +11,10 @@ use Rattle.dill_stack.specs.Composed.{data_frame, drawn_key, is_masking}
 use Rattle.dill_stack.specs.Held.{Held}
 use Rattle.dill_stack.specs.Rooms.{Stocked}
 
--- what is due is done, and no room is lost
+-- what is due is done
 pub record IsDone (wanted : Result (Held × Stream) Errno) (before now : Stocked) (left : Stream) : Type 0 where
   pub due : wanted ≡ Ok (now.held, left)
-  pub rest : now ≡ record before { held = now.held; sending = now.sending; joined = now.joined }
-  pub room : before.sending ≤ now.sending
-  pub more : before.joined ≤ now.joined
+  pub rest : now ≡ record before { held = now.held }
 
 -- a refusal changes nothing
 pub record IsRefused (wanted : Result (Held × Stream) Errno) (e : Errno) (before now : Stocked) (random left : Stream) : Type 0 where
@@ -38,7 +36,7 @@ Sends due (Err NoMemory) before now random left = IsLacking due before now rando
 
 -- a call that draws no random numbers, as of a line or a new layer
 abbrev pub Changes : Result Held Errno → Result (Unit {0}) StackFault → (before now : Stocked) → Type 0
-Changes due (Ok done) before now = (due ≡ Ok now.held) × (now ≡ record before { held = now.held; sending = now.sending; joined = now.joined }) × (before.sending ≤ now.sending) × (before.joined ≤ now.joined)
+Changes due (Ok done) before now = (due ≡ Ok now.held) × (now ≡ record before { held = now.held })
 Changes due (Err (Refused e)) before now = (due ≡ Err e) × (now ≡ before)
 Changes due (Err NoMemory) before now = IsOk due × (now ≡ before)
 

@@ -13,7 +13,7 @@ use Rattle.dill_stack.specs.Held.{Held}
 use Rattle.dill_stack.specs.Composed.{masks, key_of}
 use Rattle.dill_stack.specs.Receiving.{ws_of, answers_pings}
 use Rattle.dill_stack.specs.Rooms.{Roomy, roomy, Stocked}
-use Rattle.dill_stack.specs.Standing.{ws_layer, base_layers, joined_room, IsTower}
+use Rattle.dill_stack.specs.Standing.{ws_layer, base_layers, JoinsWithin, IsTower}
 use Rattle.dill_stack.specs.Stepping.{pass_of_ws, next_pass, with_ws, passed_on, stepped}
 use Rattle.dill_stack.specs.WsReading.{WsFront, Whole, Short, Refused, Passed, part_of, pass_by_front, ws_front}
 
@@ -44,11 +44,6 @@ Passes limit old u passes.Nothing new v = (pass_by_front (ws_layer old) (ws_fron
 Passes limit old u passes.Frame new v = PassedBy limit old u [] new v
 Passes limit old u (passes.Ping payload) new v = PassedBy limit old u (payload ∷ []) new v
 
--- There is room for a message of so many bytes in fragments, where they are joined.
-abbrev pub JoinsWithin : ℕ → Base → Type 0
-JoinsWithin limit (base.Ws framed) = limit ≤ framed.joined.room
-JoinsWithin limit b = Unit {0}
-
 -- a frame with these pings was passed by the layer on the link
 pub record LinkPassed (limit : ℕ) (old : Base) (u : Roomy ℕ) (pings : List (List ℕ)) (new : Base) (v : Roomy ℕ) : Type 0 where
   pub p : Passed
@@ -56,7 +51,7 @@ pub record LinkPassed (limit : ℕ) (old : Base) (u : Roomy ℕ) (pings : List (
   pub pass : pass_of_ws limit u.items (ws_of (base_layers old)) ≡ Some p
   pub layers : base_layers new ≡ with_ws p.ws (base_layers old)
   pub bytes : v ≡ roomy (drop p.used u.items) u.room
-  pub room : joined_room new ≡ joined_room old
+  pub joins : (n : ℕ) → JoinsWithin n old → JoinsWithin n new
   pub stands : (terms : List TermLayer) (sending : ℕ) → IsTower terms old sending → IsTower terms new sending
 
 -- what was passed at the front by the layer on the link, as it is told

@@ -33,6 +33,7 @@ pub mod CutRows
 pub mod PartingRows
 pub mod Refusing
 pub mod Rooms
+pub mod Answering
 pub mod Standing
 pub mod Doing
 pub mod Taking

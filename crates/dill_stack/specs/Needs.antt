@@ -1,7 +1,8 @@
 -- How many unread bytes a call may need before it is answered, and when it needs more.
-use Rattle.std.specs.Prelude.{ℕ, ◌+◌, List, [], ◌∷◌, Bool, true, false, length, max}
+use Rattle.std.specs.Prelude.{◌≤◌, ℕ, ◌+◌, List, [], ◌∷◌, Bool, true, false, length, max}
 use Rattle.dill_stack.specs.declared.want.Want.{Want}
 use Rattle.dill_stack.specs.declared.want.Want.TheVariants.{Exact, Message}
+use Rattle.dill_stack.specs.Formed.{IsFormed}
 use Rattle.dill_stack.specs.Layers.{Placed, Prefix, Suffix, Term, Http, Ws}
 use Rattle.dill_stack.specs.Held.{Held, Task, Idle, Greets, Expects, Answers, Leaves}
 use Rattle.dill_stack.specs.Sending.{is_sent}
@@ -58,3 +59,19 @@ wants_head _ sent = false
 -- The pending handshake of this stack needs bytes.
 abbrev pub needs_head : Held → Bool
 needs_head s = wants_head s.task (is_sent s)
+
+-- the bytes that a receive asks for by a number
+abbrev pub limit_of_want : Want → ℕ
+limit_of_want (Exact size) = size
+limit_of_want (Message limit) = limit
+limit_of_want want = 0
+
+-- With so many unread bytes at most there is room for another 4,096, where so many is the most that a receive has asked for.
+abbrev pub unread_bound : ℕ → ℕ
+unread_bound most = max 28672 (most + 32)
+
+-- No call needs more bytes than there is room for: a receive over formed layers, whose number is within the most that one has asked for, a handshake, and a detach.
+pub record NeedLaws : Type 0 where
+  pub receives : (want : Want) (most : ℕ) (s : Held) → IsFormed s.layers → limit_of_want want ≤ most → need want s ≤ unread_bound most
+  pub greets : (most : ℕ) → head_need ≤ unread_bound most
+  pub leaves : (most : ℕ) → parting_need ≤ unread_bound most

@@ -26,6 +26,10 @@ is_pong item = is_pong_origin item.origin
 abbrev pub is_sent : Held → Bool
 is_sent s = not (list_any (λ item. not (is_pong item)) s.queue)
 
+-- Nothing is queued, no pong either.
+abbrev pub is_idle : Held → Bool
+is_idle s = length s.queue == 0
+
 -- what a write is offered: the first of what is left of the first item
 abbrev pub offered_of : List Item → List ℕ
 offered_of [] = []
@@ -114,9 +118,13 @@ taken_back Ending layers = undone layers
 taken_back (Line place) layers = at_place place layers
 taken_back origin layers = layers
 
+-- The mark that the sending direction is done is taken back.
+abbrev pub unmark_done : Held → Held
+unmark_done s = record s { sending = record s.sending { done = false } }
+
 -- the end of the link's direction is taken back, where no layer stands on it
 abbrev pub reopened : List Placed → Held → Held
-reopened [] s = record s { sending = record s.sending { done = false } }
+reopened [] s = unmark_done s
 reopened (layer ∷ below) s = s
 
 -- What has no item is the end of the link's direction. An item of which nothing has gone leaves the queue; else the direction is broken.

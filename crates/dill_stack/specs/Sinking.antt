@@ -10,7 +10,6 @@ use Rattle.dill_stack.specs.Held.{Held}
 use Rattle.dill_stack.specs.Dropping.{dropped_within}
 use Rattle.dill_stack.specs.Receiving.{Looked, looked_over}
 use Rattle.dill_stack.specs.Rooms.{Stocked}
-use Rattle.dill_stack.specs.Taking.{joined_left}
 
 -- a look of a detach that drops at most so many items
 abbrev pub look_within : ℕ → Stream → Held → Looked
@@ -25,7 +24,7 @@ pub record GoesOn (before now : Stocked) (random left : Stream) : Type 0 where
 -- It stops with this answer.
 pub record StopsWith (said : ReadOut) (before now : Stocked) (random left : Stream) : Type 0 where
   pub same : (n : ℕ) → length before.held.unread < n → look_within n random before.held ≡ record { stack = now.held; said = said; random = left }
-  pub rest : now ≡ record before { held = now.held; joined = joined_left now.held.layers before.joined }
+  pub rest : now ≡ record before { held = now.held }
 
 -- what was done, as it is told
 abbrev pub Sinks : DropStep → (before now : Stocked) → (random left : Stream) → Type 0

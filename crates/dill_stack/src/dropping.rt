@@ -6,7 +6,7 @@ ghost use Rattle.dill_stack.specs.Read.{no_more};
 ghost use Rattle.dill_stack.specs.Receiving.{ws_of};
 ghost use Rattle.dill_stack.specs.Standing.{ends_of};
 ghost use Rattle.dill_stack.specs.Stepping.{next_pass};
-ghost use Rattle.dill_stack.specs.Taking.{behind, joined_left, IsWithin};
+ghost use Rattle.dill_stack.specs.Taking.{behind, IsWithin};
 
 use crate::layer::Top;
 use crate::placed::{Base, HttpLayer, Place, TermLayer};
@@ -33,7 +33,7 @@ impl Stack {
     pub(crate) fn drop_one(&mut self) -> DropStep
         requires last { next_pass 16384 self.old.held ≡ None }
         ensures step { result ≡ step_of (next_dropped self.old.held) }
-        ensures after { self.new ≡ record self.old { held = behind (outcome_of (next_dropped self.old.held)) self.old.held; joined = joined_left (outcome_of (next_dropped self.old.held)).layers self.old.joined } }
+        ensures after { self.new ≡ record self.old { held = behind (outcome_of (next_dropped self.old.held)) self.old.held } }
     {
         self.stands();
         if self.has_frames() {
@@ -47,7 +47,7 @@ impl Stack {
         requires last { next_pass 16384 self.old.held ≡ None }
         requires framed { is_some (ws_of self.old.held.layers) ≡ true }
         ensures step { result ≡ step_of (next_dropped self.old.held) }
-        ensures after { self.new ≡ record self.old { held = behind (outcome_of (next_dropped self.old.held)) self.old.held; joined = joined_left (outcome_of (next_dropped self.old.held)).layers self.old.joined } }
+        ensures after { self.new ≡ record self.old { held = behind (outcome_of (next_dropped self.old.held)) self.old.held } }
     {
         self.stands();
         if self.has_top_met() {
@@ -75,10 +75,10 @@ impl Stack {
         }
     }
 
-    // The top layer is left; a WebSocket layer takes its room with it.
+    // The top layer is left.
     fn leave(&mut self)
         requires { is_some (ws_of self.old.held.layers) ≡ true }
-        ensures { self.new ≡ record self.old { held = record self.old.held { layers = below_layers self.old.held.layers }; joined = joined_left (below_layers self.old.held.layers) self.old.joined } }
+        ensures { self.new ≡ record self.old { held = record self.old.held { layers = below_layers self.old.held.layers } } }
     {
         match self.terms.as_slice() {
             [] => self.base = Base::Bytes,
@@ -116,7 +116,7 @@ impl Stack {
     fn drop_close(&mut self) -> DropStep
         requires { is_some (ws_of self.old.held.layers) ≡ true }
         ensures step { result ≡ step_of (close_dropped self.old.held.layers) }
-        ensures after { self.new ≡ record self.old { held = behind (outcome_of (close_dropped self.old.held.layers)) self.old.held; joined = joined_left (outcome_of (close_dropped self.old.held.layers)).layers self.old.joined } }
+        ensures after { self.new ≡ record self.old { held = behind (outcome_of (close_dropped self.old.held.layers)) self.old.held } }
     {
         match self.top() {
             Top::Term => DropStep::Stops(ReadOut::Fault(Errno::Epipe)),
@@ -183,7 +183,6 @@ impl Stack {
 
     // The layer on the link is left, and so many bytes are used.
     fn leave_link(&mut self, used: usize)
-        requires plain { ws_of self.old.held.layers ≡ None }
         requires bare { ends_of self.old.held.layers ≡ [] }
         requires within { used ≤ length self.old.held.unread }
         ensures { self.new ≡ record self.old { held = record self.old.held { layers = []; unread = drop used self.old.held.unread } } }

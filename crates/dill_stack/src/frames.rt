@@ -1,8 +1,8 @@
 ghost use Rattle.std.specs.Prelude.{◌≡◌, ◌≢◌, ◌≤◌, ◌<◌, ◌+◌, ◌-◌, length, take, drop, nat_lt, if◌then◌else◌, true, false, Some, None};
 ghost use Rattle.dill_ws.specs.Frames.{length_bits, masked};
-ghost use Rattle.dill_stack.specs.Framing.{IsTold, JoinsWithin, LinkPasses, Passes, front_told};
+ghost use Rattle.dill_stack.specs.Framing.{IsTold, LinkPasses, Passes, front_told};
 ghost use Rattle.dill_stack.specs.Rooms.{roomy};
-ghost use Rattle.dill_stack.specs.Standing.{ws_layer};
+ghost use Rattle.dill_stack.specs.Standing.{JoinsWithin, ws_layer};
 ghost use Rattle.dill_stack.specs.WsReading.{Short, Whole, by_head, has_length, is_data, is_fault, length_at, part_of, passes_limit, with_part, ws_front};
 
 use crate::payload::Payload;

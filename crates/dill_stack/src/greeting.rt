@@ -1,22 +1,20 @@
-ghost use Rattle.std.specs.Prelude.{◌≡◌, ◌≤◌, ◌<◌, ◌+◌, [], true, false, length, OnOk, OnErr, IfOk};
+ghost use Rattle.std.specs.Prelude.{◌≡◌, ◌≤◌, ◌<◌, ◌+◌, [], true, false, length, None, OnOk, OnErr};
 ghost use Rattle.dill_stack.specs.Attaching.{expect_greet, greet_fault};
 ghost use Rattle.dill_stack.specs.Doing.{Sends, Changes};
-ghost use Rattle.dill_stack.specs.Greeting.{greet, greeted, greeting, nonce, offer_fault, heard_by};
+ghost use Rattle.dill_stack.specs.Greeting.{greet, greeted, nonce, offer_fault, heard_by};
 ghost use Rattle.dill_stack.specs.Held.{Greets, Expects, Answers};
 ghost use Rattle.dill_stack.specs.Needs.{needs_head, head_need};
-ghost use Rattle.dill_stack.specs.Rooms.{roomy};
 ghost use Rattle.dill_stack.specs.Sending.{is_sent};
-ghost use Rattle.dill_stack.specs.Standing.{HasJoinedRoom};
 
 use crate::attaching::joined_room;
 use crate::dropping::no_more;
 use crate::fault::StackFault;
 use crate::origin::Origin;
 use crate::placed::{Base, Framed};
+use crate::queue::Queue;
 use crate::refusals::{first_fault, is_invalid, is_refused};
 use crate::stack::Stack;
 use crate::task::Task;
-use crate::unread::Unread;
 use crate::want::ReadOut;
 use dill_base::{Errno, Front, NoMemory};
 use dill_calls::Answer;
@@ -30,8 +28,8 @@ use rand_core::Rng;
 const HEAD: usize = 138;
 
 impl Stack {
-    /// The handshake of a client begins: its layer stands on top from now on, with room for 16,384 joined bytes, and its
-    /// head is queued.
+    /// The handshake of a client begins: its layer stands on top from now on, with room for what it joins, and its head is
+    /// queued.
     ///
     /// EINVAL: a resource or a host that isn't one or more bytes 21 to 7e. EPIPE: the link's direction is done.
     /// ECONNRESET: a direction is broken. EMSGSIZE: a line of over 8,192 bytes, or a head of over 16,384.
@@ -44,15 +42,15 @@ impl Stack {
     ) -> Result<(), StackFault>
         requires bare { self.old.held.layers ≡ [] }
         requires sent { is_sent self.old.held ≡ true }
-        ensures done { Sends (greet text resource.now host.now (R.stream keys.old) self.old.held) result self.old self.new (R.stream keys.old) (R.stream keys.new) }
-        ensures joined { HasJoinedRoom self.new.held.layers self.new.joined }
+        ensures { Sends (greet text resource.now host.now (R.stream keys.old) self.old.held) result self.old self.new (R.stream keys.old) (R.stream keys.new) }
     {
-        let done = self.offer(text, resource, host, keys);
-        self.stands();
-        done
+        match self.offer_fault(resource, host) {
+            Some(e) => Err(StackFault::Refused(e)),
+            None => self.offer(text, resource, host, keys),
+        }
     }
 
-    // The same, but for the room.
+    // A handshake that isn't refused begins.
     fn offer<R: Rng>(
         &mut self,
         text: bool,
@@ -62,15 +60,27 @@ impl Stack {
     ) -> Result<(), StackFault>
         requires bare { self.old.held.layers ≡ [] }
         requires sent { is_sent self.old.held ≡ true }
+        requires free { offer_fault resource.now host.now self.old.held ≡ None }
         ensures { Sends (greet text resource.now host.now (R.stream keys.old) self.old.held) result self.old self.new (R.stream keys.old) (R.stream keys.new) }
     {
-        if let Some(e) = self.offer_fault(resource, host) {
-            return Err(StackFault::Refused(e));
-        }
-        match self.make_greeting_room(resource, host) {
-            Ok(joined) => {
+        let Ok(joined) = joined_room(self.alloc, self.most) else {
+            return Err(StackFault::NoMemory);
+        };
+        match make_head_room(&mut self.queue, resource, host) {
+            Ok(()) => {
                 let key = key_text(draw_nonce(keys));
-                self.push_greeting(text, resource, host, &key, joined);
+                self.queue.push_head(resource, host, &key);
+                self.task = Task::Greets {
+                    accept: accept_of(&key),
+                };
+                self.put_on_link(Base::Ws(Framed {
+                    side: Side::Client,
+                    text,
+                    joining: None,
+                    joined,
+                    met: false,
+                    closed: false,
+                }));
                 Ok(())
             }
             Err(_) => Err(StackFault::NoMemory),
@@ -91,70 +101,11 @@ impl Stack {
         )
     }
 
-    // A client's head and its layer get room.
-    fn make_greeting_room(&mut self, resource: &[u8], host: &[u8]) -> Result<Unread, NoMemory>
-        ensures joined { IfOk result (λ j. j ≡ roomy [] 16384) }
-        ensures ok { OnOk result ((self.new ≡ record self.old { sending = self.new.sending }) × (self.old.sending ≤ self.new.sending) × (length resource.now + length host.now + HEAD ≤ self.new.sending)) }
-        ensures err { OnErr result (self.new ≡ self.old) }
-    {
-        let joined = joined_room(self.alloc)?;
-        let Some(lines) = resource.len().checked_add(host.len()) else {
-            return Err(NoMemory);
-        };
-        let Some(count) = lines.checked_add(HEAD) else {
-            return Err(NoMemory);
-        };
-        self.queue.make_room(count)?;
-        Ok(joined)
-    }
-
-    // Queues the head of a client that has this key, and puts its layer on the link.
-    fn push_greeting(
-        &mut self,
-        text: bool,
-        resource: &[u8],
-        host: &[u8],
-        key: &[u8; 24],
-        joined: Unread,
-    )
-        requires bare { self.old.held.layers ≡ [] }
-        requires sent { is_sent self.old.held ≡ true }
-        requires room { length resource.now + length host.now + HEAD ≤ self.old.sending }
-        requires joined { joined ≡ roomy [] 16384 }
-        ensures put { self.new ≡ record self.old { held = greeting text resource.now host.now key.now self.old.held; joined = self.new.joined } }
-        ensures more { self.old.joined ≤ self.new.joined }
-    {
-        self.queue.push_head(resource, host, key);
-        self.task = Task::Greets {
-            accept: accept_of(key),
-        };
-        self.put_on_link(Base::Ws(Framed {
-            side: Side::Client,
-            text,
-            joining: None,
-            joined,
-            met: false,
-            closed: false,
-        }));
-    }
-
-    /// The handshake of a server begins: its layer stands on top from now on, with room for 16,384 joined bytes, and waits
-    /// for the client's head.
+    /// The handshake of a server begins: its layer stands on top from now on, with room for what it joins, and waits for the
+    /// client's head.
     ///
     /// EPIPE: the link's direction is done. ECONNRESET: a direction is broken.
     pub fn expect_greet(&mut self, text: bool) -> Result<(), StackFault>
-        requires bare { self.old.held.layers ≡ [] }
-        requires sent { is_sent self.old.held ≡ true }
-        ensures done { Changes (expect_greet text self.old.held) result self.old self.new }
-        ensures joined { HasJoinedRoom self.new.held.layers self.new.joined }
-    {
-        let done = self.expect(text);
-        self.stands();
-        done
-    }
-
-    // The same, but for the room.
-    fn expect(&mut self, text: bool) -> Result<(), StackFault>
         requires bare { self.old.held.layers ≡ [] }
         requires sent { is_sent self.old.held ≡ true }
         ensures { Changes (expect_greet text self.old.held) result self.old self.new }
@@ -264,6 +215,20 @@ impl Stack {
             Asked::Fault(e) => ReadOut::Fault(e),
         }
     }
+}
+
+// A client's head gets room.
+fn make_head_room(queue: &mut Queue, resource: &[u8], host: &[u8]) -> Result<(), NoMemory>
+    ensures ok { OnOk result ((queue.new ≡ record queue.old { room = queue.new.room }) × (queue.old.room ≤ queue.new.room) × (length resource.now + length host.now + HEAD ≤ queue.new.room)) }
+    ensures err { OnErr result (queue.new ≡ queue.old) }
+{
+    let Some(lines) = resource.len().checked_add(host.len()) else {
+        return Err(NoMemory);
+    };
+    let Some(count) = lines.checked_add(HEAD) else {
+        return Err(NoMemory);
+    };
+    queue.make_room(count)
 }
 
 // Sixteen bytes of four random numbers.

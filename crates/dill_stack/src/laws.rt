@@ -7,6 +7,7 @@ ghost use Rattle.dill_stack.specs.FrameDropping.{FrameDropLaws};
 ghost use Rattle.dill_stack.specs.Joining.{JoiningLaws};
 ghost use Rattle.dill_stack.specs.LineReading.{LineReadLaws};
 ghost use Rattle.dill_stack.specs.Messages.{MessageLaws};
+ghost use Rattle.dill_stack.specs.Needs.{NeedLaws};
 ghost use Rattle.dill_stack.specs.Passing.{PassesFrames};
 ghost use Rattle.dill_stack.specs.Staying.{FrontStays};
 ghost use Rattle.dill_stack.specs.TermFrameDropping.{TermFrameDropLaws};
@@ -24,6 +25,11 @@ pub fn framing_laws()
     prefix_laws();
     suffix_laws();
 }
+
+/// What a receive, a handshake or a detach may need is no more than there is room for.
+pub fn need_laws()
+    ensures { NeedLaws }
+{}
 
 /// A WebSocket layer passes whole frames that don't end a message, and all of them.
 pub fn passing_laws()

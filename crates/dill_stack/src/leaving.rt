@@ -11,7 +11,6 @@ ghost use Rattle.dill_stack.specs.Parting.{parting_fault, is_cut_off, with_parti
 ghost use Rattle.dill_stack.specs.Sending.{is_sent, is_pong, item_of};
 ghost use Rattle.dill_stack.specs.Standing.{tower, base_layers, has_end_of, is_top_done, is_frames_top, base_key, closed_base};
 ghost use Rattle.dill_stack.specs.Leaving.{all_dropped};
-ghost use Rattle.dill_stack.specs.Taking.{joined_left};
 ghost use Rattle.dill_stack.specs.Needs.{parting_need};
 ghost use Rattle.dill_stack.specs.Held.{Idle, Leaves, Plain};
 ghost use Rattle.dill_stack.specs.Dropping.{is_given};
@@ -39,16 +38,16 @@ impl Stack {
     ///
     /// ECONNRESET: a direction is broken. EPIPE: it has an end to send, and the direction is done or a layer below has sent
     /// its end.
-    pub fn detach_start<R: Rng>(&mut self, parting: Parting, keys: &mut R) -> Result<(), Errno>
+    pub fn detach_start<R: Rng>(&mut self, parting: &Parting, keys: &mut R) -> Result<(), Errno>
         requires sent { is_sent self.old.held ≡ true }
-        requires allowed { is_allowed_parting parting ≡ true }
-        ensures { Ends (detach_start parting (R.stream keys.old) self.old.held) result self.old self.new (R.stream keys.old) (R.stream keys.new) }
+        requires allowed { is_allowed_parting parting.now ≡ true }
+        ensures { Ends (detach_start parting.now (R.stream keys.old) self.old.held) result self.old self.new (R.stream keys.old) (R.stream keys.new) }
     {
         match self.parting_fault() {
             Some(e) => Err(e),
             None => {
                 let key = draw(self.masks_parting(), keys);
-                self.start(&parting, key);
+                self.start(parting, key);
                 Ok(())
             }
         }
@@ -72,9 +71,9 @@ impl Stack {
         self.queue_parting(parting, key);
     }
 
-    // The errno with which a detach ends at its entry.
+    /// The errno with which a detach that is past its refusals ends at its entry.
     #[tactic(auto, unfolding(crate::specs::Parting::parting_fault))]
-    fn parting_fault(&self) -> Option<Errno>
+    pub fn parting_fault(&self) -> Option<Errno>
         ensures { result ≡ parting_fault self.now.held }
     {
         if self.is_broken() {
@@ -103,14 +102,13 @@ impl Stack {
     }
 
     /// A detach goes on: once all that was queued has gone, it drops what is there, and is answered when it has met the
-    /// peer's end. Where it awaits more, fewer than 16,416 bytes are unread. A WebSocket layer's room for joined bytes goes
-    /// with the layer. It takes no memory.
+    /// peer's end. Where it awaits more, fewer than 16,416 bytes are unread. It takes no memory.
     ///
     /// EPIPE: the end of a layer below was met, or the peer has ended at a boundary. EPROTO: it has ended inside, or what
     /// stands there is refused. EMSGSIZE: a message has more than 16,384 bytes, or a line more than 8,192.
     pub fn detach_finish<R: Rng>(&mut self, keys: &mut R) -> ReadOut
         ensures said { result ≡ (detach_finish (R.stream keys.old) self.old.held).said }
-        ensures stack { self.new ≡ record self.old { held = (detach_finish (R.stream keys.old) self.old.held).stack; joined = joined_left (detach_finish (R.stream keys.old) self.old.held).stack.layers self.old.joined } }
+        ensures stack { self.new ≡ record self.old { held = (detach_finish (R.stream keys.old) self.old.held).stack } }
         ensures random { R.stream keys.new ≡ (detach_finish (R.stream keys.old) self.old.held).random }
         ensures short { result ≡ ReadOut.Need → is_sent self.new.held ≡ true → 1 ≤ length self.old.held.layers → length self.new.held.unread < parting_need }
     {
@@ -124,7 +122,7 @@ impl Stack {
     // The same, but for what stays unread.
     fn finish<R: Rng>(&mut self, keys: &mut R) -> ReadOut
         ensures look { detach_finish (R.stream keys.old) self.old.held ≡ record { stack = self.new.held; said = result; random = R.stream keys.new } }
-        ensures rest { self.new ≡ record self.old { held = self.new.held; joined = joined_left self.new.held.layers self.old.joined } }
+        ensures rest { self.new ≡ record self.old { held = self.new.held } }
     {
         self.stands();
         if !self.is_sent() {
@@ -147,7 +145,7 @@ impl Stack {
     // Drops what is there until the peer's end was met.
     fn drop_all<R: Rng>(&mut self, keys: &mut R) -> ReadOut
         ensures look { looked_over (all_dropped self.old.held) (R.stream keys.old) self.old.held ≡ record { stack = self.new.held; said = result; random = R.stream keys.new } }
-        ensures rest { self.new ≡ record self.old { held = self.new.held; joined = joined_left self.new.held.layers self.old.joined } }
+        ensures rest { self.new ≡ record self.old { held = self.new.held } }
     {
         let most = self.unread_count();
         for _item in 0..most + 1 {

@@ -1,12 +1,12 @@
-ghost use Rattle.std.specs.Prelude.{◌≡◌, ◌≤◌, ◌∷◌, ◌&&◌, [], not, length, true, None};
+ghost use Rattle.std.specs.Prelude.{◌≡◌, ◌≤◌, ◌∷◌, ◌&&◌, [], not, length, max, true, None};
 ghost use Rattle.dill_stack.specs.declared.want.Want.TheVariants as want;
 ghost use Rattle.dill_ws.specs.Frames.{frame_bytes};
 ghost use Rattle.dill_stack.specs.Framing.{PassesNext, StackPasses, answers_of, key_in, masks_of};
-ghost use Rattle.dill_stack.specs.Layers.{HasMessages, IsStanding};
+ghost use Rattle.dill_stack.specs.Layers.{IsStanding};
 ghost use Rattle.dill_stack.specs.Receiving.{read, with_pong, with_pongs_of, ws_of};
 ghost use Rattle.dill_stack.specs.Standing.{is_open_base};
 ghost use Rattle.dill_stack.specs.Stepping.{PassesNothing, next_pass};
-ghost use Rattle.dill_stack.specs.Taking.{FitsTop, joined_of};
+ghost use Rattle.dill_stack.specs.Needs.{limit_of_want};
 
 use crate::direction::Direction;
 use crate::frames::{Pass, pass_on_link};
@@ -21,14 +21,11 @@ use rand_core::Rng;
 impl Stack {
     // All frames at the front that this receive passes are passed, and pongs are queued.
     pub(crate) fn pass_frames<R: Rng>(&mut self, want: Want, keys: &mut R)
-        requires joined { joined_of want (ws_of self.old.held.layers) ≤ self.old.joined }
+        requires joined { limit_of_want want ≤ max 16384 self.old.most }
         requires standing { IsStanding self.old.held.layers }
-        requires fits { FitsTop want self.old.held.layers }
         ensures same { read want (R.stream keys.new) self.new.held ≡ read want (R.stream keys.old) self.old.held }
         ensures last { PassesNothing want self.new.held }
         ensures rest { self.new ≡ record self.old { held = self.new.held } }
-        ensures fits { FitsTop want self.new.held.layers }
-        ensures joined { joined_of want (ws_of self.new.held.layers) ≤ self.new.joined }
     {
         if let Want::Message(limit) = want {
             self.pass_all(limit, keys);
@@ -37,14 +34,11 @@ impl Stack {
 
     // The same for a message of at most so many bytes.
     fn pass_all<R: Rng>(&mut self, limit: usize, keys: &mut R)
-        requires joined { joined_of (want.Message limit) (ws_of self.old.held.layers) ≤ self.old.joined }
+        requires joined { limit ≤ max 16384 self.old.most }
         requires standing { IsStanding self.old.held.layers }
-        requires fits { HasMessages self.old.held.layers }
         ensures same { read (want.Message limit) (R.stream keys.new) self.new.held ≡ read (want.Message limit) (R.stream keys.old) self.old.held }
         ensures last { next_pass limit self.new.held ≡ None }
         ensures rest { self.new ≡ record self.old { held = self.new.held } }
-        ensures fits { HasMessages self.new.held.layers }
-        ensures joined { joined_of (want.Message limit) (ws_of self.new.held.layers) ≤ self.new.joined }
     {
         let most = self.unread_count();
         for _frame in 0..most {
@@ -64,7 +58,7 @@ impl Stack {
 
     // A frame at the front is passed, if there is one to pass, and its pong is queued. Says whether there was one.
     pub(crate) fn pass_next<R: Rng>(&mut self, limit: usize, keys: &mut R) -> bool
-        requires { joined_of (want.Message limit) (ws_of self.old.held.layers) ≤ self.old.joined }
+        requires { limit ≤ max 16384 self.old.most }
         ensures { PassesNext limit result self.old self.new (R.stream keys.old) (R.stream keys.new) }
     {
         match self.pass_one(limit) {
@@ -79,7 +73,7 @@ impl Stack {
 
     // The same, but for the pong. Where the end of a layer was met, none is passed.
     fn pass_one(&mut self, limit: usize) -> Pass
-        requires { joined_of (want.Message limit) (ws_of self.old.held.layers) ≤ self.old.joined }
+        requires { limit ≤ max 16384 self.old.most }
         ensures { StackPasses limit result self.old self.new }
     {
         if has_met(self.terms.as_slice(), &self.base) {

@@ -1,5 +1,7 @@
-ghost use Rattle.std.specs.Prelude.{◌≡◌, ◌≤◌, ◌<◌, length, max, is_some, true, None, OnOk, OnErr, IfSome};
-ghost use Rattle.dill_stack.specs.Needs.{need};
+ghost use Rattle.std.specs.Prelude.{◌≡◌, ◌≤◌, ◌<◌, ◌+◌, ◌-◌, length, max, is_some, true, None, OnOk, OnErr, IfSome};
+ghost use Rattle.dill_stack.specs.Answering.{FitsGiven, HasRoom, KeepsRoom, Sizes, room_of, sizes};
+ghost use Rattle.dill_stack.specs.Formed.{IsFormed};
+ghost use Rattle.dill_stack.specs.Needs.{limit_of_want, need, unread_bound};
 ghost use Rattle.dill_stack.specs.declared.want.Want.TheVariants as want;
 ghost use Rattle.dill_stack.specs.Layers.{HasMessages, IsStanding};
 ghost use Rattle.dill_stack.specs.Read.{no_more};
@@ -7,11 +9,14 @@ ghost use Rattle.dill_stack.specs.Receiving.{read, read_of, ws_of, broken_by};
 ghost use Rattle.dill_stack.specs.Refusals.{is_met};
 ghost use Rattle.dill_stack.specs.Seeing.{joined_given, joined_in};
 ghost use Rattle.dill_stack.specs.Stepping.{PassesNothing, next_pass};
-ghost use Rattle.dill_stack.specs.Standing.{FitsBase, HasJoinedRoom, IsDroppable};
-ghost use Rattle.dill_stack.specs.Taking.{DrawsNone, size_of, second_of, joined_of, base_need, Reserved, FitsTop, room_after, second_after, after, base_front, IsWithin, any_met, lowest, meet, taken};
+ghost use Rattle.dill_stack.specs.Standing.{FitsBase, IsDroppable};
+ghost use Rattle.dill_stack.specs.Taking.{DrawsNone, FitsTop, after, base_front, IsWithin, any_met, lowest, meet, taken};
 
+use crate::attaching::JOINED;
+use crate::layer::Top;
 use crate::placed::{Base, TermLayer};
 use crate::refusals::has_met;
+use crate::room::AnswerRoom;
 use crate::seeing::Seen;
 use crate::stack::Stack;
 use crate::want::{ReadOut, Want};
@@ -24,13 +29,11 @@ use rand_core::Rng;
 /// The most bytes that one read of the link brings.
 const PIECE: usize = 4_096;
 
-/// The most bytes of the payload of a control frame, and of the head of a frame.
-const CONTROL: usize = 125;
+/// The most bytes of what spells a message besides it.
+const SPELLING: usize = 32;
 
-const HEAD: usize = 14;
-
-/// The most bytes of a line, without its CRLF.
-const LINE_LIMIT: usize = 8_192;
+/// The unread bytes for which there is room besides one more read, whatever a receive asks for.
+const FIRST_NEED: usize = 28_672;
 
 // What stands at the front for the layer on the link.
 pub(crate) fn front_on_link(base: &Base, bytes: &[u8], limit: usize) -> Front
@@ -75,176 +78,103 @@ pub(crate) fn meet_at(terms: &mut Vec<TermLayer>, at: usize)
     terms[at].met = true;
 }
 
-// The most bytes of its second part.
-fn second_size(want: Want) -> usize
-    ensures { result ≡ second_of want }
-{
-    match want {
-        Want::Exact(_) => 0,
-        Want::Message(_) => 0,
-        _ => LINE_LIMIT,
-    }
-}
-
-// How many unread bytes a message of at most so many may need, unless they are more than can be told.
-fn message_need(base: &Base, limit: usize) -> Option<usize>
-    ensures { IfSome result (λ n. n ≡ base_need limit base.now) }
-{
-    match base {
-        Base::Prefix(form) => limit.checked_add(form.size as usize),
-        Base::Suffix(end) => limit.checked_add(end.as_slice().len()),
-        Base::Ws(_) => limit.max(CONTROL).checked_add(HEAD),
-        _ => Some(limit),
-    }
-}
-
-// The most bytes of an answer.
-fn answer_size(want: Want) -> usize
-    ensures { result ≡ size_of want }
+// The bytes that it asks for by a number.
+fn limit_of(want: Want) -> usize
+    ensures { result ≡ limit_of_want want }
 {
     match want {
         Want::Exact(size) => size,
         Want::Message(limit) => limit,
-        _ => LINE_LIMIT,
+        _ => 0,
     }
 }
 
+// Room for one more read where this is the most that a receive has asked for, unless it is more than can be told.
+fn unread_room(most: usize) -> Option<usize>
+    ensures { IfSome result (λ n. n ≡ unread_bound most + 4096) }
+{
+    let Some(needed) = most.checked_add(SPELLING) else {
+        return None;
+    };
+    needed.max(FIRST_NEED).checked_add(PIECE)
+}
+
 impl Stack {
-    /// Makes room for what this receive may need, for its answer, and for what it joins. Refused, it changes nothing.
+    /// Makes room for what this receive may need, and for what it joins. Refused, it changes nothing.
     pub fn reserve(&mut self, want: Want) -> Result<(), NoMemory>
-        ensures ok { OnOk result (Reserved want self.old self.new) }
+        ensures ok { OnOk result (self.new ≡ record self.old { most = max self.old.most (limit_of_want want) }) }
         ensures err { OnErr result (self.new ≡ self.old) }
     {
-        let Some(needed) = self.needed(want) else {
+        let most = self.most.max(limit_of(want));
+        let Some(room) = unread_room(most) else {
             return Err(NoMemory);
         };
-        let Some(room) = needed.checked_add(PIECE) else {
-            return Err(NoMemory);
-        };
-        let before = self.unread.room();
         self.unread.make_room(room)?;
-        match self.make_answer_room(want) {
-            Ok(()) => Ok(()),
-            Err(_) => {
-                self.unread.keep_room(before);
-                Err(NoMemory)
-            }
-        }
-    }
-
-    // Makes room for its answer and for what it joins, or leaves the rooms that there are.
-    fn make_answer_room(&mut self, want: Want) -> Result<(), NoMemory>
-        ensures ok { OnOk result (self.new ≡ record self.old { answer = max self.old.answer (size_of want); second = max self.old.second (second_of want); joined = max self.old.joined (joined_of want (ws_of self.old.held.layers)) }) }
-        ensures err { OnErr result (self.new ≡ self.old) }
-    {
-        let before = self.answer.room();
-        self.answer.make_room(answer_size(want))?;
-        match self.make_second_room(want) {
-            Ok(()) => Ok(()),
-            Err(_) => {
-                self.answer.keep_room(before);
-                Err(NoMemory)
-            }
-        }
-    }
-
-    // Makes room for the second part of its answer and for what it joins, or leaves the rooms that there are.
-    fn make_second_room(&mut self, want: Want) -> Result<(), NoMemory>
-        ensures ok { OnOk result (self.new ≡ record self.old { second = max self.old.second (second_of want); joined = max self.old.joined (joined_of want (ws_of self.old.held.layers)) }) }
-        ensures err { OnErr result (self.new ≡ self.old) }
-    {
-        let before = self.second.room();
-        self.second.make_room(second_size(want))?;
-        match self.make_joined_room(want) {
-            Ok(()) => Ok(()),
-            Err(_) => {
-                self.second.keep_room(before);
-                Err(NoMemory)
-            }
-        }
-    }
-
-    // Makes room for what it joins, or leaves the room that there is.
-    fn make_joined_room(&mut self, want: Want) -> Result<(), NoMemory>
-        ensures ok { OnOk result (self.new ≡ record self.old { joined = max self.old.joined (joined_of want (ws_of self.old.held.layers)) }) }
-        ensures err { OnErr result (self.new ≡ self.old) }
-    {
-        match want {
-            Want::Message(limit) => self.base.make_room(limit),
-            _ => Ok(()),
-        }
-    }
-
-    // How many unread bytes it may need.
-    fn needed(&self, want: Want) -> Option<usize>
-        ensures { IfSome result (λ n. n ≡ need want self.now.held) }
-    {
-        match want {
-            Want::Exact(size) => Some(size),
-            Want::Message(limit) => message_need(&self.base, limit),
-            _ => Some(LINE_LIMIT + 2),
-        }
+        self.base.make_room(JOINED.max(most))?;
+        self.most = most;
+        Ok(())
     }
 
     /// The answer to this receive, from all that is unread. Where more bytes are awaited, fewer are unread than it may
-    /// need, so that there is room for another 4,096. It takes no memory.
+    /// need, so that there is room for another 4,096. Where the top has no such items, more are awaited. It takes no memory.
     ///
     /// EPIPE: an end stands there or was met before, or the peer has ended at a boundary; for bytes, fewer are there than
     /// asked. EPROTO: the peer has ended inside, or what stands there is refused. EMSGSIZE: it passes the limit. The last
     /// two break the receiving direction.
-    pub fn read<R: Rng>(&mut self, want: Want, keys: &mut R) -> ReadOut
-        requires reserved { size_of want ≤ self.old.answer }
-        requires second { second_of want ≤ self.old.second }
-        requires joined { joined_of want (ws_of self.old.held.layers) ≤ self.old.joined }
-        requires fits { FitsTop want self.old.held.layers }
+    pub fn read<R: Rng>(&mut self, want: Want, room: &mut AnswerRoom, keys: &mut R) -> ReadOut
+        requires room { HasRoom want room.old }
+        requires reserved { limit_of_want want ≤ self.old.most }
         ensures said { result ≡ (read want (R.stream keys.old) self.old.held).said }
-        ensures stack { self.new ≡ record self.old { held = (read want (R.stream keys.old) self.old.held).stack; answer = room_after result self.old.answer; second = second_after result self.old.second } }
+        ensures stack { self.new ≡ record self.old { held = (read want (R.stream keys.old) self.old.held).stack } }
         ensures random { R.stream keys.new ≡ (read want (R.stream keys.old) self.old.held).random }
-        ensures short { result ≡ ReadOut.Need → length self.new.held.unread < need want self.old.held }
+        ensures kept { KeepsRoom result room.old room.new }
+        ensures copied { (r : Sizes) → HasRoom want r → FitsGiven result r }
+        ensures short { FitsTop want self.old.held.layers → result ≡ ReadOut.Need → length self.new.held.unread < need want self.old.held }
+        ensures ready { FitsTop want self.old.held.layers → result ≡ ReadOut.Need → length self.new.held.unread ≤ unread_bound self.new.most }
     {
         prefix_laws();
         suffix_laws();
         http_laws();
         self.stands();
         self.pass_frames(want, keys);
-        self.look(want)
+        self.look(want, room)
     }
 
-    // Its layers stand on one another as they may, with short lengths and terminators, and a WebSocket layer among them
-    // has room for what it joins.
-    pub(crate) fn stands(&self)
+    /// Its layers stand on one another as they may, with short lengths, terminators and terminal messages.
+    pub fn stands(&self)
         ensures standing { IsStanding self.now.held.layers }
-        ensures joined { HasJoinedRoom self.now.held.layers self.now.joined }
+        ensures formed { IsFormed self.now.held.layers }
         ensures bounded { 1 ≤ length self.now.held.layers → IsDroppable self.now.held.layers }
-        ensures none { ws_of self.now.held.layers ≡ None → self.now.joined ≡ 0 }
     {
         let _ = &self.base;
     }
 
     // The answer to this receive, which passes nothing more and draws no random number.
-    fn look(&mut self, want: Want) -> ReadOut
-        requires reserved { size_of want ≤ self.old.answer }
-        requires second { second_of want ≤ self.old.second }
-        requires joined { joined_of want (ws_of self.old.held.layers) ≤ self.old.joined }
-        requires fits { FitsTop want self.old.held.layers }
+    fn look(&mut self, want: Want, room: &mut AnswerRoom) -> ReadOut
+        requires room { HasRoom want room.old }
+        requires joined { limit_of_want want ≤ max 16384 self.old.most }
         requires last { PassesNothing want self.old.held }
         ensures said { result ≡ (read_of want self.old.held).said }
         ensures after { self.new ≡ after (read_of want self.old.held) self.old }
         ensures plain { DrawsNone (read_of want self.old.held) self.old.held }
+        ensures kept { KeepsRoom result room.old room.new }
+        ensures within { FitsGiven result (room_of want) }
     {
         match want {
-            Want::Exact(count) => self.read_exactly(count),
-            Want::Message(limit) => self.read_message(limit),
-            _ => self.read_line(want),
+            Want::Exact(count) => self.read_exactly(count, room),
+            Want::Message(limit) => self.read_message(limit, room),
+            _ => self.read_line(want, room),
         }
     }
 
     #[tactic(auto, using(crate::proofs::TowerReads::draws_none), unfolding(crate::specs::Read::read_list))]
-    fn read_exactly(&mut self, count: usize) -> ReadOut
-        requires { count ≤ self.old.answer }
+    fn read_exactly(&mut self, count: usize, room: &mut AnswerRoom) -> ReadOut
+        requires { count ≤ room.old.first }
         ensures said { result ≡ (read_of (want.Exact count) self.old.held).said }
         ensures after { self.new ≡ after (read_of (want.Exact count) self.old.held) self.old }
         ensures plain { DrawsNone (read_of (want.Exact count) self.old.held) self.old.held }
+        ensures kept { KeepsRoom result room.old room.new }
+        ensures within { FitsGiven result (sizes count 0) }
     {
         if self.unread.as_slice().len() < count {
             return if self.receiving.done {
@@ -253,25 +183,31 @@ impl Stack {
                 ReadOut::Need
             };
         }
-        let given = self.answer.hand_out(&self.unread.as_slice()[..count]);
+        let given = room.give(&self.unread.as_slice()[..count]);
         self.unread.use_up(count);
         ReadOut::Given(Answer::Bytes(given))
     }
 
+    // A message. Bytes and a head have none.
     #[tactic(auto, using(crate::proofs::TowerReads::draws_plain))]
-    fn read_message(&mut self, limit: usize) -> ReadOut
-        requires reserved { limit ≤ self.old.answer }
-        requires joined { joined_of (want.Message limit) (ws_of self.old.held.layers) ≤ self.old.joined }
-        requires fits { HasMessages self.old.held.layers }
+    fn read_message(&mut self, limit: usize, room: &mut AnswerRoom) -> ReadOut
+        requires room { limit ≤ room.old.first }
+        requires joined { limit ≤ max 16384 self.old.most }
         requires last { next_pass limit self.old.held ≡ None }
         ensures said { result ≡ (read_of (want.Message limit) self.old.held).said }
         ensures after { self.new ≡ after (read_of (want.Message limit) self.old.held) self.old }
         ensures plain { DrawsNone (read_of (want.Message limit) self.old.held) self.old.held }
+        ensures kept { KeepsRoom result room.old room.new }
+        ensures within { FitsGiven result (sizes limit 0) }
     {
         if self.has_frames() {
-            return self.read_frames(limit);
+            return self.read_frames(limit, room);
         }
-        self.read_framed(limit)
+        match self.top() {
+            Top::Bytes => ReadOut::Need,
+            Top::Http => ReadOut::Need,
+            _ => self.read_framed(limit, room),
+        }
     }
 
     // A WebSocket layer is on the link.
@@ -283,40 +219,44 @@ impl Stack {
 
     // A message in the framing on the link.
     #[tactic(auto, using(crate::proofs::TowerReads::draws_plain))]
-    fn read_framed(&mut self, limit: usize) -> ReadOut
-        requires reserved { limit ≤ self.old.answer }
+    fn read_framed(&mut self, limit: usize, room: &mut AnswerRoom) -> ReadOut
+        requires room { limit ≤ room.old.first }
         requires fits { HasMessages self.old.held.layers }
         requires plain { ws_of self.old.held.layers ≡ None }
         ensures said { result ≡ (read_of (want.Message limit) self.old.held).said }
         ensures after { self.new ≡ after (read_of (want.Message limit) self.old.held) self.old }
         ensures plain { DrawsNone (read_of (want.Message limit) self.old.held) self.old.held }
+        ensures kept { KeepsRoom result room.old room.new }
+        ensures within { FitsGiven result (sizes limit 0) }
     {
         if any_met(self.terms.as_slice()) {
             return ReadOut::Fault(Errno::Epipe);
         }
         match front_on_link(&self.base, self.unread.as_slice(), limit) {
-            Front::Whole { from, to, used } => self.take_message(from, to, used),
+            Front::Whole { from, to, used } => self.take_message(from, to, used, room),
             Front::Need => self.nothing_whole(true),
             Front::Fault(e) => self.refuse(e),
         }
     }
 
     // A message of the WebSocket layer on the link, which passes nothing more.
-    fn read_frames(&mut self, limit: usize) -> ReadOut
-        requires reserved { limit ≤ self.old.answer }
-        requires joined { joined_of (want.Message limit) (ws_of self.old.held.layers) ≤ self.old.joined }
+    fn read_frames(&mut self, limit: usize, room: &mut AnswerRoom) -> ReadOut
+        requires room { limit ≤ room.old.first }
+        requires joined { limit ≤ max 16384 self.old.most }
         requires last { next_pass limit self.old.held ≡ None }
         requires framed { is_some (ws_of self.old.held.layers) ≡ true }
         ensures said { result ≡ (read_of (want.Message limit) self.old.held).said }
         ensures after { self.new ≡ after (read_of (want.Message limit) self.old.held) self.old }
         ensures plain { DrawsNone (read_of (want.Message limit) self.old.held) self.old.held }
+        ensures kept { KeepsRoom result room.old room.new }
+        ensures within { FitsGiven result (sizes limit 0) }
     {
         self.stands();
         if self.has_met() {
             return ReadOut::Fault(Errno::Epipe);
         }
         match self.see(limit) {
-            Seen::Message => self.give_joined(),
+            Seen::Message => self.give_joined(room),
             Seen::Close => ReadOut::Fault(Errno::Epipe),
             Seen::Open(boundary) => self.nothing_whole(boundary),
             Seen::Refused(e) => self.refuse(e),
@@ -331,10 +271,12 @@ impl Stack {
     }
 
     // The message that was joined is an end of a layer, or the answer.
-    fn give_joined(&mut self) -> ReadOut
-        requires { length (joined_in self.old.held.layers) ≤ self.old.answer }
+    fn give_joined(&mut self, room: &mut AnswerRoom) -> ReadOut
+        requires { length (joined_in self.old.held.layers) ≤ room.old.first }
         ensures said { result ≡ (joined_given self.old.held).said }
         ensures after { self.new ≡ after (joined_given self.old.held) self.old }
+        ensures kept { KeepsRoom result room.old room.new }
+        ensures within { FitsGiven result (sizes (length (joined_in self.old.held.layers)) 0) }
     {
         match lowest_of(self.terms.as_slice(), self.base.joined()) {
             Some(at) => {
@@ -343,7 +285,7 @@ impl Stack {
                 ReadOut::Fault(Errno::Epipe)
             }
             None => {
-                let given = self.answer.hand_out(self.base.joined());
+                let given = room.give(self.base.joined());
                 self.base.empty();
                 ReadOut::Given(Answer::Bytes(given))
             }
@@ -351,10 +293,18 @@ impl Stack {
     }
 
     // The whole message at the front is an end of a layer, or the answer.
-    fn take_message(&mut self, from: usize, to: usize, used: usize) -> ReadOut
-        requires { IsWithin self.old.answer self.old.held.unread (Front.Whole from to used) }
+    fn take_message(
+        &mut self,
+        from: usize,
+        to: usize,
+        used: usize,
+        room: &mut AnswerRoom,
+    ) -> ReadOut
+        requires { IsWithin room.old.first self.old.held.unread (Front.Whole from to used) }
         ensures said { result ≡ (taken from to used self.old.held).said }
         ensures after { self.new ≡ after (taken from to used self.old.held) self.old }
+        ensures kept { KeepsRoom result room.old room.new }
+        ensures within { FitsGiven result (sizes (to - from) 0) }
     {
         let message = &self.unread.as_slice()[from..to];
         match lowest_of(self.terms.as_slice(), message) {
@@ -364,7 +314,7 @@ impl Stack {
                 ReadOut::Fault(Errno::Epipe)
             }
             None => {
-                let given = self.answer.hand_out(message);
+                let given = room.give(message);
                 self.unread.use_up(used);
                 ReadOut::Given(Answer::Bytes(given))
             }

@@ -1,13 +1,10 @@
-ghost use Rattle.std.specs.Prelude.{◌≡◌, ◌≢◌, ◌≤◌, ◌+◌, ◌==◌, ◌&&◌, not, length, is_some, true, false, None};
-ghost use Rattle.dill_stack.specs.declared.want.Want.TheVariants as want;
+ghost use Rattle.std.specs.Prelude.{◌≡◌, ◌≢◌, ◌≤◌, ◌+◌, ◌==◌, ◌&&◌, not, length, max, is_some, true, false, None};
 ghost use Rattle.std.specs.Str.{is_utf8};
-ghost use Rattle.dill_stack.specs.Framing.{JoinsWithin};
 ghost use Rattle.dill_stack.specs.Receiving.{ws_of};
 ghost use Rattle.dill_stack.specs.Refusals.{is_met};
 ghost use Rattle.dill_stack.specs.Seeing.{LinkSees, PassesNone, Sees, StackSees};
-ghost use Rattle.dill_stack.specs.Standing.{ws_layer};
+ghost use Rattle.dill_stack.specs.Standing.{JoinsWithin, ws_layer};
 ghost use Rattle.dill_stack.specs.Stepping.{next_pass};
-ghost use Rattle.dill_stack.specs.Taking.{joined_of};
 ghost use Rattle.dill_stack.specs.WsReading.{Whole, part_of, pass_by_front, pass_of, ws_front};
 
 use crate::frames::{FrameFront, front_of, payload_of, use_frame};
@@ -31,7 +28,7 @@ pub(crate) enum Seen {
 impl Stack {
     // What stands at the front, where a WebSocket layer is on the link and passes nothing.
     pub(crate) fn see(&mut self, limit: usize) -> Seen
-        requires joined { joined_of (want.Message limit) (ws_of self.old.held.layers) ≤ self.old.joined }
+        requires joined { limit ≤ max 16384 self.old.most }
         requires last { next_pass limit self.old.held ≡ None }
         requires unmet { is_met self.old.held.layers ≡ false }
         requires framed { is_some (ws_of self.old.held.layers) ≡ true }

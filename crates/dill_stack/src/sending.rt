@@ -1,14 +1,14 @@
-ghost use Rattle.std.specs.Prelude.{◌≡◌, ◌+◌, ◌≤◌, ◌++◌, [], not, length, max, true, false, None, Ok, OnOk, OnErr, IfErr, if◌then◌else◌};
+ghost use Rattle.std.specs.Prelude.{◌≡◌, ◌+◌, ◌≤◌, ◌++◌, [], not, length, true, false, None, Ok, OnOk, OnErr, IfErr, if◌then◌else◌};
 ghost use Rattle.dill_stack.specs.declared.fault.StackFault.TheVariants as fault;
 ghost use Rattle.dill_stack.specs.Composed.{drawn_key, is_masking, random_after};
 ghost use Rattle.std.specs.List.{list_any};
 ghost use Rattle.rand_core.specs.Stream.{Stream};
-ghost use Rattle.dill_stack.specs.Held.{Plain};
+ghost use Rattle.dill_stack.specs.Held.{Line, Plain};
 ghost use Rattle.dill_stack.specs.Layers.{AmongFields};
 ghost use Rattle.dill_stack.specs.Refusals.{send_fault};
 ghost use Rattle.dill_stack.specs.Doing.{Sends, Ends, Changes, IsKey, on_link, below_end};
-ghost use Rattle.dill_stack.specs.Standing.{FitsBase, HasEnds, base_layers, tower, ends_of, ending_of, done_top, undone_top};
-ghost use Rattle.dill_stack.specs.Sending.{is_sent, is_pong, done, with_end, frame, line as lined, queued, with_line, withdraw, reopened, taken_back};
+ghost use Rattle.dill_stack.specs.Standing.{FitsBase, HasEnds, base_at_place, base_layers, tower, ends_of, ending_of, done_top, undone_top};
+ghost use Rattle.dill_stack.specs.Sending.{is_sent, is_pong, item_of, sending_place, done, with_end, frame, line as lined, queued, with_line, withdraw, reopened, taken_back};
 
 use crate::fault::StackFault;
 use crate::framing::{FRAMING, push_framed};
@@ -17,7 +17,7 @@ use crate::origin::Origin;
 use crate::placed::{Base, Place, TermLayer};
 use crate::queue::Queue;
 use crate::stack::Stack;
-use dill_base::{Errno, NoMemory, Octets};
+use dill_base::{Errno, Octets};
 use rand_core::Rng;
 
 impl Stack {
@@ -29,36 +29,37 @@ impl Stack {
         requires sent { is_sent self.old.held ≡ true }
         ensures { Sends (frame message.now (R.stream keys.old) self.old.held) result self.old self.new (R.stream keys.old) (R.stream keys.new) }
     {
-        if let Some(e) = self.send_fault(message, false) {
-            return Err(StackFault::Refused(e));
+        match self.send_fault(message, false) {
+            Some(e) => Err(StackFault::Refused(e)),
+            None => self.put_message(message, keys),
         }
-        match self.make_message_room(message) {
+    }
+
+    // Queues a message that isn't refused.
+    fn put_message<R: Rng>(&mut self, message: &[u8], keys: &mut R) -> Result<(), StackFault>
+        requires sent { is_sent self.old.held ≡ true }
+        requires free { send_fault message.now false self.old.held ≡ None }
+        ensures { Sends (frame message.now (R.stream keys.old) self.old.held) result self.old self.new (R.stream keys.old) (R.stream keys.new) }
+    {
+        self.spells(message);
+        let masks = self.masks();
+        match self.queue.make_room(message.len() + FRAMING) {
             Ok(()) => {
-                let key = draw(self.masks(), keys);
-                self.push_message(message, key);
+                let key = draw(masks, keys);
+                push_framed(&mut self.queue, &self.base, Origin::Plain, message, key);
                 Ok(())
             }
             Err(_) => Err(StackFault::NoMemory),
         }
     }
 
-    // A message that isn't refused gets room in its framing.
-    fn make_message_room(&mut self, message: &[u8]) -> Result<(), NoMemory>
-        requires free { send_fault message.now false self.old.held ≡ None }
-        ensures due { (random : Stream) → frame message.now random self.old.held ≡ Ok (queued Plain (on_link (drawn_key random).0 self.old.held.layers message.now) self.old.held, random_after self.old.held.layers random) }
-        ensures ok { OnOk result (self.new ≡ record self.old { sending = max self.old.sending (length message.now + FRAMING) }) }
-        ensures err { OnErr result (self.new ≡ self.old) }
+    // A message that isn't refused is short, and is queued in its framing.
+    fn spells(&self, message: &[u8])
+        requires { send_fault message.now false self.now.held ≡ None }
+        ensures short { length message.now ≤ 1048576 }
+        ensures due { (random : Stream) → frame message.now random self.now.held ≡ Ok (queued Plain (on_link (drawn_key random).0 self.now.held.layers message.now) self.now.held, random_after self.now.held.layers random) }
     {
-        self.queue.make_room(message.len() + FRAMING)
-    }
-
-    // Queues a message for which there is room. It takes no memory.
-    fn push_message(&mut self, message: &[u8], key: [u8; 4])
-        requires sent { is_sent self.old.held ≡ true }
-        requires room { length message.now + FRAMING ≤ self.old.sending }
-        ensures { self.new ≡ record self.old { held = queued Plain (on_link key self.old.held.layers message.now) self.old.held } }
-    {
-        push_framed(&mut self.queue, &self.base, Origin::Plain, message, key);
+        let _ = &self.base;
     }
 
     // Some layer masks what is sent.
@@ -92,28 +93,17 @@ impl Stack {
     // Queues a line that isn't refused.
     fn queue_line(&mut self, line: &[u8]) -> Result<(), StackFault>
         requires sent { is_sent self.old.held ≡ true }
-        ensures ok { OnOk result (self.new ≡ record self.old { held = with_line AmongFields line.now self.old.held; sending = max self.old.sending (length line.now) }) }
+        ensures ok { OnOk result (self.new ≡ record self.old { held = with_line AmongFields line.now self.old.held }) }
         ensures err { OnErr result (self.new ≡ self.old) }
         ensures memory { IfErr result (λ e. e ≡ fault.NoMemory) }
     {
         match self.queue.make_room(line.len()) {
             Ok(()) => {
-                self.push_line(line, Place::AmongFields);
+                push_line(&mut self.queue, &mut self.base, line, Place::AmongFields);
                 Ok(())
             }
             Err(_) => Err(StackFault::NoMemory),
         }
-    }
-
-    // Queues a line of a head, which stands at this place behind it. It takes no memory.
-    fn push_line(&mut self, line: &[u8], place: Place)
-        requires sent { is_sent self.old.held ≡ true }
-        requires room { length line.now ≤ self.old.sending }
-        ensures { self.new ≡ record self.old { held = with_line place line.now self.old.held } }
-    {
-        let before = self.base.sending_place();
-        self.queue.push(Origin::Line(before), &[], line);
-        self.base.set_place(place);
     }
 
     /// The end of the top layer, or of the link's direction where no layer stands on it. It takes no memory.
@@ -154,7 +144,12 @@ impl Stack {
     {
         match self.base {
             Base::Bytes => self.sending.done = true,
-            Base::Http(_) => self.push_line(b"\r\n", Place::BehindEmpty),
+            Base::Http(_) => push_line(
+                &mut self.queue,
+                &mut self.base,
+                b"\r\n",
+                Place::BehindEmpty,
+            ),
             _ => {}
         }
     }
@@ -210,6 +205,18 @@ fn push_ending(queue: &mut Queue, base: &Base, terms: &mut Vec<TermLayer>, key: 
         push_framed(queue, base, Origin::Ending, term.terminal.as_slice(), key);
         term.done = true;
     }
+}
+
+// Queues a line of a head, which stands at this place behind it. It takes no memory.
+fn push_line(queue: &mut Queue, base: &mut Base, line: &[u8], place: Place)
+    requires sent { not (list_any (λ item. not (is_pong item)) queue.old.items) ≡ true }
+    requires room { length line.now ≤ queue.old.room }
+    ensures queued { queue.new ≡ record queue.old { items = queue.old.items ++ item_of (Line (sending_place (base_layers base.old))) line.now } }
+    ensures placed { base.new ≡ base_at_place place base.old }
+{
+    let before = base.sending_place();
+    queue.push(Origin::Line(before), &[], line);
+    base.set_place(place);
 }
 
 // Some layer masks the end of the top layer.

@@ -1,7 +1,6 @@
 use Rattle.std.proofs.Common.{◌∙◌, ap, sym}
 use Rattle.dill_stack.specs.Held.{Held}
 use Rattle.dill_stack.specs.Receiving.{Looked}
-use Rattle.dill_stack.specs.Taking.{joined_left}
 use Rattle.dill_stack.proofs.DropShort.{finish_short}
 use Rattle.dill_stack.proofs.stack.Stack.detach_finish.Goals as goal
 
@@ -9,7 +8,7 @@ pub returns-clause-said : goal.returns-clause-said
 returns-clause-said g c = sym (ap (λ (l : Looked). l.said) c.finish.ensures.look)
 
 pub returns-clause-stack : goal.returns-clause-stack
-returns-clause-stack g c = c.finish.ensures.rest ∙ ap {A = Held} (λ h. record c.args.self.now { held = h; joined = joined_left h.layers c.args.self.now.joined }) (sym (ap (λ (l : Looked). l.stack) c.finish.ensures.look))
+returns-clause-stack g c = c.finish.ensures.rest ∙ ap {A = Held} (λ h. record c.args.self.now { held = h }) (sym (ap (λ (l : Looked). l.stack) c.finish.ensures.look))
 
 pub returns-clause-random : goal.returns-clause-random
 returns-clause-random g c = sym (ap (λ (l : Looked). l.random) c.finish.ensures.look)

@@ -1,18 +1,16 @@
-use Rattle.std.proofs.Common.{◌≤◌, ◌∙◌, arith, sym, ap, subst}
+use Rattle.std.proofs.Common.{◌≤◌, ◌∙◌, arith, max, sym, ap, subst}
 use Rattle.rand_core.specs.Stream.{Stream}
 use Rattle.dill_stack.specs.declared.want.Want.TheVariants.{Message}
-use Rattle.dill_stack.specs.Layers.{HasMessages}
-use Rattle.dill_stack.specs.Receiving.{read, ws_of}
+use Rattle.dill_stack.specs.Receiving.{read}
 use Rattle.dill_stack.specs.Rooms.{Stocked}
-use Rattle.dill_stack.specs.Taking.{joined_of}
 use Rattle.dill_stack.proofs.Passers.{reaches_first, reaches_on, reaches_end}
 use Rattle.dill_stack.proofs.stack.Stack.pass_all.Goals as goal
 
 pub loop-frame-init : goal.loop-frame-init
-loop-frame-init g c = reaches_first c.args.limit c.unread_count-most.result c.args.self.now (g.R.Rng.stream c.args.keys.now) c.requires.fits c.requires.standing c.requires.joined (omega (arith, c.unread_count-most.ensures.count))
+loop-frame-init g c = reaches_first c.args.limit c.unread_count-most.result c.args.self.now (g.R.Rng.stream c.args.keys.now) c.requires.standing (omega (arith, c.unread_count-most.ensures.count))
 
 pub pass_next-requires : goal.pass_next-requires
-pass_next-requires g c = c.loop-frame.invariant.joined
+pass_next-requires g c = subst (λ (s : Stocked). c.args.limit ≤ max 16384 s.most) (sym c.loop-frame.invariant.rest) c.requires.joined
 
 pub returns-then-not-pass_next-clause-same : goal.returns-then-not-pass_next-clause-same
 returns-then-not-pass_next-clause-same g c = ap {A = Stocked} (λ s. read (Message c.args.limit) (g.R.Rng.stream c.pass_next.new.keys) s.held) c.if-not-pass_next.ensures.1 ∙ ap {A = Stream} (λ r. read (Message c.args.limit) r c.loop-frame.self.held) c.if-not-pass_next.ensures.2 ∙ c.loop-frame.invariant.same
@@ -22,12 +20,6 @@ returns-then-not-pass_next-clause-last g c = rw c.if-not-pass_next.ensures.1 c.i
 
 pub returns-then-not-pass_next-clause-rest : goal.returns-then-not-pass_next-clause-rest
 returns-then-not-pass_next-clause-rest g c = c.if-not-pass_next.ensures.1 ∙ c.loop-frame.invariant.rest ∙ ap {A = Stocked} (λ s. record c.args.self.now { held = s.held }) (sym c.if-not-pass_next.ensures.1)
-
-pub returns-then-not-pass_next-clause-fits : goal.returns-then-not-pass_next-clause-fits
-returns-then-not-pass_next-clause-fits g c = subst (λ (s : Stocked). HasMessages s.held.layers) (sym c.if-not-pass_next.ensures.1) c.loop-frame.invariant.fits
-
-pub returns-then-not-pass_next-clause-joined : goal.returns-then-not-pass_next-clause-joined
-returns-then-not-pass_next-clause-joined g c = subst (λ (s : Stocked). joined_of (Message c.args.limit) (ws_of s.held.layers) ≤ s.joined) (sym c.if-not-pass_next.ensures.1) c.loop-frame.invariant.joined
 
 pub loop-frame-preserved : goal.loop-frame-preserved
 loop-frame-preserved g c = reaches_on c.args.limit c.unread_count-most.result c.loop-frame._frame c.args.self.now c.loop-frame.self c.pass_next.new.self (g.R.Rng.stream c.args.keys.now) (g.R.Rng.stream c.loop-frame.keys) (g.R.Rng.stream c.pass_next.new.keys) c.loop-frame.invariant c.if-not-pass_next.ensures
@@ -40,9 +32,3 @@ returns-clause-last g c = reaches_end c.args.limit c.unread_count-most.result c.
 
 pub returns-clause-rest : goal.returns-clause-rest
 returns-clause-rest g c = c.loop-frame.invariant.rest
-
-pub returns-clause-fits : goal.returns-clause-fits
-returns-clause-fits g c = c.loop-frame.invariant.fits
-
-pub returns-clause-joined : goal.returns-clause-joined
-returns-clause-joined g c = c.loop-frame.invariant.joined

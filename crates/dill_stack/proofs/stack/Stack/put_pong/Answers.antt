@@ -11,6 +11,6 @@ pub returns : goal.returns
 returns c =
     let old : Stocked = the_view c.self.inside in
     let pong : c.new.result ≡ frame_bytes true 10 (key_in (ws_of c.args.self.now.held.layers) c.args.key) c.args.payload.now = c.new.ensures ∙ ap (λ k. frame_bytes true 10 k c.args.payload.now) (c.frame_key.ensures ∙ key_is c.self.inside.terms.items c.self.inside.base c.args.key ∙ ap (λ (s : Stocked). key_in (ws_of s.held.layers) c.args.key) c.self.view_is) in
-    ap {A = Queued} (λ q. record old { held = record old.held { queue = q.items }; sending = q.room }) c.put_pong.ensures
+    ap {A = Queued} (λ q. record old { held = record old.held { queue = q.items } }) c.put_pong.ensures
     ∙ ap (λ m. record old { held = record old.held { queue = with_pong m old.held.queue } }) pong
     ∙ ap {A = Stocked} (λ s. record s { held = record s.held { queue = with_pong (frame_bytes true 10 (key_in (ws_of c.args.self.now.held.layers) c.args.key) c.args.payload.now) s.held.queue } }) c.self.view_is

@@ -1,4 +1,4 @@
-use Rattle.std.proofs.Common.{◌≡◌, ◌∙◌, sym, ap, subst, true}
+use Rattle.std.proofs.Common.{◌≡◌, ◌-◌, ◌∙◌, arith, sym, ap, subst, true}
 use Rattle.dill_base.specs.declared.errno.Errno.TheVariants.{Epipe}
 use Rattle.dill_stack.specs.declared.want.ReadOut.TheVariants.{Fault}
 use Rattle.dill_stack.specs.declared.want.Want.TheVariants.{Message}
@@ -8,6 +8,8 @@ use Rattle.dill_stack.specs.Read.{outcome, read_list, no_more}
 use Rattle.dill_stack.specs.Receiving.{read_of, ws_of}
 use Rattle.dill_stack.specs.Standing.{base_layers}
 use Rattle.dill_stack.specs.Taking.{after, any_met, taken, base_front}
+use Rattle.dill_stack.specs.Answering.{sizes}
+use Rattle.dill_stack.proofs.Copies.{fits_more}
 use Rattle.dill_stack.proofs.TowerReads.{read_met, reads_whole, reads_need, reads_fault, stays_met, need_after, framing_base}
 use Rattle.dill_stack.proofs.stack.Stack.read_framed.Goals as goal
 
@@ -51,3 +53,6 @@ returns-in-Fault-clause-said c = c.refuse.ensures.said ∙ sym (ap (λ o. o.said
 
 pub returns-in-Fault-clause-after : goal.returns-in-Fault-clause-after
 returns-in-Fault-clause-after c = c.refuse.ensures.after ∙ sym (ap (λ o. after o c.args.self.now) (was_fault c))
+
+pub returns-in-Whole-clause-within : goal.returns-in-Whole-clause-within
+returns-in-Whole-clause-within c = fits_more c.take_message.result (sizes (c.in-Whole.to - c.in-Whole.from) 0) (sizes c.args.limit 0) c.in-Whole.ensures.within.3 (omega arith) c.take_message.ensures.within

@@ -7,6 +7,8 @@ use Rattle.dill_stack.specs.Receiving.{read_of, broken_by}
 use Rattle.dill_stack.specs.Rooms.{Stocked}
 use Rattle.dill_stack.specs.Seeing.{joined_by, joined_in}
 use Rattle.dill_stack.specs.Taking.{after}
+use Rattle.dill_stack.specs.Answering.{sizes}
+use Rattle.dill_stack.proofs.Copies.{fits_more}
 use Rattle.dill_stack.proofs.Seers.{list_is, met_message, joined_there, reads_close, reads_open, reads_refused, reads_given, reads_pings}
 use Rattle.dill_stack.proofs.TowerReads.{draws_none, need_after, stays_met}
 use Rattle.dill_stack.proofs.stack.Stack.read_frames.Goals as goal
@@ -26,8 +28,12 @@ returns-then-has_met-clause-plain c = draws_none (read_of (Message c.args.limit)
 pub give_joined-requires : goal.give_joined-requires
 give_joined-requires c =
     let j : joined_in c.see.new.self.held.layers ≡ c.in-Message.ensures.all = ap joined_by (joined_there c.args.limit c.args.self.now c.see.new.self c.in-Message.ensures) in
-    let a : c.see.new.self.answer ≡ c.args.self.now.answer = ap {A = Stocked} (λ s. s.answer) c.in-Message.ensures.now_is in
-    omega (arith, ap length j, a, c.in-Message.ensures.within, c.requires.reserved)
+    omega (arith, ap length j, c.in-Message.ensures.within, c.requires.room)
+
+pub returns-in-Message-clause-within : goal.returns-in-Message-clause-within
+returns-in-Message-clause-within c =
+    let j : joined_in c.see.new.self.held.layers ≡ c.in-Message.ensures.all = ap joined_by (joined_there c.args.limit c.args.self.now c.see.new.self c.in-Message.ensures) in
+    fits_more c.give_joined.result (sizes (length (joined_in c.see.new.self.held.layers)) 0) (sizes c.args.limit 0) (omega (arith, ap length j, c.in-Message.ensures.within)) (omega arith) c.give_joined.ensures.within
 
 pub returns-in-Message-clause-said : goal.returns-in-Message-clause-said
 returns-in-Message-clause-said c = c.give_joined.ensures.said ∙ sym (reads_given c.args.limit c.args.self.now c.see.new.self c.stands.ensures.standing (sym c.has_met.ensures ∙ c.if-has_met.false) c.in-Message.ensures).0 ∙ sym (ap (λ (o : Outcome). o.said) (list_is c.args.limit c.args.self.now.held))
