@@ -1,7 +1,7 @@
 -- Bytes that go out in pieces.
-use Rattle.std.proofs.Common.{◌≡◌, ◌∙◌, ℕ, ◌+◌, ◌<◌, List, ◌++◌, length, take, drop, Option, [], refl, sym, ap, subst, arith, append_assoc, length-append, take-append-drop, append-nil}
+use Rattle.std.proofs.Common.{◌≡◌, ◌∙◌, ℕ, ◌<◌, List, ◌++◌, length, take, drop, Option, [], refl, sym, ap, subst, arith, append_assoc, length-append, take-append-drop, append-nil}
 use Rattle.std.specs.Io.KnownBytes.{Appends}
-use Rattle.dill_base.specs.Sinks.{AppendsPart, IsPart}
+use Rattle.dill_base.specs.Sinks.{AppendsPart}
 use Rattle.relay_trace.specs.Flows.{Flows}
 use Rattle.relay_trace.proofs.Flowing.{appends_none, appends_trans}
 

@@ -1,13 +1,11 @@
-use Rattle.std.proofs.Common.{List, ℕ, Option, Bool, true, false, ◌≡◌, refl, ap, subst}
+use Rattle.std.proofs.Common.{refl, ap, subst}
 use Rattle.dill_drive.specs.declared.run_end.RunEnd.TheVariants as ends
 use Rattle.dill_drive.specs.Asks.{Counted}
 use Rattle.dill_drive.specs.ByRules.{machine_of}
 use Rattle.dill_drive.specs.Tells.{Concludes}
-use Rattle.dill_core.specs.Begun.{has_begun}
 use Rattle.dill_rules.specs.State.{opening_state}
-use Rattle.dill_meaning.specs.Views.{ScriptView, main_of}
+use Rattle.dill_meaning.specs.Views.{ScriptView}
 use Rattle.relay_body.specs.Running.{running}
-use Rattle.relay_main.specs.Outcome.{Still}
 use Rattle.relay_main.proofs.Shown.{unmoved}
 use Rattle.relay_main.proofs.running.run_script.Goals as goal
 
