@@ -1,7 +1,7 @@
 #!/bin/sh
 # Times the parts of links, each called by hand: the least link that is due of many, connects with an echo over the
 # network in memory and over real sockets, and messages through two stacks in pieces of 4,096 bytes: behind a length of
-# four bytes, before a terminator of two, and as masked text frames.
+# four bytes, before a terminator of two, and as masked text frames. Each message takes room that is made for it alone.
 top=$(CDPATH='' cd -- "$(dirname -- "$0")/.." && pwd) || exit 1
 (cd "$top/crates/link_bench" && rt run) >/dev/null || exit 1
 program=$top/crates/link_bench/out/link_bench

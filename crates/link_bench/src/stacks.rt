@@ -1,5 +1,5 @@
-ghost use Rattle.std.specs.Prelude.{◌≡◌, true, []};
-ghost use Rattle.link_bench.specs.Ready.{IsReady};
+ghost use Rattle.std.specs.Prelude.{◌≡◌, true, [], IfOk};
+ghost use Rattle.link_bench.specs.Ready.{GoesOn, IsReady, IsReserved, IsSet};
 ghost use Rattle.link_bench.specs.declared.stacks.Look.TheVariants as look;
 ghost use Rattle.dill_stack.specs.declared.want.ReadOut.TheVariants as out;
 
@@ -7,7 +7,7 @@ use crate::counting::Counter;
 use dill_base::Octets;
 use dill_calls::Answer;
 use dill_frames::PrefixForm;
-use dill_stack::{Layer, ReadOut, Stack, StackFault, Top, Want};
+use dill_stack::{AnswerRoom, Layer, ReadOut, Stack, StackFault, Top, Want};
 use dill_ws::Side;
 use std::alloc::Global;
 
@@ -58,56 +58,99 @@ fn look_of(said: &ReadOut) -> Look
     }
 }
 
-/// Looks for a message of at most so many bytes.
-fn looked(stack: &mut Stack, limit: usize, keys: &mut Counter) -> Look
-    ensures { result ≡ look.Short → IsReady stack.new }
-{
-    if stack.reserve(Want::Message(limit)).is_err() {
-        return Look::Refused;
-    }
-    match stack.top() {
-        Top::Bytes => Look::Refused,
-        Top::Http => Look::Refused,
-        _ => {
-            let said = stack.read(Want::Message(limit), keys);
-            look_of(&said)
-        }
-    }
+/// A stack that takes messages of at most so many bytes, with room for the next one.
+#[derive(Drop)]
+struct Taker {
+    alloc: Global,
+    stack: Stack,
+    limit: usize,
+    room: AnswerRoom,
 }
 
-/// Reads the messages that are there, and adds how many bytes they have. Whether none was refused.
-fn drained(stack: &mut Stack, limit: usize, keys: &mut Counter, bytes: &mut usize) -> bool
-    ensures { result ≡ true → IsReady stack.new }
-{
-    for _ in 0..1_000u64 {
-        match looked(stack, limit, keys) {
-            Look::Message(count) => *bytes = bytes.saturating_add(count),
-            Look::Short => return true,
-            Look::Refused => return false,
+impl Taker {
+    /// What its stack needs for messages of this size is reserved once.
+    fn new(alloc: Global, mut stack: Stack, limit: usize) -> Result<Taker, StackFault>
+        ensures { IfOk result IsSet }
+    {
+        if stack.reserve(Want::Message(limit)).is_err() {
+            return Err(StackFault::NoMemory);
+        }
+        match AnswerRoom::new(alloc, Want::Message(limit)) {
+            Ok(room) => Ok(Taker {
+                alloc,
+                stack,
+                limit,
+                room,
+            }),
+            Err(_) => Err(StackFault::NoMemory),
         }
     }
-    false
+
+    /// Looks for a message. One that came has taken the room.
+    fn look(&mut self, keys: &mut Counter) -> Look
+        requires { IsSet self.old }
+        ensures reserved { IsReserved self.new }
+        ensures short { result ≡ look.Short → IsReady self.new }
+    {
+        match self.stack.top() {
+            Top::Bytes => Look::Refused,
+            Top::Http => Look::Refused,
+            _ => {
+                let said = self
+                    .stack
+                    .read(Want::Message(self.limit), &mut self.room, keys);
+                look_of(&said)
+            }
+        }
+    }
+
+    /// Looks for a message, and makes new room where one came.
+    fn next(&mut self, keys: &mut Counter) -> Look
+        requires { IsSet self.old }
+        ensures { GoesOn result self.new }
+    {
+        match self.look(keys) {
+            Look::Message(count) => match AnswerRoom::new(self.alloc, Want::Message(self.limit)) {
+                Ok(room) => {
+                    self.room = room;
+                    Look::Message(count)
+                }
+                Err(_) => Look::Refused,
+            },
+            Look::Short => Look::Short,
+            Look::Refused => Look::Refused,
+        }
+    }
+
+    /// Reads the messages that are there, and adds how many bytes they have. Whether none was refused.
+    fn drain(&mut self, keys: &mut Counter, bytes: &mut usize) -> bool
+        requires { IsSet self.old }
+        ensures { result ≡ true → IsReady self.new }
+    {
+        for _ in 0..1_000u64 {
+            match self.next(keys) {
+                Look::Message(count) => *bytes = bytes.saturating_add(count),
+                Look::Short => return true,
+                Look::Refused => return false,
+            }
+        }
+        false
+    }
 }
 
 /// Passes a piece of what is to be sent, and reads what is there then.
-fn passed(
-    from: &mut Stack,
-    to: &mut Stack,
-    limit: usize,
-    keys: &mut Counter,
-    bytes: &mut usize,
-) -> bool
+fn passed(from: &mut Stack, to: &mut Taker, keys: &mut Counter, bytes: &mut usize) -> bool
     requires { IsReady to.old }
     ensures { result ≡ true → IsReady to.new }
 {
     let count = from.offered().len().min(PIECE);
-    to.came(&from.offered()[..count]);
+    to.stack.came(&from.offered()[..count]);
     from.took(count);
-    drained(to, limit, keys, bytes)
+    to.drain(keys, bytes)
 }
 
 /// Passes all that is to be sent. Whether this many bytes of messages came.
-fn sent(from: &mut Stack, to: &mut Stack, size: usize, keys: &mut Counter) -> bool
+fn sent(from: &mut Stack, to: &mut Taker, size: usize, keys: &mut Counter) -> bool
     requires { IsReady to.old }
     ensures { result ≡ true → IsReady to.new }
 {
@@ -116,7 +159,7 @@ fn sent(from: &mut Stack, to: &mut Stack, size: usize, keys: &mut Counter) -> bo
         if from.is_sent() {
             return bytes == size;
         }
-        if !passed(from, to, size, keys, &mut bytes) {
+        if !passed(from, to, keys, &mut bytes) {
             return false;
         }
     }
@@ -124,7 +167,7 @@ fn sent(from: &mut Stack, to: &mut Stack, size: usize, keys: &mut Counter) -> bo
 }
 
 /// Passes a message from one stack to the other. Whether it came whole.
-fn goes(from: &mut Stack, to: &mut Stack, message: &[u8], keys: &mut Counter) -> bool
+fn goes(from: &mut Stack, to: &mut Taker, message: &[u8], keys: &mut Counter) -> bool
     requires { IsReady to.old }
     ensures { result ≡ true → IsReady to.new }
 {
@@ -134,11 +177,13 @@ fn goes(from: &mut Stack, to: &mut Stack, message: &[u8], keys: &mut Counter) ->
     sent(from, to, message.len(), keys)
 }
 
-/// Passes the message so many times. How often it came whole, until it didn't.
-fn times(from: &mut Stack, to: &mut Stack, message: &[u8], rounds: u64) -> u64 {
+/// Passes the message so many times, with new room for each that came. How often it came whole, until it didn't.
+fn times(from: &mut Stack, to: &mut Taker, message: &[u8], rounds: u64) -> u64
+    requires { IsSet to.old }
+{
     let mut keys = Counter(0);
     let mut bytes = 0usize;
-    if !drained(to, message.len(), &mut keys, &mut bytes) {
+    if !to.drain(&mut keys, &mut bytes) {
         return 0;
     }
     let mut went = 0u64;
@@ -160,5 +205,6 @@ pub fn messages(alloc: Global, kind: Kind, size: u64, rounds: u64) -> Result<u64
     put(alloc, &mut to, kind, Side::Server)?;
     let buf = [b'a'; 65_536];
     let size = size.min(65_536) as usize;
-    Ok(times(&mut from, &mut to, &buf[..size], rounds))
+    let mut taker = Taker::new(alloc, to, size)?;
+    Ok(times(&mut from, &mut taker, &buf[..size], rounds))
 }

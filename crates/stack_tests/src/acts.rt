@@ -1,31 +1,46 @@
+ghost use Rattle.std.specs.Prelude.{◌≡◌, ◌≤◌, ◌<◌, [], length, IfOk};
+
 use crate::counting::Counter;
 use crate::messages::{Kind, put};
 use dill_base::{Errno, Octets};
 use dill_calls::Answer;
-use dill_stack::{Parting, ReadOut, Stack, StackFault, Top, Want};
+use dill_stack::{AnswerRoom, Parting, ReadOut, Stack, StackFault, Want};
 use std::alloc::Global;
 use std::test::Fail;
 
-/// The most bytes that come at once to a new stack.
-pub const MOST: usize = 32_768;
+/// The most bytes that one read of a link brings.
+const PIECE: usize = 4_096;
 
-/// A stack to which these bytes have come.
-pub fn bare(alloc: Global, bytes: &[u8]) -> Result<Stack, Fail> {
-    if MOST < bytes.len() {
+/// So many pieces may come to a new stack.
+const PIECES: usize = 8;
+
+/// The next piece of what comes, of which so many pieces have come before. The last ones may be empty.
+fn piece_of(bytes: &[u8], before: usize) -> &[u8]
+    requires { before < 8 }
+    ensures { length result.now ≤ 4096 }
+{
+    let from = (before * PIECE).min(bytes.len());
+    let to = (from + PIECE).min(bytes.len());
+    &bytes[from..to]
+}
+
+/// A stack to which these bytes have come, in pieces.
+pub fn bare(alloc: Global, bytes: &[u8]) -> Result<Stack, Fail>
+    ensures { IfOk result (λ s. s.held.layers ≡ []) }
+{
+    if PIECES * PIECE < bytes.len() {
         return Err(Fail::from("too many bytes"));
     }
     let mut stack = Stack::new(alloc)?;
-    stack.came(bytes);
+    for before in 0..PIECES {
+        stack.came(piece_of(bytes, before));
+    }
     Ok(stack)
 }
 
 /// The same with a layer of this kind.
 pub fn stood(alloc: Global, bytes: &[u8], kind: Kind) -> Result<Stack, Fail> {
-    if MOST < bytes.len() {
-        return Err(Fail::from("too many bytes"));
-    }
-    let mut stack = Stack::new(alloc)?;
-    stack.came(bytes);
+    let mut stack = bare(alloc, bytes)?;
     match put(alloc, &mut stack, kind)? {
         Ok(()) => Ok(stack),
         Err(_) => Err(Fail::from("attach")),
@@ -82,26 +97,36 @@ pub fn sent(log: &mut Vec<u8>, stack: &mut Stack, message: &[u8]) -> Result<(), 
     }
 }
 
-/// The next so many bytes.
-pub fn exactly(log: &mut Vec<u8>, stack: &mut Stack, count: usize) -> Result<(), Fail> {
-    match stack.reserve(Want::Exact(count)) {
+/// What a receive finds, with room of its own for the answer.
+pub fn read(alloc: Global, stack: &mut Stack, want: Want) -> Result<ReadOut, Fail> {
+    match stack.reserve(want) {
         Ok(()) => {}
         Err(_) => return Err(Fail::from("memory")),
     }
-    note(log, &stack.read(Want::Exact(count), &mut Counter(0)))
+    let mut room = AnswerRoom::new(alloc, want)?;
+    Ok(stack.read(want, &mut room, &mut Counter(0)))
+}
+
+/// The next so many bytes.
+pub fn exactly(
+    alloc: Global,
+    log: &mut Vec<u8>,
+    stack: &mut Stack,
+    count: usize,
+) -> Result<(), Fail> {
+    let said = read(alloc, stack, Want::Exact(count))?;
+    note(log, &said)
 }
 
 /// A message of at most so many bytes.
-pub fn message(log: &mut Vec<u8>, stack: &mut Stack, limit: usize) -> Result<(), Fail> {
-    match stack.reserve(Want::Message(limit)) {
-        Ok(()) => {}
-        Err(_) => return Err(Fail::from("memory")),
-    }
-    match stack.top() {
-        Top::Bytes => Err(Fail::from("bytes")),
-        Top::Http => Err(Fail::from("a head")),
-        _ => note(log, &stack.read(Want::Message(limit), &mut Counter(0))),
-    }
+pub fn message(
+    alloc: Global,
+    log: &mut Vec<u8>,
+    stack: &mut Stack,
+    limit: usize,
+) -> Result<(), Fail> {
+    let said = read(alloc, stack, Want::Message(limit))?;
+    note(log, &said)
 }
 
 /// The errno with which a further receive of a message is refused, if there is one.
@@ -128,7 +153,7 @@ pub fn parted(log: &mut Vec<u8>, stack: &mut Stack) -> Result<(), Fail> {
     if !stack.is_sent() {
         return Err(Fail::from("pending"));
     }
-    match stack.detach_start(Parting::Plain, &mut Counter(0)) {
+    match stack.detach_start(&Parting::Plain, &mut Counter(0)) {
         Ok(()) => gone(log, stack)?,
         Err(e) => return note_fault(log, e),
     }

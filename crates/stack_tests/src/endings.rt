@@ -28,10 +28,10 @@ fn cut_short(alloc: Global, item: Item, front: &[u8]) -> Result<Vec<u8>, Fail> {
 }
 
 // Looks for a message, and once more behind the end of the link; what a further one is refused with stands behind it.
-fn looks_twice(log: &mut Vec<u8>, stack: &mut Stack) -> Result<(), Fail> {
-    message(log, stack, 64)?;
+fn looks_twice(alloc: Global, log: &mut Vec<u8>, stack: &mut Stack) -> Result<(), Fail> {
+    message(alloc, log, stack, 64)?;
     stack.ended();
-    message(log, stack, 64)?;
+    message(alloc, log, stack, 64)?;
     refused(log, stack, 64)
 }
 
@@ -42,7 +42,7 @@ fn message_cut_short(
     front: &[u8],
 ) -> Result<(), Fail> {
     let mut stack = stood(alloc, front, kind)?;
-    looks_twice(log, &mut stack)
+    looks_twice(alloc, log, &mut stack)
 }
 
 // What stands behind the lines of a request that are whole, where the link ends there.
@@ -50,7 +50,7 @@ fn request_cut_short(alloc: Global, log: &mut Vec<u8>, front: &[u8]) -> Result<(
     let mut lines = Vec::new(alloc);
     let mut stack = stood(alloc, front, Kind::Http)?;
     stack.ended();
-    let last = head(&mut lines, &mut stack)?;
+    let last = head(alloc, &mut lines, &mut stack)?;
     note(log, &last)
 }
 

@@ -12,7 +12,7 @@ fn front(
     limit: usize,
 ) -> Result<(), Fail> {
     let mut stack = stood(alloc, bytes, kind)?;
-    message(log, &mut stack, limit)?;
+    message(alloc, log, &mut stack, limit)?;
     refused(log, &stack, limit)
 }
 

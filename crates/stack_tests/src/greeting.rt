@@ -1,4 +1,4 @@
-use crate::acts::{MOST, gone, message, note, refused};
+use crate::acts::{bare, gone, message, note, refused};
 use crate::counting::Counter;
 use dill_stack::Stack;
 use std::alloc::Global;
@@ -6,11 +6,7 @@ use std::test::Fail;
 
 /// A server's handshake begins on a stack to which these bytes have come.
 pub fn expecting(alloc: Global, bytes: &[u8]) -> Result<Stack, Fail> {
-    if MOST < bytes.len() {
-        return Err(Fail::from("too many bytes"));
-    }
-    let mut stack = Stack::new(alloc)?;
-    stack.came(bytes);
+    let mut stack = bare(alloc, bytes)?;
     if !stack.is_sent() {
         return Err(Fail::from("pending"));
     }
@@ -22,11 +18,7 @@ pub fn expecting(alloc: Global, bytes: &[u8]) -> Result<Stack, Fail> {
 
 /// A client's handshake begins on a stack to which these bytes have come.
 pub fn asking(alloc: Global, bytes: &[u8]) -> Result<Stack, Fail> {
-    if MOST < bytes.len() {
-        return Err(Fail::from("too many bytes"));
-    }
-    let mut stack = Stack::new(alloc)?;
-    stack.came(bytes);
+    let mut stack = bare(alloc, bytes)?;
     if !stack.is_sent() {
         return Err(Fail::from("pending"));
     }
@@ -45,14 +37,14 @@ pub fn heard(log: &mut Vec<u8>, stack: &mut Stack) -> Result<(), Fail> {
 }
 
 /// A handshake of a server, and three receives with what they send.
-fn serves(log: &mut Vec<u8>, stack: &mut Stack) -> Result<(), Fail> {
+fn serves(alloc: Global, log: &mut Vec<u8>, stack: &mut Stack) -> Result<(), Fail> {
     heard(log, stack)?;
     gone(log, stack)?;
     heard(log, stack)?;
-    message(log, stack, 64)?;
-    message(log, stack, 64)?;
+    message(alloc, log, stack, 64)?;
+    message(alloc, log, stack, 64)?;
     gone(log, stack)?;
-    message(log, stack, 64)?;
+    message(alloc, log, stack, 64)?;
     refused(log, stack, 64)
 }
 
@@ -60,22 +52,22 @@ fn serves(log: &mut Vec<u8>, stack: &mut Stack) -> Result<(), Fail> {
 fn served(alloc: Global, bytes: &[u8]) -> Result<Vec<u8>, Fail> {
     let mut stack = expecting(alloc, bytes)?;
     let mut log = Vec::new(alloc);
-    serves(&mut log, &mut stack)?;
+    serves(alloc, &mut log, &mut stack)?;
     Ok(log)
 }
 
 /// A handshake of a client: what it sends, its look then, and a message.
-fn asks(log: &mut Vec<u8>, stack: &mut Stack) -> Result<(), Fail> {
+fn asks(alloc: Global, log: &mut Vec<u8>, stack: &mut Stack) -> Result<(), Fail> {
     gone(log, stack)?;
     heard(log, stack)?;
-    message(log, stack, 64)
+    message(alloc, log, stack, 64)
 }
 
 /// A client's session whose bytes come in one piece.
 fn asked(alloc: Global, bytes: &[u8]) -> Result<Vec<u8>, Fail> {
     let mut stack = asking(alloc, bytes)?;
     let mut log = Vec::new(alloc);
-    asks(&mut log, &mut stack)?;
+    asks(alloc, &mut log, &mut stack)?;
     Ok(log)
 }
 

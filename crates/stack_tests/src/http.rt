@@ -1,35 +1,10 @@
-use crate::acts::{done, exactly, gone, note, parted, stood};
-use crate::counting::Counter;
+use crate::acts::{done, exactly, gone, note, parted, read, stood};
 use crate::messages::Kind;
 use dill_base::Octets;
 use dill_http::write_status;
-use dill_stack::{ReadOut, Stack, Top, Want};
+use dill_stack::{ReadOut, Stack, Want};
 use std::alloc::Global;
 use std::test::Fail;
-
-/// Looks for the first line of a request.
-fn request(stack: &mut Stack) -> Result<ReadOut, Fail> {
-    match stack.reserve(Want::Request) {
-        Ok(()) => {}
-        Err(_) => return Err(Fail::from("memory")),
-    }
-    match stack.top() {
-        Top::Http => Ok(stack.read(Want::Request, &mut Counter(0))),
-        _ => Err(Fail::from("no head")),
-    }
-}
-
-/// Looks for a field.
-fn field(stack: &mut Stack) -> Result<ReadOut, Fail> {
-    match stack.reserve(Want::Field) {
-        Ok(()) => {}
-        Err(_) => return Err(Fail::from("memory")),
-    }
-    match stack.top() {
-        Top::Http => Ok(stack.read(Want::Field, &mut Counter(0))),
-        _ => Err(Fail::from("no head")),
-    }
-}
 
 fn is_given(said: &ReadOut) -> bool {
     match said {
@@ -39,14 +14,14 @@ fn is_given(said: &ReadOut) -> bool {
 }
 
 /// Writes down a request and its fields as far as they are given, and answers what isn't.
-pub fn head(log: &mut Vec<u8>, stack: &mut Stack) -> Result<ReadOut, Fail> {
-    let first = request(stack)?;
+pub fn head(alloc: Global, log: &mut Vec<u8>, stack: &mut Stack) -> Result<ReadOut, Fail> {
+    let first = read(alloc, stack, Want::Request)?;
     if !is_given(&first) {
         return Ok(first);
     }
     note(log, &first)?;
     for _at in 0..8u32 {
-        let said = field(stack)?;
+        let said = read(alloc, stack, Want::Field)?;
         if !is_given(&said) {
             return Ok(said);
         }
@@ -68,7 +43,7 @@ fn line(log: &mut Vec<u8>, stack: &mut Stack, line: Octets) -> Result<(), Fail> 
 
 /// A request is answered, the head is left, and three bytes are read.
 fn exchanges(alloc: Global, log: &mut Vec<u8>, stack: &mut Stack) -> Result<(), Fail> {
-    let last = head(log, stack)?;
+    let last = head(alloc, log, stack)?;
     note(log, &last)?;
     match write_status(alloc, 200, b"OK") {
         Ok(status) => line(log, stack, status)?,
@@ -76,7 +51,7 @@ fn exchanges(alloc: Global, log: &mut Vec<u8>, stack: &mut Stack) -> Result<(), 
     }
     done(log, stack)?;
     parted(log, stack)?;
-    exactly(log, stack, 3)
+    exactly(alloc, log, stack, 3)
 }
 
 fn exchanged(alloc: Global, bytes: &[u8]) -> Result<Vec<u8>, Fail> {
@@ -111,8 +86,8 @@ fn line_of(alloc: Global, count: u32) -> Result<Vec<u8>, Fail> {
 }
 
 /// Writes down what a receive finds: that a line is given, that more is awaited, or an errno.
-fn looks(log: &mut Vec<u8>, stack: &mut Stack) -> Result<(), Fail> {
-    let said = request(stack)?;
+fn looks(alloc: Global, log: &mut Vec<u8>, stack: &mut Stack) -> Result<(), Fail> {
+    let said = read(alloc, stack, Want::Request)?;
     match said {
         ReadOut::Given(_) => log.extend_from_slice(b"given;")?,
         other => note(log, &other)?,
@@ -124,7 +99,7 @@ fn looks(log: &mut Vec<u8>, stack: &mut Stack) -> Result<(), Fail> {
 fn found(alloc: Global, bytes: &[u8]) -> Result<Vec<u8>, Fail> {
     let mut stack = stood(alloc, bytes, Kind::Http)?;
     let mut log = Vec::new(alloc);
-    looks(&mut log, &mut stack)?;
+    looks(alloc, &mut log, &mut stack)?;
     Ok(log)
 }
 

@@ -15,13 +15,13 @@ fn leaves(alloc: Global, log: &mut Vec<u8>, stack: &mut Stack) -> Result<(), Fai
         code: 0,
         reason: Octets::new(alloc),
     };
-    match stack.detach_start(parting, &mut Counter(0)) {
+    match stack.detach_start(&parting, &mut Counter(0)) {
         Ok(()) => {}
         Err(_) => return Err(Fail::from("start")),
     }
     gone(log, stack)?;
     note(log, &stack.detach_finish(&mut Counter(7)))?;
-    exactly(log, stack, 3)
+    exactly(alloc, log, stack, 3)
 }
 
 /// The same of a WebSocket layer, to which these bytes have come.

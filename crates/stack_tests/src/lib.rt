@@ -18,4 +18,6 @@ mod leaving;
 #[cfg(test)]
 mod messages;
 #[cfg(test)]
+mod rooms;
+#[cfg(test)]
 mod sessions;

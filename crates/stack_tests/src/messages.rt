@@ -43,9 +43,9 @@ pub fn put(alloc: Global, stack: &mut Stack, kind: Kind) -> Result<Result<(), St
 }
 
 /// A message, a second one behind it, and what is to be sent then.
-fn twice(log: &mut Vec<u8>, stack: &mut Stack, limit: usize) -> Result<(), Fail> {
-    message(log, stack, limit)?;
-    message(log, stack, limit)?;
+fn twice(alloc: Global, log: &mut Vec<u8>, stack: &mut Stack, limit: usize) -> Result<(), Fail> {
+    message(alloc, log, stack, limit)?;
+    message(alloc, log, stack, limit)?;
     gone(log, stack)
 }
 
@@ -53,7 +53,7 @@ fn twice(log: &mut Vec<u8>, stack: &mut Stack, limit: usize) -> Result<(), Fail>
 fn answered(alloc: Global, kind: Kind, bytes: &[u8], limit: usize) -> Result<Vec<u8>, Fail> {
     let mut stack = stood(alloc, bytes, kind)?;
     let mut log = Vec::new(alloc);
-    twice(&mut log, &mut stack, limit)?;
+    twice(alloc, &mut log, &mut stack, limit)?;
     Ok(log)
 }
 

@@ -19,19 +19,19 @@ fn cap(alloc: Global, stack: &mut Stack) -> Result<(), Fail> {
 }
 
 /// Messages up to the peer's end; both layers are left, and three bytes are read.
-fn ends(log: &mut Vec<u8>, stack: &mut Stack) -> Result<(), Fail> {
-    message(log, stack, 10)?;
-    message(log, stack, 10)?;
+fn ends(alloc: Global, log: &mut Vec<u8>, stack: &mut Stack) -> Result<(), Fail> {
+    message(alloc, log, stack, 10)?;
+    message(alloc, log, stack, 10)?;
     parted(log, stack)?;
     parted(log, stack)?;
-    exactly(log, stack, 3)
+    exactly(alloc, log, stack, 3)
 }
 
 fn ended(alloc: Global, bytes: &[u8]) -> Result<Vec<u8>, Fail> {
     let mut stack = stood(alloc, bytes, Kind::Prefix(2, false))?;
     cap(alloc, &mut stack)?;
     let mut log = Vec::new(alloc);
-    ends(&mut log, &mut stack)?;
+    ends(alloc, &mut log, &mut stack)?;
     Ok(log)
 }
 
