@@ -1,22 +1,48 @@
 use dill_base::Address;
-use dill_kernel::{Finished, Flow, IdleKernel, Kernel, KernelFault, Limit, Made, Ready, ReadyList};
+use dill_kernel::{
+    Finished, Flow, Kernel, KernelFault, KernelReply, Limit, Made, Ready, ReadyList, ReplayKernel,
+};
+use dill_loop::LoopKernel;
+use std::test::Fail;
 
 #[test]
-fn a_kernel_without_a_network_keeps_the_clock_and_makes_no_link(rt: HostRuntime) {
-    let mut kernel = IdleKernel::new(Some(5));
+fn a_network_without_links_keeps_the_clock(rt: HostRuntime) -> Result<(), Fail> {
+    let mut kernel = LoopKernel::new(rt.alloc(), 4096)?;
     let mut ready = ReadyList::new();
     let waits = [
         (Limit::NoWait, Ok(0)),
         (Limit::Until(30), Ok(30)),
         (Limit::Until(10), Ok(30)),
         (Limit::Forever, Err(KernelFault::Other)),
-        (Limit::NoWait, Err(KernelFault::Other)),
         (Limit::NoWait, Ok(30)),
     ];
     for (limit, told) in waits {
         assert_eq!(rt; kernel.wait(limit, &mut ready), told, "{limit:?}");
         assert_eq!(rt; ready.len(), 0);
     }
+    Ok(())
+}
+
+#[test]
+fn a_wait_may_fail_and_leaves_no_link_ready(rt: HostRuntime) -> Result<(), Fail> {
+    let alloc = rt.alloc();
+    let replies = vec![in alloc;
+        KernelReply::Failed(KernelFault::Other),
+        KernelReply::Woke(30, ReadyList::new()),
+    ]?;
+    let mut kernel = ReplayKernel::new(alloc, replies);
+    let mut ready = ReadyList::new();
+    for told in [Err(KernelFault::Other), Ok(30)] {
+        assert_eq!(rt; kernel.wait(Limit::NoWait, &mut ready), told);
+        assert_eq!(rt; ready.len(), 0);
+    }
+    Ok(())
+}
+
+#[test]
+fn a_kernel_without_replies_makes_no_link(rt: HostRuntime) {
+    let alloc = rt.alloc();
+    let mut kernel = ReplayKernel::new(alloc, Vec::new(alloc));
     let here = Address {
         ip: [127, 0, 0, 1],
         port: 7000,

@@ -3,7 +3,7 @@ use crate::values::memory;
 use dill_base::MemSink;
 use dill_core::run;
 use dill_drive::RunEnd;
-use dill_kernel::IdleKernel;
+use dill_loop::LoopKernel;
 use std::process::Abort;
 use std::test::Fail;
 
@@ -13,7 +13,7 @@ fn a_main_that_ends_at_once_is_run_and_summed_up(rt: HostRuntime) -> Result<(), 
     let lines =
         "1 start =0\n1 end ok\nsummary status=0 errno=none turns=1 rounds=1 closing=0 made=0 gone=0 lacks=0\n";
     let mut out = memory(MemSink::new(alloc, 1000, Vec::new(alloc)))?;
-    let mut kernel = IdleKernel::new(None);
+    let mut kernel = LoopKernel::new(alloc, 4096)?;
     assert_eq!(rt;
         run(
             alloc,
@@ -35,7 +35,7 @@ fn the_budget_stops_a_run_and_its_root_is_closed(rt: HostRuntime) -> Result<(), 
     let alloc = rt.alloc();
     let lines = "summary status=7 errno=none turns=0 rounds=1 closing=1 made=0 gone=0 lacks=0\n";
     let mut out = memory(MemSink::new(alloc, 1000, Vec::new(alloc)))?;
-    let mut kernel = IdleKernel::new(None);
+    let mut kernel = LoopKernel::new(alloc, 4096)?;
     assert_eq!(rt;
         run(
             alloc,

@@ -1,5 +1,6 @@
 use dill_base::{MemShelf, MemSink, Octets, Status};
-use dill_kernel::IdleKernel;
+use dill_kernel::Kernel;
+use dill_loop::LoopKernel;
 use rand::rngs::StdRng;
 use rand_core::SeedableRng;
 use relay_main::{dillrelay, run_over};
@@ -11,7 +12,7 @@ use std::test::Fail;
 pub const BUDGET: u64 = 1_000_000_000;
 
 /// A script under the name `x`, and the calls of the outside that fail: of the shelf, of out, and of err by their numbers
-/// (0: none), and the wait.
+/// (0: none).
 #[derive(Clone, Copy)]
 pub struct Case<'a> {
     pub script: &'a [u8],
@@ -20,7 +21,6 @@ pub struct Case<'a> {
     pub shelf_fails: u64,
     pub out_fails: u64,
     pub err_fails: u64,
-    pub wait_fails: Option<u64>,
 }
 
 /// What a run came to.
@@ -39,7 +39,6 @@ pub fn plain(script: &[u8]) -> Case<'_> {
         shelf_fails: 0,
         out_fails: 0,
         err_fails: 0,
-        wait_fails: None,
     }
 }
 
@@ -57,18 +56,32 @@ fn sink(alloc: Global, fails: u64) -> Result<MemSink, Fail> {
     Ok(MemSink::new(alloc, ROOM, vec![in alloc; fails]?)?)
 }
 
-/// Runs the file of a name, and compares what it came to.
+/// The most bytes of one read of the network in memory.
+const CUT: usize = 4096;
+
+/// Runs the file of a name over the network in memory, and compares what it came to.
 pub fn ends(
     rt: &(impl Abort + AllocGlobal),
     name: &str,
     case: Case<'_>,
     end: End<'_>,
 ) -> Result<(), Fail> {
+    let mut kernel = LoopKernel::new(rt.alloc(), CUT)?;
+    ends_over(rt, name, case, &mut kernel, end)
+}
+
+/// The same over a kernel.
+pub fn ends_over<K: Kernel>(
+    rt: &(impl Abort + AllocGlobal),
+    name: &str,
+    case: Case<'_>,
+    kernel: &mut K,
+    end: End<'_>,
+) -> Result<(), Fail> {
     let alloc = rt.alloc();
     let mut shelf = shelf(alloc, case.script, case.shelf_fails)?;
     let mut out = sink(alloc, case.out_fails)?;
     let mut err = sink(alloc, case.err_fails)?;
-    let mut kernel = IdleKernel::new(case.wait_fails);
     let mut keys = StdRng::seed_from_u64(1);
     let turns = case.turns.min(BUDGET);
     let status = run_over(
@@ -79,7 +92,7 @@ pub fn ends(
         &mut shelf,
         &mut out,
         &mut err,
-        &mut kernel,
+        kernel,
         &mut keys,
     );
     assert_eq!(rt; out.bytes(), end.shown.as_bytes());
@@ -105,7 +118,7 @@ pub fn does(
     let mut shelf = shelf(alloc, script, shelf_fails)?;
     let mut out = sink(alloc, 0)?;
     let mut err = sink(alloc, 0)?;
-    let mut kernel = IdleKernel::new(None);
+    let mut kernel = LoopKernel::new(alloc, CUT)?;
     let mut keys = StdRng::seed_from_u64(1);
     let status = dillrelay(
         alloc,

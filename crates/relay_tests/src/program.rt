@@ -1,5 +1,6 @@
-use crate::cases::{Case, End, does, ends, plain};
+use crate::cases::{Case, End, does, ends, ends_over, plain};
 use dill_base::Status;
+use dill_kernel::{KernelFault, KernelReply, ReplayKernel};
 use std::process::Abort;
 use std::test::Fail;
 
@@ -183,15 +184,10 @@ fn a_failed_wait_and_a_spent_budget_close_the_program(rt: HostRuntime) -> Result
         shown: "hello\nbye\nsummary status=9 errno=none turns=0 rounds=1 closing=3 made=0 gone=0 lacks=0\n",
         said: "dillrelay: wait failed\n",
     };
-    ends(
-        &rt,
-        "x",
-        Case {
-            wait_fails: Some(1),
-            ..row
-        },
-        unwoken,
-    )?;
+    let replies = vec![in rt.alloc(); KernelReply::Failed(KernelFault::Other)]?;
+    let mut kernel = ReplayKernel::new(rt.alloc(), replies);
+    ends_over(&rt, "x", row, &mut kernel, unwoken)?;
+    assert_eq!(rt; kernel.history().unwrap_or(&[]).len(), 1);
     let spent = End {
         status: Status::Spent,
         shown: "hello\nbye\nsummary status=7 errno=none turns=1 rounds=1 closing=2 made=0 gone=0 lacks=0\n",

@@ -2,7 +2,7 @@ use crate::Ticker;
 use dill_base::MemSink;
 use dill_core::run;
 use dill_drive::RunEnd;
-use dill_kernel::IdleKernel;
+use dill_loop::LoopKernel;
 use rand::rngs::StdRng;
 use rand_core::SeedableRng;
 use std::test::Fail;
@@ -26,7 +26,7 @@ fn it_sleeps_and_is_cancelled_where_its_turns_are_spent(rt: HostRuntime) -> Resu
     ];
     for (turns, end, lines) in cases {
         let mut out = MemSink::new(alloc, 1000, Vec::new(alloc)).map_err(|_| Fail::from("memory"))?;
-        let mut kernel = IdleKernel::new(None);
+        let mut kernel = LoopKernel::new(alloc, 4096)?;
         let mut keys = StdRng::seed_from_u64(1);
         let first = Ticker::new(3);
         assert_eq!(rt;
