@@ -18,7 +18,7 @@ use Rattle.dill_base.specs.Maps.{if_some}
 use Rattle.dill_rules.specs.declared.thing.Thing.{Thing}
 use Rattle.dill_rules.specs.declared.thing.Thing.TheVariants as things
 use Rattle.dill_rules.specs.Links as links
-use Rattle.dill_rules.specs.Links.{look, connector, with_stack, heated, read_cold, write_cold, as_shut, as_stream}
+use Rattle.dill_rules.specs.Links.{look, connector, with_stack, heated, read_cold, write_cold, as_wrote, as_shut, as_stream}
 use Rattle.dill_rules.specs.declared.link.Sort.{Sort}
 use Rattle.dill_rules.specs.declared.link.Sort.TheVariants.{Listening, Connecting, Stream}
 use Rattle.dill_rules.specs.World.{World, call_of, reply, from_start}
@@ -121,7 +121,7 @@ module _ {V : Type 0} where
   heard_ask w number (asks.Connect link address) said = heard_connect w number said
   heard_ask w number (asks.Finish link) said = heard_finish w link said
   heard_ask w number (asks.Accept listener link) said = heard_accept w listener said
-  heard_ask w number (asks.Write link bytes) said = record (heard_write w link said) { wrote = w.wrote ++ link ∷ [] }
+  heard_ask w number (asks.Write link bytes) said = heard_write (on_link w link as_wrote) link said
   heard_ask w number (asks.Shut link) said = heard_shut w link said
   heard_ask w number (asks.Read link size) said = heard_read w link said
   heard_ask w number (asks.Wait limit) said = w

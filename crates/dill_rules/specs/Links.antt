@@ -1,18 +1,19 @@
 -- Links: what the kernel made, what stands on each, and what is still due of it.
-use Rattle.std.specs.Prelude.{ℕ, ◌+◌, ◌-◌, ◌==◌, List, [], ◌∷◌, ◌++◌, find, Bool, true, false, ◌||◌, Option, Some, None, max}
+use Rattle.std.specs.Prelude.{ℕ, ◌+◌, ◌-◌, ◌==◌, List, [], ◌∷◌, ◌++◌, map, find, Bool, true, false, ◌||◌, Option, Some, None, max}
 use Rattle.dill_base.specs.Maps.{change, without}
 use Rattle.dill_stack.specs.declared.want.Want.{Want}
 use Rattle.dill_stack.specs.Interface.{Held, opening, set_link, limit_of_want}
 use Rattle.dill_rules.specs.declared.link.Sort.{Sort}
 use Rattle.dill_rules.specs.declared.link.Sort.TheVariants.{Listening, Connecting, Stream}
 
--- A link and the stack on it: whether each direction is hot, whether its `shut` was made, whether its `close` is due, and the most bytes that a receive on it has asked for, for which it has room since.
+-- A link and the stack on it: whether each direction is hot, whether it had a `write` in this round, whether its `shut` was made, whether its `close` is due, and the most bytes that a receive on it has asked for, for which it has room since.
 pub record Link : Type 0 where
   pub number : ℕ
   pub sort : Sort
   pub stack : Held
   pub read_hot : Bool
   pub write_hot : Bool
+  pub wrote : Bool
   pub shut : Bool
   pub closing : Bool
   pub most : ℕ
@@ -38,7 +39,7 @@ change_link l number f = record l { all = change (is_link number) f l.all }
 
 -- a new link has nothing on it, and is hot in both directions
 abbrev pub fresh_link : ℕ → Sort → Link
-fresh_link number sort = record { number = number; sort = sort; stack = set_link number opening; read_hot = true; write_hot = true; shut = false; closing = false; most = 0 }
+fresh_link number sort = record { number = number; sort = sort; stack = set_link number opening; read_hot = true; write_hot = true; wrote = false; shut = false; closing = false; most = 0 }
 
 -- the next link, which was kept, was made
 abbrev pub add : Links → Sort → Links
@@ -59,6 +60,17 @@ gone l number = record l { all = without (is_link number) l.all }
 -- there is room for what this receive may need
 abbrev pub reserved : Want → Link → Link
 reserved want x = record x { most = max x.most (limit_of_want want) }
+
+-- it had its `write` in this round
+abbrev pub as_wrote : Link → Link
+as_wrote x = record x { wrote = true }
+
+-- a round begins
+abbrev pub rested_link : Link → Link
+rested_link x = record x { wrote = false }
+
+abbrev pub rested : Links → Links
+rested l = record l { all = map rested_link l.all }
 
 abbrev pub as_closing : Link → Link
 as_closing x = record x { closing = true }

@@ -11,7 +11,7 @@ use Rattle.dill_stack.specs.Interface.{needs_bytes, offered}
 pub use Rattle.dill_stack.specs.Interface.{is_idle}
 use Rattle.dill_base.specs.Maps.{if_some, first_some}
 use Rattle.dill_scope.specs.Scopes.{is_bundle}
-use Rattle.dill_rules.specs.Links.{Link, is_listening, is_stream, connector}
+use Rattle.dill_rules.specs.Links.{Link, look, is_listening, is_stream, connector}
 use Rattle.dill_rules.specs.World.{World, Place, pending_call}
 use Rattle.dill_rules.specs.Directions.{is_receive, is_handshake}
 use Rattle.dill_rules.specs.LinkAnswers.{is_tcp_done, is_tcp_close}
@@ -127,9 +127,13 @@ module _ {V : Type 0} where
   abbrev pub tries_now : World V → List Try
   tries_now w = if is_some w.ended then closes w else (if is_stopped w then [] else tries w)
 
+  -- a link had its `write` in this round
+  abbrev pub had_write : World V → ℕ → Bool
+  had_write w number = if_some (look w.links number) false (λ x. x.wrote)
+
   -- behind the place in the round, and no `shut` of a link that had its `write`
   abbrev pub is_next : World V → Try → Bool
-  is_next w x = is_behind w.place x && not (is_shut x && list_any (λ n. n == x.number) w.wrote)
+  is_next w x = is_behind w.place x && not (is_shut x && had_write w x.number)
 
   abbrev pub next_try : World V → Option Try
   next_try w = find (is_next w) (tries_now w)

@@ -12,7 +12,7 @@ use Rattle.dill_scope.specs.Scopes.{Scopes, opening_scopes}
 use Rattle.dill_chan.specs.Channels.{Channels, no_channels, leave}
 use Rattle.rand_core.specs.Stream.{Stream}
 use Rattle.dill_base.specs.Maps.{if_some, change}
-use Rattle.dill_rules.specs.Links.{Links, no_links}
+use Rattle.dill_rules.specs.Links.{Links, no_links, rested}
 use Rattle.dill_rules.specs.declared.coroutine.Coroutine.{Coroutine}
 use Rattle.dill_rules.specs.declared.coroutine.Closing.{Closing}
 use Rattle.dill_rules.specs.declared.coroutine.Mode.{Mode}
@@ -28,7 +28,7 @@ pub record Place : Type 0 where
 abbrev pub at_start : Place
 at_start = record { kind = 0; number = 0 }
 
--- The coroutines by rising number, the bundles that are closing with the numbers that died, how the program of `main` ended once it has, and the notes of this step. `wrote` are the links that had a `write` in this round, and `words` the random numbers that are still to come.
+-- The coroutines by rising number, the bundles that are closing with the numbers that died, how the program of `main` ended once it has, and the notes of this step. `random` are the random numbers that are still to come.
 pub record World (V : Type 0) : Type 0 where
   pub coroutines : List (Coroutine V)
   pub handles : Handles Thing
@@ -37,7 +37,6 @@ pub record World (V : Type 0) : Type 0 where
   pub channels : Channels
   pub links : Links
   pub place : Place
-  pub wrote : List ℕ
   pub random : Stream
   pub moment : ℕ
   pub last_coroutine : ℕ
@@ -87,9 +86,9 @@ module _ {V : Type 0} where
   abbrev pub note : World V → Note → World V
   note w one = record w { notes = w.notes ++ one ∷ [] }
 
-  -- a round goes on from before its first kind
+  -- A round begins: the place is before its first kind, and no link had a `write` in it.
   abbrev pub from_start : World V → World V
-  from_start w = record w { place = at_start; wrote = [] }
+  from_start w = record w { place = at_start; links = rested w.links }
 
   -- a step begins
   abbrev pub begin : World V → World V
@@ -105,7 +104,6 @@ module _ {V : Type 0} where
     channels = no_channels;
     links = no_links;
     place = at_start;
-    wrote = [];
     random = random;
     moment = 0;
     last_coroutine = 1;
