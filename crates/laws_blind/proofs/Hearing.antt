@@ -1,5 +1,5 @@
 -- What a reply of the kernel does sees no random number.
-use Rattle.std.proofs.Common.{◌≡◌, ◌++◌, ℕ, [], ◌∷◌, false, Option, refl, ap}
+use Rattle.std.proofs.Common.{◌≡◌, ℕ, false, Option, refl, ap}
 use Rattle.rand_core.specs.Stream.{Stream}
 use Rattle.dill_base.specs.declared.errno.Errno.{Errno}
 use Rattle.dill_calls.specs.declared.answer.Answer.TheVariants.{Fault}
@@ -86,7 +86,7 @@ module _ {V : Type 0} (u : Stream) where
   ask_lent w number (asks.Connect link address) said = connect_lent w number said
   ask_lent w number (asks.Finish link) said = finish_lent w link said
   ask_lent w number (asks.Accept listener link) said = accept_lent w listener said
-  ask_lent w number (asks.Write link bytes) said = ap (λ (v : World V). record v { wrote = w.wrote ++ link ∷ [] }) (write_lent w link said)
+  ask_lent w number (asks.Write link bytes) said = write_lent (on_link w link links.as_wrote) link said
   ask_lent w number (asks.Shut link) said = shut_lent w link said
   ask_lent w number (asks.Read link size) said = read_lent w link said
   ask_lent w number (asks.Wait limit) said = refl

@@ -27,7 +27,7 @@ use Rattle.dill_rules.specs.Effects.{make, next_number}
 use Rattle.dill_rules.specs.Giving.{is_connecting_for, give}
 use Rattle.dill_rules.specs.Hearing.{fitting, listen_fault, connect_fault, accept_fault, linking_call, fail, give_handle, made, connector_of, heard_listen, heard_connect, heard_finish, heard_accept, heard_write, heard_shut, heard_read, heard_ask, heard}
 use Rattle.dill_rules.specs.Links as link
-use Rattle.dill_rules.specs.Links.{Link, Links, look, is_link, is_listening, is_stream, connector, with_stack, as_stream, as_shut, read_cold, write_cold}
+use Rattle.dill_rules.specs.Links.{Link, Links, look, is_link, is_listening, is_stream, connector, with_stack, as_stream, as_shut, as_wrote, read_cold, write_cold}
 use Rattle.dill_rules.specs.declared.link.Sort.{Sort}
 use Rattle.dill_rules.specs.declared.link.Sort.TheVariants.{Listening, Connecting, Stream}
 use Rattle.dill_rules.specs.Naming.{links}
@@ -47,7 +47,7 @@ use Rattle.laws_looks.proofs.Stays.{soft_change}
 use Rattle.laws_looks.proofs.Fewer.{fewer_same, fewer_apart}
 use Rattle.laws_looks.proofs.Quieted.{found_of}
 use Rattle.laws_looks.proofs.Hears.{heard_apart}
-use Rattle.laws_looks.proofs.Counted.{even_same, even_soft, connects_one, making_awaits, is_number, moved, aside_keeps, Lasts, given_lasts}
+use Rattle.laws_looks.proofs.Counted.{even_same, even_soft, connects_one, making_awaits, is_number, moved, aside_keeps, Lasts, soft_lasts, given_lasts}
 
 -- ---- links
 
@@ -392,8 +392,8 @@ module _ {V : Type 0} where
   write_asked : (w : World V) (x : Try) (said : KernelReply) → In x (writes w) → Lasts w → Replied w x said
   write_asked w x said i l =
       let r = in_map (λ (y : Link). record { kind = 6; number = y.number; ask = asks.Write y.number (offered y.stack) }) (filter (λ y. not y.closing && (is_stream y.sort && (y.write_hot && not (is_idle y.stack)))) w.links.all) x i in
-      let v = heard_write w r.0.number said in
-      subst (λ t. Replied w t said) (sym r.2) (aside_keeps v (record v { wrote = w.wrote ++ r.0.number ∷ [] }) refl (even_same v.links) (write_keeps w r.0.number said l))
+      let v = on_link w r.0.number as_wrote in
+      subst (λ t. Replied w t said) (sym r.2) (write_keeps v r.0.number said (soft_lasts w v refl refl refl (soft_change w.links r.0.number as_wrote (λ y. refl) (λ y. refl) (λ y. refl)) l))
 
   shut_asked : (w : World V) (x : Try) (said : KernelReply) → In x (shuts w) → Lasts w → Replied w x said
   shut_asked w x said i l =

@@ -21,7 +21,7 @@ use Rattle.dill_rules.specs.Answers.{answer_of}
 use Rattle.dill_rules.specs.Expiring.{passed, expire_one}
 use Rattle.dill_rules.specs.Hearing.{heard, heat_ready}
 use Rattle.dill_rules.specs.LinkAnswers.{is_on_stack, stack_answer, link_answer}
-use Rattle.dill_rules.specs.Links.{Link, Links, look, change_link, heated}
+use Rattle.dill_rules.specs.Links.{Link, Links, look, change_link, heated, rested}
 use Rattle.dill_rules.specs.Settling.{IsSettled, can_finish, is_clear, answer_due, settle}
 use Rattle.dill_rules.specs.Sockets.{link_number, link_named, on_link}
 use Rattle.dill_rules.specs.State.{lined, lined_mode}
@@ -45,12 +45,12 @@ use Rattle.laws_sound.proofs.Stepping.{order_queued, order_root_closed, passed_t
 use Rattle.laws_looks.specs.Readers.{In, LooksApart}
 use Rattle.laws_looks.specs.Calm.{Restful, IsCalm, StepsKeepCalm}
 use Rattle.laws_looks.proofs.Lists.{none_first, find_none, in_map}
-use Rattle.laws_looks.proofs.Stays.{found_alike, stays_change}
+use Rattle.laws_looks.proofs.Stays.{Stays, found_alike, stays_change, found_rested, soft_rested}
 use Rattle.laws_looks.proofs.Fewer.{fewer_parts, fewer_same, fewer_lined, fewer_expire, fewer_settle, fewer_apart}
 use Rattle.laws_looks.proofs.Quieted.{aside, of_aside, due_as, due_waits, answer_blind}
 use Rattle.laws_looks.proofs.Enters.{go_on_apart}
 use Rattle.laws_looks.proofs.Hears.{heard_apart}
-use Rattle.laws_looks.proofs.Restful.{rest_lent, calmly_same, calmly_mark, calmly_lined, calmly_rests, settles_from}
+use Rattle.laws_looks.proofs.Restful.{Calmly, rest_lent, calmly_same, calmly_rested, calmly_mark, calmly_lined, calmly_rests, settles_from}
 use Rattle.laws_looks.proofs.Steps.{opening_apart}
 
 pub none_find : {X : Type 0} (f : X → Bool) (xs : List X) → ((x : X) → In x xs → f x ≡ false) → find f xs ≡ None
@@ -66,17 +66,17 @@ lined_ending modes.Running = refl
 
 module _ {V : Type 0} where
   -- nothing is due where the links answer as before and the coroutines wait as before
-  settled_aside : (w : World V) (f : Coroutine V → Coroutine V) (l : Links) (u : Stream) (place : Place) (wrote : List ℕ) (moment : ℕ) (notes : List Note)
+  settled_aside : (w : World V) (f : Coroutine V → Coroutine V) (l : Links) (u : Stream) (place : Place) (moment : ℕ) (notes : List Note)
       → ((c : Coroutine V) → (f c).number ≡ c.number) → ((c : Coroutine V) → pending_call (f c).mode ≡ pending_call c.mode) → ((c : Coroutine V) → is_ending (f c).mode ≡ is_ending c.mode)
-      → ((call : Call) → link_answer w call ≡ None → link_answer (aside w (map f w.coroutines) l u place wrote moment notes) call ≡ None)
-      → IsSettled w → IsSettled (aside w (map f w.coroutines) l u place wrote moment notes)
-  settled_aside w f l u place wrote moment notes number pending ending h s = record {
+      → ((call : Call) → link_answer w call ≡ None → link_answer (aside w (map f w.coroutines) l u place moment notes) call ≡ None)
+      → IsSettled w → IsSettled (aside w (map f w.coroutines) l u place moment notes)
+  settled_aside w f l u place moment notes number pending ending h s = record {
     endings = none_find (can_finish v) (map f w.coroutines) finishes;
     answers = none_first (answer_due v) (map f w.coroutines) due;
   }
     where
       v : World V
-      v = aside w (map f w.coroutines) l u place wrote moment notes
+      v = aside w (map f w.coroutines) l u place moment notes
 
       finishes : (c : Coroutine V) → In c (map f w.coroutines) → can_finish v c ≡ false
       finishes c i =
@@ -85,7 +85,7 @@ module _ {V : Type 0} where
 
       at : (c : Coroutine V) → ((call : Call) → pending_call c.mode ≡ Some call → answer_of w c.number call ≡ None) → (o : Option Call) → pending_call c.mode ≡ o → if_some o None (λ call. if_some (answer_of v c.number call) None (λ answer. due_as c.number call answer)) ≡ None
       at c g None e = refl
-      at c g (Some call) e = ap (λ o. if_some o None (λ answer. due_as c.number call answer)) (of_aside w (map f w.coroutines) l u place wrote moment notes c.number call (h call) (g call e))
+      at c g (Some call) e = ap (λ o. if_some o None (λ answer. due_as c.number call answer)) (of_aside w (map f w.coroutines) l u place moment notes c.number call (h call) (g call e))
 
       due : (c : Coroutine V) → In c (map f w.coroutines) → answer_due v c ≡ None
       due c i =
@@ -96,17 +96,17 @@ module _ {V : Type 0} where
           ∙ at r.0 (λ call e. due_waits w s.answers r.0 r.1 call e) (pending_call r.0.mode) refl
 
   -- with the same coroutines
-  settled_beside : (w : World V) (l : Links) (u : Stream) (place : Place) (wrote : List ℕ) (moment : ℕ) (notes : List Note) → ((call : Call) → link_answer w call ≡ None → link_answer (aside w w.coroutines l u place wrote moment notes) call ≡ None) → IsSettled w → IsSettled (aside w w.coroutines l u place wrote moment notes)
-  settled_beside w l u place wrote moment notes h s =
-      subst (λ cs. IsSettled (aside w cs l u place wrote moment notes)) (as_was w.coroutines)
-      (settled_aside w (λ c. c) l u place wrote moment notes (λ c. refl) (λ c. refl) (λ c. refl) (λ call e. h call e) s)
+  settled_beside : (w : World V) (l : Links) (u : Stream) (place : Place) (moment : ℕ) (notes : List Note) → ((call : Call) → link_answer w call ≡ None → link_answer (aside w w.coroutines l u place moment notes) call ≡ None) → IsSettled w → IsSettled (aside w w.coroutines l u place moment notes)
+  settled_beside w l u place moment notes h s =
+      subst (λ cs. IsSettled (aside w cs l u place moment notes)) (as_was w.coroutines)
+      (settled_aside w (λ c. c) l u place moment notes (λ c. refl) (λ c. refl) (λ c. refl) (λ call e. h call e) s)
     where
       as_was : (cs : List (Coroutine V)) → map (λ c. c) cs ≡ cs
       as_was [] = refl
       as_was (c ∷ cs) = ap (λ ds. c ∷ ds) (as_was cs)
 
   settled_lined : (w : World V) → IsSettled w → IsSettled (record w { coroutines = map lined w.coroutines })
-  settled_lined w s = settled_aside w lined w.links w.random w.place w.wrote w.moment w.notes (λ c. refl) (λ c. lined_pending c.mode) (λ c. lined_ending c.mode) (λ call e. e) s
+  settled_lined w s = settled_aside w lined w.links w.random w.place w.moment w.notes (λ c. refl) (λ c. lined_pending c.mode) (λ c. lined_ending c.mode) (λ call e. e) s
 
   calm_lined : (w : World V) (ready : List ℕ) (early : ℕ) → LooksApart w → IsSettled w × Restful w → IsCalm (queued w ready early).world
   calm_lined w ready early a s = record {
@@ -116,15 +116,15 @@ module _ {V : Type 0} where
   }
 
   -- what no answer looks at
-  pub calm_beside : (w : World V) (place : Place) (wrote : List ℕ) (moment : ℕ) (notes : List Note) → IsCalm w → IsCalm (aside w w.coroutines w.links w.random place wrote moment notes)
-  calm_beside w place wrote moment notes c =
-      let v = aside w w.coroutines w.links w.random place wrote moment notes in
-      record { apart = fewer_apart w v (fewer_same w v refl refl refl) c.apart; settled = settled_beside w w.links w.random place wrote moment notes (λ call e. e) c.settled; restful = calmly_rests w v (calmly_same w v refl refl refl refl) c.restful }
+  pub calm_beside : (w : World V) (place : Place) (moment : ℕ) (notes : List Note) → IsCalm w → IsCalm (aside w w.coroutines w.links w.random place moment notes)
+  calm_beside w place moment notes c =
+      let v = aside w w.coroutines w.links w.random place moment notes in
+      record { apart = fewer_apart w v (fewer_same w v refl refl refl) c.apart; settled = settled_beside w w.links w.random place moment notes (λ call e. e) c.settled; restful = calmly_rests w v (calmly_same w v refl refl refl refl) c.restful }
 
   calm_lent : (w : World V) (u : Stream) → IsCalm w → IsCalm (lent u w)
   calm_lent w u c = record {
     apart = fewer_apart w (lent u w) (fewer_same w (lent u w) refl refl refl) c.apart;
-    settled = settled_beside w w.links u w.place w.wrote w.moment w.notes blind c.settled;
+    settled = settled_beside w w.links u w.place w.moment w.notes blind c.settled;
     restful = rest_lent w u c.restful;
   }
     where
@@ -140,39 +140,47 @@ module _ {V : Type 0} where
           at true None f = refl
           at true (Some n) f = linked call (link_named w n) f
 
-  -- a link that is hot answers as before
-  -- a mark at a link that leaves the stack and the `shut` answers nobody
-  pub mark_answers : (w : World V) (n : ℕ) (mark : Link → Link) (call : Call) → ((x : Link) → (mark x).number ≡ x.number) → ((x : Link) → stack_answer call w.random (mark x) ≡ stack_answer call w.random x) → link_answer w call ≡ None → link_answer (on_link w n mark) call ≡ None
-  mark_answers w n mark call number same e = at (is_on_stack (word_of call)) (named_by call) e
+  -- where each link answers as before nobody is answered
+  links_answer : (w : World V) (l : Links) (call : Call) → ((n : ℕ) → if_some (look l n) None (stack_answer call w.random) ≡ if_some (look w.links n) None (stack_answer call w.random)) → link_answer w call ≡ None → link_answer (record w { links = l }) call ≡ None
+  links_answer w l call same e = at (is_on_stack (word_of call)) (named_by call) e
     where
-      hot : Links
-      hot = change_link w.links n mark
-
-      by : (o : Option ℕ) → if_some (if_some o None (look w.links)) None (stack_answer call w.random) ≡ None → if_some (if_some o None (look hot)) None (stack_answer call w.random) ≡ None
+      by : (o : Option ℕ) → if_some (if_some o None (look w.links)) None (stack_answer call w.random) ≡ None → if_some (if_some o None (look l)) None (stack_answer call w.random) ≡ None
       by None f = refl
-      by (Some l) f = found_alike mark None (stack_answer call w.random) number same n l w.links.all ∙ f
+      by (Some n) f = same n ∙ f
 
-      at : (b : Bool) (o : Option ℕ) → (if b then if_some o None (λ number. if_some (link_named w number) None (stack_answer call w.random)) else None) ≡ None → (if b then if_some o None (λ number. if_some (link_named (on_link w n mark) number) None (stack_answer call w.random)) else None) ≡ None
+      at : (b : Bool) (o : Option ℕ) → (if b then if_some o None (λ number. if_some (link_named w number) None (stack_answer call w.random)) else None) ≡ None → (if b then if_some o None (λ number. if_some (link_named (record w { links = l }) number) None (stack_answer call w.random)) else None) ≡ None
       at false o f = refl
       at true None f = refl
       at true (Some number) f = by (link_number w number) f
+
+  -- a mark at a link that leaves the stack and the `shut` answers nobody
+  pub mark_answers : (w : World V) (n : ℕ) (mark : Link → Link) (call : Call) → ((x : Link) → (mark x).number ≡ x.number) → ((x : Link) → stack_answer call w.random (mark x) ≡ stack_answer call w.random x) → link_answer w call ≡ None → link_answer (on_link w n mark) call ≡ None
+  mark_answers w n mark call number same = links_answer w (change_link w.links n mark) call (λ l. found_alike mark None (stack_answer call w.random) number same n l w.links.all)
+
+  -- links that may be named, that stand and that answer as before
+  calm_links : (w : World V) (l : Links) → Stays w.links l → Calmly w (record w { links = l }) → ((call : Call) → link_answer w call ≡ None → link_answer (record w { links = l }) call ≡ None) → IsCalm w → IsCalm (record w { links = l })
+  calm_links w l s q f c =
+      let v : World V = record w { links = l } in
+      record { apart = fewer_apart w v (fewer_parts w v refl refl s) c.apart; settled = settled_beside w l w.random w.place w.moment w.notes f c.settled; restful = calmly_rests w v q c.restful }
+
+  pub calm_mark : (w : World V) (n : ℕ) (mark : Link → Link) → ((x : Link) → (mark x).number ≡ x.number) → ((x : Link) → (mark x).sort ≡ x.sort) → ((x : Link) → (mark x).stack ≡ x.stack) → ((call : Call) (x : Link) → stack_answer call w.random (mark x) ≡ stack_answer call w.random x) → IsCalm w → IsCalm (on_link w n mark)
+  calm_mark w n mark number sort stack same = calm_links w (change_link w.links n mark) (stays_change w.links n mark number sort) (calmly_mark w n mark number stack) (λ call. mark_answers w n mark call number (same call))
 
   calm_heated : (ready : List Ready) (w : World V) → IsCalm w → IsCalm (fold heat_ready w ready)
   calm_heated [] w c = c
   calm_heated (x ∷ xs) w c =
       let f = heated x.read x.write in
-      let v = on_link w x.link f in
-      calm_heated xs v (record {
-        apart = fewer_apart w v (fewer_parts w v refl refl (stays_change w.links x.link f (λ y. refl) (λ y. refl))) c.apart;
-        settled = settled_beside w v.links w.random w.place w.wrote w.moment w.notes (λ call. mark_answers w x.link f call (λ y. refl) (λ y. refl)) c.settled;
-        restful = calmly_rests w v (calmly_mark w x.link f (λ y. refl) (λ y. refl)) c.restful;
-      })
+      calm_heated xs (on_link w x.link f) (calm_mark w x.link f (λ y. refl) (λ y. refl) (λ y. refl) (λ call y. refl) c)
 
   calm_begun : (w : World V) → IsCalm w → IsCalm (begin w)
-  calm_begun w c = calm_beside w w.place w.wrote w.moment [] c
+  calm_begun w c = calm_beside w w.place w.moment [] c
 
   calm_woke : (k : Kept V) (told : ℕ) (ready : List Ready) → IsCalm k.world → IsCalm (kept_woke k told ready).world
-  calm_woke k told ready c = let v = fold heat_ready (begin k.world) ready in calm_beside v at_start [] (max k.world.moment told) v.notes (calm_heated ready (begin k.world) (calm_begun k.world c))
+  calm_woke k told ready c =
+      let v = fold heat_ready (begin k.world) ready in
+      let m : World V = record v { links = rested v.links } in
+      let answers = λ (call : Call). links_answer v m.links call (λ n. found_rested None (stack_answer call v.random) (λ x. refl) n v.links.all) in
+      calm_beside m at_start (max k.world.moment told) m.notes (calm_links v m.links (soft_rested v.links).stays (calmly_rested v m refl refl refl refl) answers (calm_heated ready (begin k.world) (calm_begun k.world c)))
 
   calm_opening : (view : V) → IsCalm (opening_kept view).world
   calm_opening view = record {
@@ -221,7 +229,7 @@ module _ {V : Type 0} where
     calm_shut : (k : Kept V) → IsOrderly k.world → LooksApart k.world → IsCalm (kept_shut k).world
     calm_shut k g a =
         let v = root_closed k.world in
-        calm_settle v k.ready (length k.ready) (order_root_closed k.world g) (fewer_apart k.world v (fewer_same k.world v refl refl refl) a)
+        calm_settle v k.ready (length k.ready) (order_root_closed k.world g) (fewer_apart k.world v (fewer_parts k.world v refl refl (soft_rested k.world.links).stays) a)
 
     calm_hears : (p : Program V) (k : Kept V) (said : Option KernelReply) → IsWell p k → IsOrderly k.world → IsCalm k.world → IsCalm (kept_hear k said).world
     calm_hears p k said well g c = at (next_try k.world)

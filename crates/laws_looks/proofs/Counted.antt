@@ -30,7 +30,7 @@ use Rattle.dill_rules.specs.Giving.{is_read, look_on, after_send, is_connecting_
 use Rattle.dill_rules.specs.LinkAnswers.{is_tcp_close}
 use Rattle.dill_rules.specs.Linking.{give_stack_up}
 use Rattle.dill_rules.specs.Links as link
-use Rattle.dill_rules.specs.Links.{Link, Links, look, is_link, change_link, connector, with_stack, as_closing}
+use Rattle.dill_rules.specs.Links.{Link, Links, look, is_link, change_link, connector, with_stack, as_closing, rested}
 use Rattle.dill_rules.specs.Naming.{draws_of, links}
 use Rattle.dill_rules.specs.Owning.{entry_of, is_dead_as, take_thing, move, drop, release, free_bundle}
 use Rattle.dill_rules.specs.Settling.{can_finish, is_clear, highest_first, is_owned_by, free_all, release_all, outcome_of, finish, answer_due, give_first, settle_one, settle_within, pass_all, settle}
@@ -47,7 +47,7 @@ use Rattle.laws_sound.proofs.Crews.{change_here, change_other, other_without}
 use Rattle.laws_looks.specs.Readers.{Rising, LooksApart}
 use Rattle.laws_looks.specs.Keeping.{connects_for, is_connect, connects, awaits, KeepsLinks}
 use Rattle.laws_looks.proofs.Lists.{itself, equal_is, unequal_is, less_unequal, more_unequal, true_false, find_passes}
-use Rattle.laws_looks.proofs.Stays.{is_open, Soft, on_named_stays, look_stays, pass_all_stays}
+use Rattle.laws_looks.proofs.Stays.{is_open, Soft, soft_rested, on_named_stays, look_stays, pass_all_stays}
 use Rattle.laws_looks.proofs.Fewer.{links_to, weigh_linked, fewer_release, fewer_give, fewer_finish, fewer_apart, fewer_parts, fewer_same, fewer_each, fewer_looked}
 
 -- it is pending in a call that makes a link
@@ -405,9 +405,9 @@ module _ {V : Type 0} where
   freed_apart : (xs : List Closing) (w : World V) → LooksApart w → LooksApart (fold free_bundle w xs)
   freed_apart xs w a = fewer_apart w (fold free_bundle w xs) (fewer_each free_bundle xs w (λ v x. fewer_same v (free_bundle v x) refl refl refl)) a
 
-  left : (b : Bool) (w v : World V) (cs : List (Coroutine V)) (s : Scopes) → v.links ≡ w.links → (record (if b then v else w) { coroutines = cs; scopes = s }).links ≡ w.links
-  left true w v cs s e = e
-  left false w v cs s e = refl
+  left : (b : Bool) (l : Links) (w v : World V) (cs : List (Coroutine V)) (s : Scopes) → Even l w.links → Even l v.links → Even l (record (if b then v else w) { coroutines = cs; scopes = s }).links
+  left true l w v cs s e f = f
+  left false l w v cs s e f = e
 
   left_last : (b : Bool) (w v : World V) (cs : List (Coroutine V)) (s : Scopes) → v.last_coroutine ≡ w.last_coroutine → (record (if b then v else w) { coroutines = cs; scopes = s }).last_coroutine ≡ w.last_coroutine
   left_last true w v cs s e = e
@@ -449,7 +449,8 @@ module _ {V : Type 0} where
       even =
           let xs = highest_first (filter (is_owned_by w c.number) w.closings) in
           let one : Even w.links bare.links = subst (λ k. Even k bare.links) (freed_links xs w) (released (reverse (handles.numbers_of freed.handles c.number)) freed (freed_apart xs w l.apart)) in
-          subst (Even w.links) (sym (left (c.number == 1) bare (from_start (record bare { ended = Some (outcome_of c.mode) })) (finish w c).coroutines (finish w c).scopes refl)) one
+          left (c.number == 1) w.links bare (from_start (record bare { ended = Some (outcome_of c.mode) })) (finish w c).coroutines (finish w c).scopes one
+          (even_then w.links bare.links (rested bare.links) one (even_soft bare.links (rested bare.links) (soft_rested bare.links)))
 
       last : (finish w c).last_coroutine ≡ w.last_coroutine
       last = left_last (c.number == 1) bare (from_start (record bare { ended = Some (outcome_of c.mode) })) (finish w c).coroutines (finish w c).scopes refl ∙ crew.last

@@ -44,7 +44,7 @@ use Rattle.laws_sound.proofs.Counting.{small_bit, holds, weigh_filter, weigh_pus
 use Rattle.laws_sound.proofs.Noting.{drop_handles, take_handles}
 use Rattle.laws_looks.specs.Readers.{In, Pends, NamedOnce, times_linked, may_name, LooksApart}
 use Rattle.laws_looks.proofs.Lists.{itself, equal_is, unequal_is, in_without, in_change, in_map}
-use Rattle.laws_looks.proofs.Stays.{Stays, LinksStay, stays_same, stays_then, stays_kept, stays_change, on_named_stays, look_stays, pass_all_stays, drop_stays}
+use Rattle.laws_looks.proofs.Stays.{Stays, LinksStay, stays_same, stays_then, stays_kept, stays_change, soft_rested, on_named_stays, look_stays, pass_all_stays, drop_stays}
 
 -- a handle of the link
 abbrev pub links_to : ℕ → Entry Thing → ℕ
@@ -235,7 +235,7 @@ module _ {V : Type 0} where
   fewer_leave w c = at (c.number == 1)
     where
       at : (b : Bool) → Fewer w (record (if b then from_start (record w { ended = Some (outcome_of c.mode) }) else w) { coroutines = without (is_coroutine c.number) w.coroutines; scopes = (leave w c).scopes })
-      at true = record { calls = gone; links = λ l. omega arith; stays = stays_same w.links }
+      at true = record { calls = gone; links = λ l. omega arith; stays = (soft_rested w.links).stays }
         where
           gone : (who : ℕ) (call : Call) → Pends (record (from_start (record w { ended = Some (outcome_of c.mode) })) { coroutines = without (is_coroutine c.number) w.coroutines; scopes = (leave w c).scopes }) who call → Pends w who call
           gone who call p = record { one = p.one; there = in_without (is_coroutine c.number) w.coroutines p.one p.there; number = p.number; mode = p.mode }

@@ -1,5 +1,5 @@
 -- A reply of the kernel names a link that no number named, and only one that was made or that finished its `connect`.
-use Rattle.std.proofs.Common.{◌≡◌, ◌∙◌, ℕ, ◌+◌, ◌≤◌, ◌==◌, List, [], ◌∷◌, ◌++◌, fold, Bool, true, false, Option, Some, None, refl, sym, ap, arith}
+use Rattle.std.proofs.Common.{◌≡◌, ◌∙◌, ℕ, ◌+◌, ◌≤◌, ◌==◌, List, fold, Bool, true, false, Option, Some, None, refl, sym, ap, arith}
 use Rattle.std.specs.Prelude.{is_none}
 use Rattle.dill_base.specs.declared.errno.Errno.{Errno}
 use Rattle.dill_base.specs.Maps.{if_some}
@@ -21,7 +21,7 @@ use Rattle.dill_rules.specs.Effects.{make, next_number}
 use Rattle.dill_rules.specs.Giving.{give}
 use Rattle.dill_rules.specs.Hearing.{fitting, listen_fault, connect_fault, accept_fault, linking_call, fail, give_handle, made, connector_of, heard_listen, heard_connect, heard_finish, heard_accept, heard_write, heard_shut, heard_read, heard_ask, heard, heat_ready, woken}
 use Rattle.dill_rules.specs.Links as link
-use Rattle.dill_rules.specs.Links.{Link, Links, look, connector, with_stack, as_stream, as_shut, read_cold, write_cold}
+use Rattle.dill_rules.specs.Links.{Link, Links, look, connector, with_stack, as_stream, as_shut, as_wrote, read_cold, write_cold}
 use Rattle.dill_rules.specs.declared.link.Sort.{Sort}
 use Rattle.dill_rules.specs.declared.link.Sort.TheVariants.{Listening, Connecting, Stream}
 use Rattle.dill_rules.specs.Refusals.{is_accept}
@@ -32,7 +32,7 @@ use Rattle.laws_queue.proofs.Besides.{heat_all_besides}
 use Rattle.laws_sound.proofs.Counting.{holds, weigh_push}
 use Rattle.laws_looks.specs.Readers.{times_linked, may_name, LooksApart}
 use Rattle.laws_looks.proofs.Lists.{equal_is}
-use Rattle.laws_looks.proofs.Stays.{Opens, opens_add, opens_gone, opens_stream, stays_change, heat_all_stays}
+use Rattle.laws_looks.proofs.Stays.{Opens, opens_add, opens_gone, opens_stream, stays_change, heat_all_stays, soft_rested}
 use Rattle.laws_looks.proofs.Fewer.{links_to, weigh_linked, pends_same, fewer_parts, fewer_same, fewer_besides, fewer_reply, fewer_give, fewer_apart}
 
 bits_follow : (b c : Bool) → (b ≡ true → c ≡ true) → bit b ≤ bit c
@@ -163,9 +163,7 @@ module _ {V : Type 0} where
   ask_apart w number (asks.Connect n address) said a = connected w number said a
   ask_apart w number (asks.Finish n) said a = ended_connect w n said a
   ask_apart w number (asks.Accept listener n) said a = accepted w listener said a
-  ask_apart w number (asks.Write n bytes) said a =
-      let v = heard_write w n said in
-      fewer_apart v (record v { wrote = w.wrote ++ n ∷ [] }) (fewer_same v (record v { wrote = w.wrote ++ n ∷ [] }) refl refl refl) (written w n said a)
+  ask_apart w number (asks.Write n bytes) said a = written (on_link w n as_wrote) n said (changed w n as_wrote (λ x. refl) (λ x. refl) a)
   ask_apart w number (asks.Shut n) said a = shut_down w n said a
   ask_apart w number (asks.Read n size) said a = read_from w n said a
   ask_apart w number (asks.Wait limit) said a = a
@@ -179,4 +177,4 @@ module _ {V : Type 0} where
   woken_apart w ready a =
       let v = fold heat_ready w ready in
       let hot = fewer_apart w v (fewer_besides w v (heat_all_besides ready w) (heat_all_stays ready w)) a in
-      fewer_apart v (woken w ready) (fewer_same v (woken w ready) refl refl refl) hot
+      fewer_apart v (woken w ready) (fewer_parts v (woken w ready) refl refl (soft_rested v.links).stays) hot

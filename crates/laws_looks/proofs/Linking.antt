@@ -25,7 +25,7 @@ use Rattle.laws_sound.proofs.Counting.{weigh_alike}
 use Rattle.laws_sound.proofs.Crews.{map_at}
 use Rattle.laws_looks.specs.Readers.{LooksApart}
 use Rattle.laws_looks.specs.Keeping.{connects_for, is_connect, connects, awaits, KeepsLinks, StepsCountLinks}
-use Rattle.laws_looks.proofs.Stays.{Soft, heat_all_stays, soft_same}
+use Rattle.laws_looks.proofs.Stays.{Soft, heat_all_stays, soft_same, soft_rested}
 use Rattle.laws_looks.proofs.Fewer.{fewer_lined, fewer_apart}
 use Rattle.laws_looks.proofs.Counted.{Lasts, soft_lasts, settle_lasts, expire_lasts}
 use Rattle.laws_looks.proofs.Asked.{heard_lasts}
@@ -70,7 +70,7 @@ module _ {V : Type 0} where
       let b = begin k.world in
       let v = fold heat_ready b ready in
       let s = heat_all_besides ready b in
-      same_lasts v (kept_woke k told ready).world refl refl refl refl
+      soft_lasts v (kept_woke k told ready).world refl refl refl (soft_rested v.links)
       (soft_lasts b v (ap (λ (x : World V). x.coroutines) s.same) (ap (λ (x : World V). x.last_coroutine) s.same) (ap (λ (x : World V). x.handles.entries) s.same) (heat_all_stays ready b) (begun_lasts k.world l))
 
   turned_lasts : (p : Program V) → IsLawful p → (k : Kept V) (lack : Option LackPlace) → IsWell p k → IsOrderly k.world → Lasts k.world → Lasts (kept_turn p lack k).world
@@ -95,6 +95,6 @@ steps_count_links p law = record {
   expires = λ k who well a c. (expires_lasts k who (lasts p k well a c)).keeps;
   settled = λ k well a c. (settled_lasts k.world k.ready k.early (lasts p k well a c)).keeps;
   expired = λ k well a c. let l = late_lasts (passed k.world) (record k { world = begin k.world }) (begun_lasts k.world (lasts p k well a c)) in (settled_lasts (kept_late k).world (kept_late k).ready (kept_late k).early l).keeps;
-  shut = λ k well a c. (settled_lasts (root_closed k.world) k.ready (length k.ready) (same_lasts k.world (root_closed k.world) refl refl refl refl (lasts p k well a c))).keeps;
+  shut = λ k well a c. (settled_lasts (root_closed k.world) k.ready (length k.ready) (soft_lasts k.world (root_closed k.world) refl refl refl (soft_rested k.world.links) (lasts p k well a c))).keeps;
   woke = λ k told ready well a c. (woke_lasts k told ready (lasts p k well a c)).keeps;
 }

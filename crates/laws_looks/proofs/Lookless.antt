@@ -15,7 +15,7 @@ use Rattle.laws_looks.specs.Calm.{Restful}
 use Rattle.dill_rules.specs.Lookless.{lookless_due, settle_one_lookless, lookless_within, settle_lookless}
 use Rattle.laws_looks.proofs.Quieted.{Calm}
 use Rattle.laws_looks.proofs.Answered.{answers_same, due_same}
-use Rattle.laws_looks.proofs.Restful.{named_link, calmly_same, calmly_rests, calmly_lined, expire_rests, one_rests, within_rests, passes_rest}
+use Rattle.laws_looks.proofs.Restful.{named_link, calmly_same, calmly_rested, calmly_rests, calmly_lined, expire_rests, one_rests, within_rests, passes_rest}
 
 pub first_same : {X Y : Type 0} (f g : X → Option Y) (xs : List X) → ((x : X) → In x xs → f x ≡ g x) → first_some f xs ≡ first_some g xs
 first_same f g [] h = refl
@@ -47,4 +47,4 @@ module _ {V : Type 0} where
   expiry_rests k r = late_kept (passed k.world) (record k { world = begin k.world }) (calmly_rests k.world (begin k.world) (calmly_same k.world (begin k.world) refl refl refl refl) r)
 
   pub closing_rests : (w : World V) → Restful w → Restful (root_closed w)
-  closing_rests w r = calmly_rests w (root_closed w) (calmly_same w (root_closed w) refl refl refl refl) r
+  closing_rests w r = calmly_rests w (root_closed w) (calmly_rested w (root_closed w) refl refl refl refl) r

@@ -20,7 +20,7 @@ use Rattle.dill_rules.specs.declared.thing.Thing.{Thing}
 use Rattle.dill_rules.specs.declared.thing.Thing.TheVariants as things
 use Rattle.dill_rules.specs.World.{Place, World, coroutine_of, is_coroutine, reply, pending_call}
 use Rattle.dill_rules.specs.Links as link
-use Rattle.dill_rules.specs.Links.{Link, Links, look, is_link, fresh_link, change_link, connector, as_stream, read_cold, write_cold}
+use Rattle.dill_rules.specs.Links.{Link, Links, look, is_link, fresh_link, change_link, connector, as_stream, read_cold, write_cold, as_wrote}
 use Rattle.dill_rules.specs.declared.link.Sort.{Sort}
 use Rattle.dill_rules.specs.declared.link.Sort.TheVariants.{Listening, Connecting, Stream}
 use Rattle.dill_rules.specs.Naming as naming
@@ -33,7 +33,7 @@ use Rattle.dill_rules.specs.Refusals.{is_accept}
 use Rattle.dill_rules.specs.Answers.{answer_of}
 use Rattle.dill_rules.specs.Trying.{Try, next_link, pending_on}
 use Rattle.dill_rules.specs.Settling.{settle}
-use Rattle.dill_rules.specs.Hearing.{fitting, listen_fault, connect_fault, accept_fault, linking_call, fail, give_handle, made, connector_of, heard_listen, heard_connect, heard_finish, heard_accept, heard_write, heard_ask, heard}
+use Rattle.dill_rules.specs.Hearing.{fitting, listen_fault, connect_fault, accept_fault, linking_call, fail, give_handle, made, connector_of, heard_listen, heard_connect, heard_finish, heard_accept, heard_ask, heard}
 use Rattle.dill_rules.specs.Lookless.{settle_lookless, look_once}
 use Rattle.laws_queue.specs.Well.{bit}
 use Rattle.laws_sound.specs.Order.{IsInOrder}
@@ -49,7 +49,7 @@ use Rattle.laws_looks.proofs.Stays.{next_above}
 use Rattle.laws_looks.proofs.Fewer.{links_to, weigh_linked}
 use Rattle.laws_looks.proofs.Quieted.{due_waits}
 use Rattle.laws_looks.proofs.Restful.{calmly_mark, calmly_reply, calmly_rests, give_rests}
-use Rattle.laws_looks.proofs.Between.{calm_beside}
+use Rattle.laws_looks.proofs.Between.{calm_beside, calm_mark}
 use Rattle.laws_looks.proofs.Stirring.{live, live_low, sends_on_stack}
 use Rattle.laws_looks.proofs.Replies.{rest_once, once_read, once_written, once_shut}
 
@@ -218,26 +218,16 @@ module _ {V : Type 0} where
     accepts l said = some_rests (pending_on w is_accept l) (made w Stream things.Socket) (λ who. gives (link.add w.links Stream) (things.Socket (next_link w)) who (adds Stream))
 
   module _ (laws : LooksAgain) where
-    -- that a link had a `write` in this round is kept beside
-    writes_on : (w : World V) (wrote : List ℕ) (l who : ℕ) (said : KernelReply) → IsInOrder w → IsCalm w → LooksAt w l who → (v : World V) → v ≡ record (heard_write w l said) { wrote = wrote } → settle v ≡ settle_lookless (look_once v who)
-    writes_on w wrote l who said o c alone v is =
-        let u : World V = record w { wrote = wrote } in
-        subst (λ z. settle z ≡ settle_lookless (look_once z who)) (sym (is ∙ same said))
-        (once_written laws u l who (order_anyway w w.channels w.links w.place wrote w.random w.moment w.notes o) (calm_beside w w.place wrote w.moment w.notes c)
-        (λ other call n p rd e f. alone other call n p rd e f) said)
-      where
-        same : (said : KernelReply) → ◌≡◌ {A = World V} (record (heard_write w l said) { wrote = wrote }) (heard_write (record w { wrote = wrote }) l said)
-        same (replies.Took count) = refl
-        same replies.NotYet = refl
-        same _ = refl
-
     asks_once : (w : World V) (number who : ℕ) (ask : KernelAsk) (said : KernelReply) → IsInOrder w → IsCalm w → ((l : ℕ) → asked_link ask ≡ Some l → LooksAt w l who) → settle (heard_ask w number ask said) ≡ settle_lookless (look_once (heard_ask w number ask said) who)
     asks_once w number who (asks.Close l) said o c alone = rest_once (record w { links = link.gone w.links l }) who (goes w o c l)
     asks_once w number who (asks.Listen l address backlog) said o c alone = rest_once (heard_listen w number said) who (listens w o c number said)
     asks_once w number who (asks.Connect l address) said o c alone = rest_once (heard_connect w number said) who (connects w o c number said)
     asks_once w number who (asks.Finish l) said o c alone = rest_once (heard_finish w l said) who (finishes w o c l said)
     asks_once w number who (asks.Accept listener l) said o c alone = rest_once (heard_accept w listener said) who (accepts w o c listener said)
-    asks_once w number who (asks.Write l bytes) said o c alone = writes_on w (w.wrote ++ l ∷ []) l who said o c (alone l refl) (record (heard_write w l said) { wrote = w.wrote ++ l ∷ [] }) refl
+    asks_once w number who (asks.Write l bytes) said o c alone =
+        let v = on_link w l as_wrote in
+        once_written laws v l who (order_anyway w w.channels v.links w.place w.random w.moment w.notes o) (calm_mark w l as_wrote (λ x. refl) (λ x. refl) (λ x. refl) (λ call x. refl) c)
+        (λ other call n p rd e f. alone l refl other call n p rd e f) said
     asks_once w number who (asks.Shut l) said o c alone = once_shut laws w l who o c (alone l refl) said
     asks_once w number who (asks.Read l size) said o c alone = once_read laws w l who o c (alone l refl) said
     asks_once w number who (asks.Wait limit) said o c alone = rest_once w who c.restful
@@ -246,7 +236,7 @@ module _ {V : Type 0} where
     hears_once w x said who o c alone =
         let place : Place = record { kind = x.kind; number = x.number } in
         let u : World V = record w { place = place } in
-        asks_once u x.number who x.ask (fitting x.ask said) (order_anyway w w.channels w.links place w.wrote w.random w.moment w.notes o) (calm_beside w place w.wrote w.moment w.notes c)
+        asks_once u x.number who x.ask (fitting x.ask said) (order_anyway w w.channels w.links place w.random w.moment w.notes o) (calm_beside w place w.moment w.notes c)
         (λ l e other call n p rd f g. alone l e other call n p rd f g)
 
 pub one_look_hears : {V : Type 0} → LooksAgain → OneLookHears V

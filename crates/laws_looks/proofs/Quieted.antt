@@ -187,15 +187,15 @@ module _ {V : Type 0} where
   with_look w l u = record w { links = l; random = u }
 
   -- a world but for its coroutines, its links and what no answer looks at
-  abbrev pub aside : World V → List (Coroutine V) → Links → Stream → Place → List ℕ → ℕ → List Note → World V
-  aside w cs l u place wrote moment notes = record w { coroutines = cs; links = l; random = u; place = place; wrote = wrote; moment = moment; notes = notes }
+  abbrev pub aside : World V → List (Coroutine V) → Links → Stream → Place → ℕ → List Note → World V
+  aside w cs l u place moment notes = record w { coroutines = cs; links = l; random = u; place = place; moment = moment; notes = notes }
 
-  module _ (w : World V) (cs : List (Coroutine V)) (l : Links) (u : Stream) (place : Place) (wrote : List ℕ) (moment : ℕ) (notes : List Note) where
-    choice_same : (index : ℕ) (all : List Clause) → choice_fault (aside w cs l u place wrote moment notes) index all ≡ choice_fault w index all
+  module _ (w : World V) (cs : List (Coroutine V)) (l : Links) (u : Stream) (place : Place) (moment : ℕ) (notes : List Note) where
+    choice_same : (index : ℕ) (all : List Clause) → choice_fault (aside w cs l u place moment notes) index all ≡ choice_fault w index all
     choice_same index [] = refl
     choice_same index (x ∷ xs) = ap (λ o. if_some (clause_fault w (end_of_clause x) (want_of x)) o (λ e. Some (Chosen index (Some e) None))) (choice_same (index + 1) xs)
 
-    own_aside : (call : Call) → (link_answer w call ≡ None → link_answer (aside w cs l u place wrote moment notes) call ≡ None) → own_answer w call ≡ None → own_answer (aside w cs l u place wrote moment notes) call ≡ None
+    own_aside : (call : Call) → (link_answer w call ≡ None → link_answer (aside w cs l u place moment notes) call ≡ None) → own_answer w call ≡ None → own_answer (aside w cs l u place moment notes) call ≡ None
     own_aside (calls.BundleWait number deadline) h e = e
     own_aside (calls.Hclose number) h e = e
     own_aside (calls.Chsend number bytes deadline) h e = e
@@ -203,12 +203,12 @@ module _ {V : Type 0} where
     own_aside (calls.Choose deadline all) h e = choice_same 0 all ∙ e
     own_aside call h e = h e
 
-    pub of_aside : (who : ℕ) (call : Call) → (link_answer w call ≡ None → link_answer (aside w cs l u place wrote moment notes) call ≡ None) → answer_of w who call ≡ None → answer_of (aside w cs l u place wrote moment notes) who call ≡ None
+    pub of_aside : (who : ℕ) (call : Call) → (link_answer w call ≡ None → link_answer (aside w cs l u place moment notes) call ≡ None) → answer_of w who call ≡ None → answer_of (aside w cs l u place moment notes) who call ≡ None
     of_aside who call h e =
         let a = or_none (when (blocks (word_of call) && is_cancelled w who) (Fault Ecanceled)) (option_or (when (lost_its_number w call) (Fault Ebadf)) (own_answer w call)) e in
         let b = or_none (when (lost_its_number w call) (Fault Ebadf)) (own_answer w call) a.1 in
-        none_or (when (blocks (word_of call) && is_cancelled w who) (Fault Ecanceled)) (option_or (when (lost_its_number w call) (Fault Ebadf)) (own_answer (aside w cs l u place wrote moment notes) call)) a.0
-        (none_or (when (lost_its_number w call) (Fault Ebadf)) (own_answer (aside w cs l u place wrote moment notes) call) b.0 (own_aside call h b.1))
+        none_or (when (blocks (word_of call) && is_cancelled w who) (Fault Ecanceled)) (option_or (when (lost_its_number w call) (Fault Ebadf)) (own_answer (aside w cs l u place moment notes) call)) a.0
+        (none_or (when (lost_its_number w call) (Fault Ebadf)) (own_answer (aside w cs l u place moment notes) call) b.0 (own_aside call h b.1))
 
   -- the answer of the link, where nothing else is due
   own_is : (w : World V) (call : Call) → is_on_stack (word_of call) ≡ true → own_answer w call ≡ None → link_answer w call ≡ None
@@ -460,7 +460,7 @@ module _ {V : Type 0} where
               links = (behind w call f).links;
               random = (behind w call f).random;
               same = refl;
-              waits = λ d j more g. of_aside w w.coroutines (behind w call f).links (behind w call f).random w.place w.wrote w.moment w.notes d.number more (link_stays laws w call f more need (alone_at w cs r c d call more i j e g rc f)) (waits d j more g);
+              waits = λ d j more g. of_aside w w.coroutines (behind w call f).links (behind w call f).random w.place w.moment w.notes d.number more (link_stays laws w call f more need (alone_at w cs r c d call more i j e g rc f)) (waits d j more g);
               calm = kept need;
             })
           where

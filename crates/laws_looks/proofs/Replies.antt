@@ -128,7 +128,7 @@ module _ {V : Type 0} where
       endings = c.settled.endings;
       waits = λ d call i ne e.
           let p : Pends w d.number call = record { one = d; there = i; number = refl; mode = e } in
-          of_aside w w.coroutines now w.random w.place w.wrote w.moment w.notes d.number call (link_kept who d.number call alone p ne (λ n g h j x. sends d.number call n p g h j x)) (due_waits w c.settled.answers d i call e);
+          of_aside w w.coroutines now w.random w.place w.moment w.notes d.number call (link_kept who d.number call alone p ne (λ n g h j x. sends d.number call n p g h j x)) (due_waits w c.settled.answers d i call e);
       calm = λ other call n k x p ne rd e nm i. calm other call n k x (pends_before other call p) ne rd e (named_before n k nm) i (k == l) refl;
     }
       where
@@ -138,7 +138,7 @@ module _ {V : Type 0} where
 
     module _ (laws : LooksAgain) (who : ℕ) (alone : LooksAt w l who) where
       by_stirring : StirsOne v who → settle v ≡ settle_lookless (look_once v who)
-      by_stirring s = stirred laws v who (order_anyway w w.channels now w.place w.wrote w.random w.moment w.notes o) (fewer_apart w v (fewer_parts w v refl refl (stays_change w.links l (with_stack f) (λ y. refl) (λ y. refl))) c.apart) s
+      by_stirring s = stirred laws v who (order_anyway w w.channels now w.place w.random w.moment w.notes o) (fewer_apart w v (fewer_parts w v refl refl (stays_change w.links l (with_stack f) (λ y. refl) (λ y. refl))) c.apart) s
 
       -- sends are answered as before
       once_received : SendsAlike f → settle v ≡ settle_lookless (look_once v who)

@@ -1,6 +1,6 @@
 -- Where no look finds anything, what settles and what expires draws no random number, and no look finds anything then either.
 use Rattle.std.proofs.Common.{◌≡◌, ◌∙◌, ◌⊎◌, inl, inr, ℕ, zero, suc, ◌≤◌, ◌==◌, List, [], ◌∷◌, length, find, fold, cond, Bool, true, false, not, ◌&&◌, ◌||◌, Option, Some, None, if◌then◌else◌, refl, sym, ap, subst, arith}
-use Rattle.std.specs.Prelude.{filter, reverse, map}
+use Rattle.std.specs.Prelude.{filter, reverse, map, option_map}
 use Rattle.dill_scope.specs.Scopes as scopes
 use Rattle.dill_scope.specs.Scopes.{Scopes}
 use Rattle.dill_rules.specs.World.{begin}
@@ -54,6 +54,7 @@ use Rattle.laws_blind.proofs.Giving.{Unread, receive_stays, late_unread, lookles
 use Rattle.laws_looks.specs.Readers.{In, Pends, LooksApart}
 use Rattle.laws_looks.specs.Calm.{Spent, Names, Restful, DrawsNothing}
 use Rattle.laws_looks.proofs.Lists.{itself, both_true, in_without, find_in, first_in}
+use Rattle.laws_looks.proofs.Stays.{find_rested}
 use Rattle.laws_looks.proofs.Fewer.{named_once, pends_same, fewer_reply, fewer_lined, fewer_within, fewer_apart}
 use Rattle.laws_looks.proofs.Quieted.{quiet_apart, passed_settled, due_as, calm_all, found_change}
 use Rattle.laws_looks.proofs.Answered.{answers_same}
@@ -86,6 +87,19 @@ module _ {V : Type 0} where
     names = λ n l p. record { entry = p.entry; there = subst (λ (x : handles.Handles Thing). In p.entry x.entries) g p.there; number = p.number; link = p.link };
     stacks = λ l y i. (y, subst (λ (x : Links). look x l ≡ Some y) h i, refl);
   }
+
+  -- a round begins
+  pub calmly_rested : (w v : World V) → v.random ≡ w.random → v.coroutines ≡ w.coroutines → v.handles ≡ w.handles → v.links ≡ link.rested w.links → Calmly w v
+  calmly_rested w v e f g h = record {
+    random = e;
+    pends = pends_same w v f;
+    names = (calmly_same w (record w { handles = v.handles }) refl refl g refl).names;
+    stacks = λ l y i. at l (look w.links l) refl y (sym (find_rested l w.links.all) ∙ ap (λ (x : Links). look x l) (sym h) ∙ i);
+  }
+    where
+      at : (l : ℕ) (o : Option Link) → look w.links l ≡ o → (y : Link) → option_map link.rested_link o ≡ Some y → (x : Link) × (look w.links l ≡ Some x) × (y.stack ≡ x.stack)
+      at l None i y j = cc
+      at l (Some x) i y j = let it : link.rested_link x ≡ y = cc in (x, i, ap (λ (z : Link). z.stack) (sym it))
 
   calmly_then : (w v u : World V) → Calmly w v → Calmly v u → Calmly w u
   calmly_then w v u a b = record {
@@ -173,14 +187,14 @@ module _ {V : Type 0} where
       calmly_then w freed (finish w c) (calmly_each free_bundle (highest_first (filter (is_owned_by w c.number) w.closings)) w calmly_free)
       (calmly_then freed bare (finish w c) (calmly_each release (reverse (handles.numbers_of freed.handles c.number)) freed calmly_release) (leaves bare))
     where
-      ended : (b : Bool) (v u : World V) → u.random ≡ v.random → u.links ≡ v.links → u.handles ≡ v.handles → Calmly v (record (if b then u else v) { coroutines = without (is_coroutine c.number) v.coroutines })
-      ended true v u e f g = record {
-        random = e;
+      ended : (b : Bool) (v u : World V) → Calmly v u → Calmly v (record (if b then u else v) { coroutines = without (is_coroutine c.number) v.coroutines })
+      ended true v u s = record {
+        random = s.random;
         pends = λ who call p. record { one = p.one; there = in_without (is_coroutine c.number) v.coroutines p.one p.there; number = p.number; mode = p.mode };
-        names = λ n l p. record { entry = p.entry; there = subst (λ (x : handles.Handles Thing). In p.entry x.entries) g p.there; number = p.number; link = p.link };
-        stacks = λ l y i. (y, subst (λ (x : Links). look x l ≡ Some y) f i, refl);
+        names = s.names;
+        stacks = s.stacks;
       }
-      ended false v u e f g = record {
+      ended false v u s = record {
         random = refl;
         pends = λ who call p. record { one = p.one; there = in_without (is_coroutine c.number) v.coroutines p.one p.there; number = p.number; mode = p.mode };
         names = λ n l p. p;
@@ -189,7 +203,8 @@ module _ {V : Type 0} where
 
       leaves : (v : World V) → Calmly v (leave v c)
       leaves v =
-          let u = ended (c.number == 1) v (from_start (record v { ended = Some (outcome_of c.mode) })) refl refl refl in
+          let start = from_start (record v { ended = Some (outcome_of c.mode) }) in
+          let u = ended (c.number == 1) v start (calmly_rested v start refl refl refl refl) in
           record { random = u.random; pends = λ who call p. u.pends who call p; names = λ n l p. u.names n l p; stacks = u.stacks }
 
   -- what is calm stays so
@@ -395,7 +410,7 @@ module _ {V : Type 0} where
   shut_rests : (s : State V) → Restful s.world → Rests s.world (shut s).world
   shut_rests s r =
       let v : World V = record (from_start (begin s.world)) { scopes = scopes.close s.world.scopes 0 } in
-      let one = rests_calmly s.world v r (calmly_same s.world v refl refl refl refl) in
+      let one = rests_calmly s.world v r (calmly_rested s.world v refl refl refl refl) in
       rests_then s.world v (shut s).world one (after_rests s v (settle v) (settle_rests v one.restful))
 
 -- the one of its number
@@ -444,7 +459,7 @@ module _ {V : Type 0} where
   before_looks w o =
       let b = pass_all_besides w in
       let v = pass_all w in
-      subst IsInOrder (ap (λ (x : World V). record x { links = w.links; random = w.random }) b.same) (order_anyway v v.channels w.links v.place v.wrote w.random v.moment v.notes o)
+      subst IsInOrder (ap (λ (x : World V). record x { links = w.links; random = w.random }) b.same) (order_anyway v v.channels w.links v.place w.random v.moment v.notes o)
 
   -- where the numbers of coroutines rise, and the world behind the settling is in order
   pub settles_from : LooksAgain → (w : World V) → Numbered 0 w.coroutines w.last_coroutine → IsInOrder (settle w) → LooksApart w → IsSettled (settle w) × Restful (settle w)

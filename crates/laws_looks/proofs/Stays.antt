@@ -1,6 +1,6 @@
 -- What calls, answers and replies do to links that are there keeps their numbers and sorts.
 use Rattle.std.proofs.Common.{◌≡◌, ◌∙◌, ℕ, ◌+◌, ◌==◌, ◌≤◌, ◌<◌, List, [], ◌∷◌, ◌++◌, find, fold, cond, Bool, true, false, not, ◌&&◌, Option, Some, None, if◌then◌else◌, refl, sym, ap, subst, arith}
-use Rattle.std.specs.Prelude.{is_none, nat_le}
+use Rattle.std.specs.Prelude.{is_none, nat_le, map, option_map}
 use Rattle.std.specs.Prelude.{Result, Ok, Err}
 use Rattle.std.proofs.lemmas.Bool.Decides.{nat_tests}
 use Rattle.rand_core.specs.Stream.{Stream}
@@ -21,7 +21,7 @@ use Rattle.dill_rules.specs.Hearing.{heat_ready}
 use Rattle.dill_rules.specs.LinkAnswers.{is_on_stack, look_of}
 use Rattle.dill_rules.specs.Linking.{if_ok, with_random, put, ask_stack, heat, reserve, queue, queue_end, queue_line, queue_message, dropped_for}
 use Rattle.dill_rules.specs.Links as link
-use Rattle.dill_rules.specs.Links.{Link, Links, is_link, change_link, connector, with_stack, as_closing, as_stream, heated, reserved}
+use Rattle.dill_rules.specs.Links.{Link, Links, is_link, change_link, connector, with_stack, as_closing, as_stream, heated, reserved, rested_link, rested}
 use Rattle.dill_rules.specs.declared.link.Sort.{Sort}
 use Rattle.dill_rules.specs.Owning.{drop}
 use Rattle.dill_rules.specs.Settling.{pass_one, pass_all}
@@ -29,6 +29,7 @@ use Rattle.dill_rules.specs.Sockets.{link_number, stack_of, on_link, on_named}
 use Rattle.dill_rules.specs.World.{World, pending_call}
 use Rattle.laws_queue.specs.Well.{bit}
 use Rattle.laws_sound.specs.Orderly.{weigh}
+use Rattle.laws_sound.proofs.Counting.{weigh_alike}
 use Rattle.laws_looks.specs.Readers.{Rising, may_name}
 use Rattle.laws_looks.specs.Keeping.{connects_for}
 use Rattle.laws_queue.proofs.Numbers.{found_changed}
@@ -101,6 +102,33 @@ soft_change l n f number sort closing = record {
   stays = stays_change l n f number sort;
   kept = refl;
   connects = λ who. weigh_same (λ x. bit (is_connecting_for who x)) f (λ x. ap (λ b. bit (not b && if_some (connector (f x).sort) false (λ m. m == who))) (closing x) ∙ ap (λ t. bit (not x.closing && if_some (connector t) false (λ m. m == who))) (sort x)) (is_link n) l.all;
+}
+
+-- a round begins: no link keeps the mark of its `write`
+pub find_rested : (k : ℕ) (xs : List Link) → find (is_link k) (map rested_link xs) ≡ option_map rested_link (find (is_link k) xs)
+find_rested k [] = refl
+find_rested k (x ∷ xs) = at (is_link k x) (find_rested k xs)
+  where
+    at : (b : Bool) → find (is_link k) (map rested_link xs) ≡ option_map rested_link (find (is_link k) xs) → cond b (Some (rested_link x)) (find (is_link k) (map rested_link xs)) ≡ option_map rested_link (cond b (Some x) (find (is_link k) xs))
+    at true e = refl
+    at false e = e
+
+pub found_rested : {A : Type 0} (d : A) (g : Link → A) → ((x : Link) → g (rested_link x) ≡ g x) → (k : ℕ) (xs : List Link) → if_some (find (is_link k) (map rested_link xs)) d g ≡ if_some (find (is_link k) xs) d g
+found_rested d g same k xs = ap (λ o. if_some o d g) (find_rested k xs) ∙ at (find (is_link k) xs)
+  where
+    at : (o : Option Link) → if_some (option_map rested_link o) d g ≡ if_some o d g
+    at None = refl
+    at (Some x) = same x
+
+rising_rested : (xs : List Link) (low high : ℕ) → Rising low xs high → Rising low (map rested_link xs) high
+rising_rested [] low high r = r
+rising_rested (x ∷ xs) low high r = (r.0, rising_rested xs x.number high r.1)
+
+pub soft_rested : (l : Links) → Soft l (rested l)
+soft_rested l = record {
+  stays = record { rising = rising_rested l.all 0 l.last; names = λ n. ap (λ b. nat_le n l.last && b) (found_rested true is_open (λ x. refl) n l.all) };
+  kept = refl;
+  connects = λ who. weigh_alike (λ x. bit (is_connecting_for who x)) rested_link l.all (λ x. refl);
 }
 
 pub stays_kept : (l : Links) (kept : ℕ) → Stays l (record l { kept = kept })

@@ -17,7 +17,8 @@ use Rattle.dill_rules.specs.Trying.{Try, next_try}
 use Rattle.dill_rules.specs.Turning.{turn}
 use Rattle.laws_sound.specs.Numbers.{Event, Turn, Hear, Expire, Shut, Wake, event}
 use Rattle.laws_looks.specs.Readers.{In, Pends, LooksApart, KeepsApart}
-use Rattle.laws_looks.proofs.Fewer.{fewer_same, fewer_lined, fewer_expire, fewer_settle, fewer_apart, named_once}
+use Rattle.laws_looks.proofs.Stays.{soft_rested}
+use Rattle.laws_looks.proofs.Fewer.{fewer_parts, fewer_same, fewer_lined, fewer_expire, fewer_settle, fewer_apart, named_once}
 use Rattle.laws_looks.proofs.Hears.{heard_apart, woken_apart}
 use Rattle.laws_looks.proofs.Enters.{turn_apart}
 
@@ -59,7 +60,7 @@ module _ {V : Type 0} where
   shut_apart : (s : State V) → LooksApart s.world → LooksApart (shut s).world
   shut_apart s a =
       let v : World V = record (from_start (begin s.world)) { scopes = scopes.close s.world.scopes 0 } in
-      lined_up s (settle v) (settled v (fewer_apart s.world v (fewer_same s.world v refl refl refl) a))
+      lined_up s (settle v) (settled v (fewer_apart s.world v (fewer_parts s.world v refl refl (soft_rested s.world.links).stays) a))
 
   hear_apart : (s : State V) (said : Option KernelReply) → LooksApart s.world → LooksApart (hear s said).world
   hear_apart s said a = at (next_try s.world)

@@ -134,7 +134,7 @@ one_look_turns p laws = record {
   turns = λ lack w who c v is g calm found answered.
       let b = begin w in
       let o = (begins w g).order in
-      let at_rest = calm_beside w w.place w.wrote w.moment [] calm in
+      let at_rest = calm_beside w w.place w.moment [] calm in
       let t = subst (Turns p b who) (sym is) (go_on_turns p lack b who c.body) in
       let others = others_calm p b who v o at_rest t in
       stirs_where laws v who (subst IsInOrder (sym is) (go_on_goes p lack w who c g found answered).good.order) (subst LooksApart (sym is) (go_on_apart p lack w who c.body calm.apart)) others

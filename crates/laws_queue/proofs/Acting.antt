@@ -162,10 +162,10 @@ module _ {V : Type 0} where
   accept_hears w n replies.NotYet = nobody (record { coroutines = refl; last = refl })
   accept_hears w n said = some_hears (pending_on w is_accept n) w (made w Stream things.Socket) (λ who e. handle_hears w (link.add w.links Stream) (things.Socket (next_link w)) who)
 
-  write_crew : (w : World V) (n : ℕ) (said : KernelReply) (wrote : List ℕ) → SameCrew w (record (heard_write w n said) { wrote = wrote })
-  write_crew w n (replies.Took count) wrote = record { coroutines = refl; last = refl }
-  write_crew w n replies.NotYet wrote = record { coroutines = refl; last = refl }
-  write_crew w n said wrote = record { coroutines = refl; last = refl }
+  write_crew : (w : World V) (l : link.Links) (n : ℕ) (said : KernelReply) → SameCrew w (heard_write (record w { links = l }) n said)
+  write_crew w l n (replies.Took count) = record { coroutines = refl; last = refl }
+  write_crew w l n replies.NotYet = record { coroutines = refl; last = refl }
+  write_crew w l n said = record { coroutines = refl; last = refl }
 
   shut_crew : (w : World V) (n : ℕ) (said : KernelReply) → SameCrew w (heard_shut w n said)
   shut_crew w n replies.Done = record { coroutines = refl; last = refl }
@@ -183,7 +183,7 @@ module _ {V : Type 0} where
   ask_hears w number (asks.Connect n address) said = connect_hears w number said
   ask_hears w number (asks.Finish n) said = finish_hears w n said
   ask_hears w number (asks.Accept listener n) said = accept_hears w listener said
-  ask_hears w number (asks.Write n bytes) said = nobody (write_crew w n said (w.wrote ++ n ∷ []))
+  ask_hears w number (asks.Write n bytes) said = nobody (write_crew w (on_link w n link.as_wrote).links n said)
   ask_hears w number (asks.Shut n) said = nobody (shut_crew w n said)
   ask_hears w number (asks.Read n size) said = nobody (read_crew w n said)
   ask_hears w number (asks.Wait limit) said = nobody (no_change w)

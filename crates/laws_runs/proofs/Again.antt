@@ -10,6 +10,7 @@ use Rattle.dill_base.specs.Maps.{if_some, change}
 use Rattle.dill_rules.specs.declared.coroutine.Coroutine.{Coroutine}
 use Rattle.dill_rules.specs.declared.coroutine.Mode.{Mode}
 use Rattle.dill_rules.specs.declared.coroutine.Mode.TheVariants as modes
+use Rattle.dill_rules.specs.Links.{rested}
 use Rattle.dill_rules.specs.World.{World, begin, from_start}
 use Rattle.dill_rules.specs.Settling.{finish, give_first, settle, settle_one, settle_within, IsSettled}
 use Rattle.dill_rules.specs.Giving.{give}
@@ -63,8 +64,8 @@ module _ {V : Type 0} where
   again_world : (w : World V) → IsLinkless w → is_closing w.scopes 0 ≡ true → record (from_start (begin w)) { scopes = scopes.close w.scopes 0 } ≡ begin w
   again_world w linkless closing =
       ap (λ xs. record (from_start (begin w)) { scopes = record w.scopes { bundles = xs } }) (closes_same 0 w.scopes.bundles closing)
-      ∙ ap (λ x. record (begin w) { place = x; wrote = [] }) (sym linkless.place)
-      ∙ ap (λ x. record (begin w) { wrote = x }) (sym linkless.wrote)
+      ∙ ap (λ x. record (begin w) { place = x; links = rested w.links }) (sym linkless.place)
+      ∙ ap (λ l. record (begin w) { links = l }) (ap rested linkless.links ∙ sym linkless.links)
 
   lined_same : (cs : List (Coroutine V)) → list_all (λ c. is_resting c.mode) cs ≡ true → map lined cs ≡ cs
   lined_same [] e = refl

@@ -150,7 +150,7 @@ module _ {V : Type 0} where
   lined_waits cs e = all_map waits_linkless lined cs (λ c f. ap (λ o. if_some o true may_wait) (lined_pending c.mode) ∙ f) e
 
   lined_linkless : (w : World V) (answers closings : List Stamp) (next : ℕ) → IsLinkless w → IsLinkless (line_up w answers closings next).world
-  lined_linkless w answers closings next linkless = linkless_with w (line_up w answers closings next).world refl refl refl (λ h. h) (λ h. lined_waits w.coroutines h) linkless
+  lined_linkless w answers closings next linkless = linkless_with w (line_up w answers closings next).world refl refl (λ h. h) (λ h. lined_waits w.coroutines h) linkless
 
   late_unshut : (xs : List ℕ) (s : State V) → IsLinkless s.world → IsUnshut s → IsUnshut (fold expire_next s xs)
   late_unshut [] s linkless h = h
@@ -222,6 +222,6 @@ module _ {V : Type 0} (p : Program V) (law : IsLawful p) (unlinked : MakesLinkle
       let root = to_state (kept_expired k) (expired s) (follows.expired k s stable.linkless stands) held in
       let began : State V = record s { world = begin s.world } in
       let linkless : IsLinkless (wordless s.world) = subst IsLinkless stands.world stable.linkless in
-      let late = late_unshut (passed s.world) began (record { links = linkless.links; place = linkless.place; wrote = linkless.wrote; things = linkless.things; calls = linkless.calls }) (record { root = h.root; none = h.none }) in
+      let late = late_unshut (passed s.world) began (record { links = linkless.links; place = linkless.place; things = linkless.things; calls = linkless.calls }) (record { root = h.root; none = h.none }) in
       let last = fold expire_next began (passed s.world) in
       record { root = root; none = none_lined (settle last.world) last.answers last.closings last.next root late.none }

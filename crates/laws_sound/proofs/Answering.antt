@@ -113,7 +113,7 @@ module _ {V : Type 0} where
   does_last w v u a b = does_both w v u (omega arith) a b
 
   pub besides : (w v : World V) → Besides w v → IsInOrder w → Does w v 0
-  besides w v b o = subst (λ u. Does w u 0) (sym b.same) (record { order = order_anyway w w.channels b.links w.place w.wrote b.random w.moment w.notes o; coroutines = refl; stays = λ n e. e; noted = λ n. refl; waits = refl; spent = omega arith })
+  besides w v b o = subst (λ u. Does w u 0) (sym b.same) (record { order = order_anyway w w.channels b.links w.place b.random w.moment w.notes o; coroutines = refl; stays = λ n e. e; noted = λ n. refl; waits = refl; spent = omega arith })
 
   pub unkept : (w : World V) (count : ℕ) → IsInOrder w → Does w (record w { handles = handles.unkeep w.handles count }) count
   unkept w count o =

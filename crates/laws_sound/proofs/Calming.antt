@@ -13,7 +13,7 @@ use Rattle.dill_rules.specs.declared.coroutine.Coroutine.{Coroutine}
 use Rattle.dill_rules.specs.Answers.{answer_of}
 use Rattle.dill_rules.specs.Expiring.{passed}
 use Rattle.dill_rules.specs.Hearing.{heat_ready}
-use Rattle.dill_rules.specs.Links.{Links}
+use Rattle.dill_rules.specs.Links.{Links, rested}
 use Rattle.dill_rules.specs.Settling.{can_finish, is_clear, answer_due, settle, IsSettled}
 use Rattle.dill_rules.specs.State.{lined}
 use Rattle.dill_rules.specs.Turning.{go_on, move_of, answer_given}
@@ -54,13 +54,13 @@ module _ {V : Type 0} where
   settled_lined : (w : World V) → IsLinkless w → IsSettled w → IsSettled (record w { coroutines = map lined w.coroutines })
   settled_lined w linkless s = record {
     endings = lined_finish w w.coroutines s.endings;
-    answers = lined_due (record w { coroutines = map lined w.coroutines }) w.coroutines ∙ first_same w (map lined w.coroutines) w.links w.place w.wrote w.random w.moment w.notes w.coroutines linkless.calls ∙ s.answers;
+    answers = lined_due (record w { coroutines = map lined w.coroutines }) w.coroutines ∙ first_same w (map lined w.coroutines) w.links w.place w.random w.moment w.notes w.coroutines linkless.calls ∙ s.answers;
   }
 
-  settled_anyway : (w : World V) (l : Links) (place : Place) (wrote : List ℕ) (random : Stream) (moment : ℕ) (notes : List Note) → list_all waits_linkless w.coroutines ≡ true → IsSettled w → IsSettled (changed w w.coroutines l place wrote random moment notes)
-  settled_anyway w l place wrote random moment notes calls s = record {
+  settled_anyway : (w : World V) (l : Links) (place : Place) (random : Stream) (moment : ℕ) (notes : List Note) → list_all waits_linkless w.coroutines ≡ true → IsSettled w → IsSettled (changed w w.coroutines l place random moment notes)
+  settled_anyway w l place random moment notes calls s = record {
     endings = s.endings;
-    answers = first_same w w.coroutines l place wrote random moment notes w.coroutines calls ∙ s.answers;
+    answers = first_same w w.coroutines l place random moment notes w.coroutines calls ∙ s.answers;
   }
 
   -- what settles
@@ -68,17 +68,17 @@ module _ {V : Type 0} where
   queued_settled w ready early linkless n = settled_lined (settle w) (settle_linkless w linkless) (settles_apart V w (linkless_apart w linkless) n)
 
   pub begin_settled : (w : World V) → list_all waits_linkless w.coroutines ≡ true → IsSettled w → IsSettled (begin w)
-  begin_settled w calls s = settled_anyway w w.links w.place w.wrote w.random w.moment [] calls s
+  begin_settled w calls s = settled_anyway w w.links w.place w.random w.moment [] calls s
 
   heated_settled : (ready : List Ready) (w : World V) → list_all waits_linkless w.coroutines ≡ true → IsSettled w → (list_all waits_linkless (fold heat_ready w ready).coroutines ≡ true) × IsSettled (fold heat_ready w ready)
   heated_settled [] w calls s = (calls, s)
-  heated_settled (x ∷ xs) w calls s = heated_settled xs (heat_ready w x) calls (settled_anyway w (heat_ready w x).links w.place w.wrote w.random w.moment w.notes calls s)
+  heated_settled (x ∷ xs) w calls s = heated_settled xs (heat_ready w x) calls (settled_anyway w (heat_ready w x).links w.place w.random w.moment w.notes calls s)
 
   woke_settled : (k : Kept V) (told : ℕ) (ready : List Ready) → list_all waits_linkless k.world.coroutines ≡ true → IsSettled k.world → IsSettled (kept_woke k told ready).world
   woke_settled k told ready calls s =
       let heated = fold heat_ready (begin k.world) ready in
       let h = heated_settled ready (begin k.world) calls (begin_settled k.world calls s) in
-      settled_anyway heated heated.links at_start [] heated.random (max k.world.moment told) heated.notes h.0 h.1
+      settled_anyway heated (rested heated.links) at_start heated.random (max k.world.moment told) heated.notes h.0 h.1
 
 module _ {V : Type 0} (p : Program V) (law : IsLawful p) (unlinked : MakesLinkless p) where
   well : KeepsWell p

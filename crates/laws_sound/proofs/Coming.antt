@@ -17,6 +17,7 @@ use Rattle.dill_scope.proofs.Growing.{enter_keeps}
 use Rattle.dill_scope.proofs.Leaving.{ended_keeps}
 use Rattle.dill_scope.proofs.Numbered.{find_push_other}
 use Rattle.dill_base.specs.Maps.{if_some, without}
+use Rattle.dill_rules.specs.Links.{rested}
 use Rattle.dill_rules.specs.declared.coroutine.Coroutine.{Coroutine}
 use Rattle.dill_rules.specs.declared.coroutine.Mode.TheVariants as modes
 use Rattle.dill_rules.specs.declared.thing.Thing.{Thing}
@@ -94,7 +95,7 @@ module _ {V : Type 0} where
     fits_left_at : (outcome : Option Errno) (b : Bool) → (who == 1) ≡ b → FitsTogether (record (if b then from_start (record w { ended = Some outcome }) else w) { coroutines = others; scopes = scopes.ended w.scopes who })
     fits_left_at outcome true g =
         let gone : is_some (find (is_coroutine 1) others) ≡ false = subst (λ n. is_some (find (is_coroutine n) others) ≡ false) (equal who 1 g) (ap is_some (gone_without who w.coroutines 0 w.last_coroutine f.numbered)) in
-        fits_anyway (record w { coroutines = others; scopes = scopes.ended w.scopes who; ended = Some outcome }) w.channels w.links at_start [] w.random w.moment w.notes (fits_gone (Some outcome) (sym gone))
+        fits_anyway (record w { coroutines = others; scopes = scopes.ended w.scopes who; ended = Some outcome }) w.channels (rested w.links) at_start w.random w.moment w.notes (fits_gone (Some outcome) (sym gone))
     fits_left_at outcome false g = fits_gone w.ended (f.main ∙ ap is_some (sym (other_without who 1 w.coroutines (λ h. unequal who 1 g (sym h)))))
 
   pub fits_left : (w : World V) (c : Coroutine V) → coroutine_of w c.number ≡ Some c → ((name : ℕ) → owner_of w.scopes name ≡ Some c.number → ⊥) → list_all (λ x. not (x.owner == c.number)) w.handles.entries ≡ true → FitsTogether w → FitsTogether (leave w c)

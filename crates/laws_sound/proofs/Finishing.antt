@@ -106,7 +106,7 @@ module _ {V : Type 0} where
       (λ y f g. let b = and_parts (has_waiter w y) (not (died_as number y)) g in ap (λ t. t || waits_for y.number mode) (ap not (owns_as w.scopes freed.scopes who y.bundle (drop_other w.scopes x.bundle y.bundle (apart y.bundle x.bundle f))) ∙ not_waiting w who number c y e m b.0 b.1))
       (weightless (closes_it x.bundle) ks gone) (all_both (has_waiter w) (λ y. not (died_as number y)) ks (all_without (has_waiter w) (closes_it x.bundle) w.closings o.closings) (weightless (died_as number) ks other)))
       refl (going_open v who (with_mode mode c) here refl) in
-      subst (λ p. IsInOrder (reply (if_some p w (free_bundle w)) who words.Hclose answer)) (sym h.found) (order_anyway v (channels.leave w.channels who) w.links w.place w.wrote w.random w.moment (w.notes ++ Freed x.number ∷ []) in_order)
+      subst (λ p. IsInOrder (reply (if_some p w (free_bundle w)) who words.Hclose answer)) (sym h.found) (order_anyway v (channels.leave w.channels who) w.links w.place w.random w.moment (w.notes ++ Freed x.number ∷ []) in_order)
 
 -- a bundle that is found is one of its owner's
 bundles_all : (test : ℕ → Bool) (bs : List Bundle) (who name : ℕ) (z : Bundle) → list_all test (map (λ x. x.name) (filter (λ x. if_some x.owner false (λ o. o == who)) bs)) ≡ true → find (is_bundle name) bs ≡ Some z → z.owner ≡ Some who → test z.name ≡ true

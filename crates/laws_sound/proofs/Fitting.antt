@@ -72,8 +72,8 @@ module _ (there more : ℕ → Bool) (owner other : ℕ → Option ℕ) where
 
 module _ {V : Type 0} where
   -- what no part of it speaks of
-  pub fits_anyway : (w : World V) (c : Channels) (l : Links) (place : Place) (wrote : List ℕ) (random : Stream) (moment : ℕ) (notes : List Note) → FitsTogether w → FitsTogether (record w { channels = c; links = l; place = place; wrote = wrote; random = random; moment = moment; notes = notes })
-  fits_anyway w c l place wrote random moment notes f = record {
+  pub fits_anyway : (w : World V) (c : Channels) (l : Links) (place : Place) (random : Stream) (moment : ℕ) (notes : List Note) → FitsTogether w → FitsTogether (record w { channels = c; links = l; place = place; random = random; moment = moment; notes = notes })
+  fits_anyway w c l place random moment notes f = record {
     forest = f.forest;
     bundles = f.bundles;
     crew = f.crew;

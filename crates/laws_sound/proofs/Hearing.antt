@@ -1,5 +1,5 @@
 -- Replies of the kernel keep a world in order: a number is kept for whom they give a handle.
-use Rattle.std.proofs.Common.{◌≡◌, ◌∙◌, ℕ, List, [], ◌∷◌, ◌++◌, Bool, true, false, not, ◌&&◌, ◌||◌, if◌then◌else◌, Option, Some, None, refl, sym, ap, arith, is_some}
+use Rattle.std.proofs.Common.{◌≡◌, ◌∙◌, ℕ, Bool, true, false, not, ◌&&◌, ◌||◌, if◌then◌else◌, Option, Some, None, refl, sym, ap, arith, is_some}
 use Rattle.dill_base.specs.declared.errno.Errno.{Errno}
 use Rattle.dill_calls.specs.declared.answer.Answer.TheVariants.{Fault, Number}
 use Rattle.dill_calls.specs.declared.call.Call.{Call}
@@ -49,8 +49,8 @@ free_call call e = refl
 
 module _ {V : Type 0} where
   -- the place in the round is another
-  placed_does : (w : World V) (place : Place) (wrote : List ℕ) → IsInOrder w → Does w (record w { place = place; wrote = wrote }) 0
-  placed_does w place wrote o = record { order = order_anyway w w.channels w.links place wrote w.random w.moment w.notes o; coroutines = refl; stays = λ n e. e; noted = λ n. refl; waits = refl; spent = omega arith }
+  placed_does : (w : World V) (place : Place) → IsInOrder w → Does w (record w { place = place }) 0
+  placed_does w place o = record { order = order_anyway w w.channels w.links place w.random w.moment w.notes o; coroutines = refl; stays = λ n e. e; noted = λ n. refl; waits = refl; spent = omega arith }
 
   links_goes : (w : World V) (l : link.Links) → IsOrderly w → Goes w (record w { links = l })
   links_goes w l g = does_goes w (record w { links = l }) g (besides w (record w { links = l }) (with_links w l w.random) g.order)
@@ -137,9 +137,9 @@ module _ {V : Type 0} where
   ask_goes w number (asks.Finish n) said g = finish_goes w n said g
   ask_goes w number (asks.Accept listener n) said g = accept_goes w listener said g
   ask_goes w number (asks.Write n bytes) said g =
-      let one = write_goes w n said g in
-      let v = heard_write w n said in
-      goes_then w v (record v { wrote = w.wrote ++ n ∷ [] }) one (does_goes v (record v { wrote = w.wrote ++ n ∷ [] }) one.good (placed_does v v.place (w.wrote ++ n ∷ []) one.good.order))
+      let v = on_link w n link.as_wrote in
+      let one = links_goes w v.links g in
+      goes_then w v (heard_write v n said) one (write_goes v n said one.good)
   ask_goes w number (asks.Shut n) said g = shut_goes w n said g
   ask_goes w number (asks.Read n size) said g = read_goes w n said g
   ask_goes w number (asks.Wait limit) said g = goes_not w g
@@ -148,6 +148,6 @@ module _ {V : Type 0} where
   pub hear_goes : (w : World V) (x : Try) (said : Option KernelReply) → IsOrderly w → Goes w (settle (heard w x said))
   hear_goes w x said g =
       let at : World V = record w { place = record { kind = x.kind; number = x.number } } in
-      let d = placed_does w (record { kind = x.kind; number = x.number }) w.wrote g.order in
+      let d = placed_does w (record { kind = x.kind; number = x.number }) g.order in
       let one = goes_then w at (heard w x said) (does_goes w at g d) (ask_goes at x.number x.ask (fitting x.ask said) (does_good w at g d)) in
       goes_then w (heard w x said) (settle (heard w x said)) one (settle_goes (heard w x said) one.good)

@@ -9,6 +9,7 @@ use Rattle.dill_rules.specs.declared.coroutine.Coroutine.{Coroutine}
 use Rattle.dill_rules.specs.World.{World, begin, coroutine_of}
 use Rattle.dill_rules.specs.Expiring.{expire_one, passed}
 use Rattle.dill_rules.specs.Hearing.{heat_ready}
+use Rattle.dill_rules.specs.Links.{rested}
 use Rattle.dill_rules.specs.Seen.{lend}
 use Rattle.dill_rules.specs.Settling.{settle}
 use Rattle.dill_rules.specs.State.{State, lined, after, turned, expire_next, expired, shut}
@@ -33,7 +34,7 @@ use Rattle.laws_sound.proofs.Untried.{ask_none}
 module _ {V : Type 0} where
   queued_linkless : (w : World V) (ready : List ℕ) (early : ℕ) → IsLinkless w → IsLinkless (queued w ready early).world
   queued_linkless w ready early linkless =
-      linkless_with w (queued w ready early).world refl refl refl (λ h. h) (all_map waits_linkless lined w.coroutines (λ c f. ap (λ o. if_some o true may_wait) (lined_pending c.mode) ∙ f)) linkless
+      linkless_with w (queued w ready early).world refl refl (λ h. h) (all_map waits_linkless lined w.coroutines (λ c f. ap (λ o. if_some o true may_wait) (lined_pending c.mode) ∙ f)) linkless
 
   heated_linkless : (ready : List Ready) (w : World V) → IsLinkless w → IsLinkless (fold heat_ready w ready)
   heated_linkless [] w linkless = linkless
@@ -41,7 +42,6 @@ module _ {V : Type 0} where
       heated_linkless xs (heat_ready w x) (record {
         links = ap (λ l. (heat_ready (record w { links = l }) x).links) linkless.links;
         place = linkless.place;
-        wrote = linkless.wrote;
         things = linkless.things;
         calls = linkless.calls;
       })
@@ -49,7 +49,7 @@ module _ {V : Type 0} where
   woke_linkless : (k : Kept V) (told : ℕ) (ready : List Ready) → IsLinkless k.world → IsLinkless (kept_woke k told ready).world
   woke_linkless k told ready linkless =
       let heated = heated_linkless ready (begin k.world) (begin_linkless k.world linkless) in
-      record { links = heated.links; place = refl; wrote = refl; things = heated.things; calls = heated.calls }
+      record { links = ap rested heated.links; place = refl; things = heated.things; calls = heated.calls }
 
   late_linkless : (xs : List ℕ) (k : Kept V) → IsLinkless k.world → IsLinkless (fold kept_expire_next k xs).world
   late_linkless [] k linkless = linkless
@@ -86,7 +86,7 @@ module _ {V : Type 0} where
   unlent_step f k s u blind stands = ap returned (blind u) ∙ sym (blind no_random) ∙ ap f (unlent k s stands)
 
   unlent_linkless : (w : World V) → IsLinkless (wordless w) → IsLinkless w
-  unlent_linkless w linkless = record { links = linkless.links; place = linkless.place; wrote = linkless.wrote; things = linkless.things; calls = linkless.calls }
+  unlent_linkless w linkless = record { links = linkless.links; place = linkless.place; things = linkless.things; calls = linkless.calls }
 
   linkless_of : (k : Kept V) (s : State V) → IsLinkless k.world → StandsFor k s → IsLinkless s.world
   linkless_of k s linkless stands = unlent_linkless s.world (subst IsLinkless stands.world linkless)
@@ -144,7 +144,7 @@ module _ {V : Type 0} (p : Program V) (law : IsLawful p) (unlinked : MakesLinkle
 
 pub steps_keep_linkless : {V : Type 0} (p : Program V) → StepsKeepLinkless p
 steps_keep_linkless p law unlinked = record {
-  opening = λ view. record { links = refl; place = refl; wrote = refl; things = refl; calls = refl };
+  opening = λ view. record { links = refl; place = refl; things = refl; calls = refl };
   turned = turned_linkless p law unlinked;
   expires = λ k who linkless. queued_linkless (expire_one k.world who) k.ready k.early (expire_one_linkless k.world who linkless);
   settled = settled_linkless;

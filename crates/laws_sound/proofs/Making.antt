@@ -228,7 +228,7 @@ module _ {V : Type 0} where
 
   -- a step begins
   pub begins : (w : World V) → IsOrderly w → IsOrderly (begin w)
-  begins w g = record { order = order_anyway w w.channels w.links w.place w.wrote w.random w.moment [] g.order; sockets = g.sockets; waits = g.waits; kept = g.kept }
+  begins w g = record { order = order_anyway w w.channels w.links w.place w.random w.moment [] g.order; sockets = g.sockets; waits = g.waits; kept = g.kept }
 
   pub makes_after : (w v : World V) (who : ℕ) {n : ℕ} → Makes w who n → Does w v 0 → Makes v who n
   makes_after w v who h d = record {
@@ -333,7 +333,7 @@ module _ {V : Type 0} where
   moves_any w number owner o here on out = record { order = order_move w number owner o here on out; coroutines = (move_crew w number owner).coroutines; stays = move_stays w number owner; noted = move_counts w number owner; waits = move_waits w number owner; spent = move_spent w number owner }
 
   pub other_channels : (w : World V) (c : Channels) → c.waits ≡ w.channels.waits → IsInOrder w → Does w (record w { channels = c }) 0
-  other_channels w c e o = record { order = order_anyway w c w.links w.place w.wrote w.random w.moment w.notes o; coroutines = refl; stays = λ n f. f; noted = λ n. refl; waits = e; spent = omega arith }
+  other_channels w c e o = record { order = order_anyway w c w.links w.place w.random w.moment w.notes o; coroutines = refl; stays = λ n f. f; noted = λ n. refl; waits = e; spent = omega arith }
 
   -- ---- an owner is taken
 

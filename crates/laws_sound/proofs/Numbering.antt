@@ -87,7 +87,7 @@ module _ {V : Type 0} where
     stands : StandsFor kept s
 
   lent_orderly : (random : Stream) (w : World V) → IsOrderly w → IsOrderly (lent random w)
-  lent_orderly random w g = record { order = order_anyway w w.channels w.links w.place w.wrote random w.moment w.notes g.order; sockets = g.sockets; waits = g.waits; kept = g.kept }
+  lent_orderly random w g = record { order = order_anyway w w.channels w.links w.place random w.moment w.notes g.order; sockets = g.sockets; waits = g.waits; kept = g.kept }
 
   lent_well : (p : Program V) (k : Kept V) (random : Stream) → IsWell p k → IsWell p (lend_kept k random)
   lent_well p k random w = record { lives = w.lives; numbered = w.numbered; queue = w.queue }

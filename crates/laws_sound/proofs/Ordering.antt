@@ -62,8 +62,8 @@ apart a b e f = let t : (a == b) ≡ true = grind (arith, nat_tests) in let u : 
 
 module _ {V : Type 0} where
   -- what no part of it speaks of
-  pub order_anyway : (w : World V) (c : Channels) (l : Links) (place : Place) (wrote : List ℕ) (random : Stream) (moment : ℕ) (notes : List Note) → IsInOrder w → IsInOrder (record w { channels = c; links = l; place = place; wrote = wrote; random = random; moment = moment; notes = notes })
-  order_anyway w c l place wrote random moment notes o = record { fits = fits_anyway w c l place wrote random moment notes o.fits; closings = o.closings; waiters = o.waiters; endings = o.endings }
+  pub order_anyway : (w : World V) (c : Channels) (l : Links) (place : Place) (random : Stream) (moment : ℕ) (notes : List Note) → IsInOrder w → IsInOrder (record w { channels = c; links = l; place = place; random = random; moment = moment; notes = notes })
+  order_anyway w c l place random moment notes o = record { fits = fits_anyway w c l place random moment notes o.fits; closings = o.closings; waiters = o.waiters; endings = o.endings }
 
   -- who waits for no bundle to close owns none that is closing
   pub free_owns : (w : World V) (who : ℕ) (c : Coroutine V) → IsInOrder w → coroutine_of w who ≡ Some c → is_free c.mode ≡ true → list_all (λ x. not (owns w.scopes who x.bundle)) w.closings ≡ true
@@ -111,7 +111,7 @@ module _ {V : Type 0} where
   pub order_reply : (w : World V) (who : ℕ) (c : Coroutine V) (word : Word) (answer : Answer) → IsInOrder w → coroutine_of w who ≡ Some c → is_free c.mode ≡ true → IsInOrder (reply w who word answer)
   order_reply w who c word answer o e free =
       let v = set_mode w who (modes.Fresh word answer) in
-      order_anyway v (leave w.channels who) w.links w.place w.wrote w.random w.moment w.notes (order_set w who c (modes.Fresh word answer) o e free refl)
+      order_anyway v (leave w.channels who) w.links w.place w.random w.moment w.notes (order_set w who c (modes.Fresh word answer) o e free refl)
 
   -- ---- handles
 
@@ -178,7 +178,7 @@ module _ {V : Type 0} where
         (λ y f. take_other w.scopes name owner y.bundle (apart y.bundle name f)) moved_open
 
     noted : (v : World V) → IsInOrder v → IsInOrder (note v (Moved number (handles.next_number w.handles)))
-    noted v i = order_anyway v v.channels v.links v.place v.wrote v.random v.moment (v.notes ++ Moved number (handles.next_number w.handles) ∷ []) i
+    noted v i = order_anyway v v.channels v.links v.place v.random v.moment (v.notes ++ Moved number (handles.next_number w.handles) ∷ []) i
 
     pub order_moved : (t : Thing) → x.thing ≡ t → ((name : ℕ) → x.thing ≡ things.Bundle name → Inside w.scopes name owner → ⊥) → IsInOrder (note (take_thing (renumbered w number t owner) t owner) (Moved number (handles.next_number w.handles)))
     order_moved (things.Bundle name) f out = subst (λ u. IsInOrder (note (record (renumbered w number u owner) { scopes = scopes.take w.scopes name owner }) (Moved number (handles.next_number w.handles)))) f (noted (record (renumbered w number x.thing owner) { scopes = scopes.take w.scopes name owner }) (order_taken name f (out name f)))
@@ -204,10 +204,10 @@ module _ {V : Type 0} where
 
     order_dropped : (t : Thing) → bundle_of t ≡ None → IsInOrder (note (drop retired t) (Freed number))
     order_dropped (things.Bundle name) f = cc
-    order_dropped (things.End end) f = order_anyway retired (drop retired (things.End end)).channels w.links w.place w.wrote w.random w.moment (w.notes ++ Freed number ∷ []) order_retired
-    order_dropped (things.Listener link) f = order_anyway retired w.channels (drop retired (things.Listener link)).links w.place w.wrote w.random w.moment (w.notes ++ Freed number ∷ []) order_retired
-    order_dropped (things.Socket link) f = order_anyway retired w.channels (drop retired (things.Socket link)).links w.place w.wrote w.random w.moment (w.notes ++ Freed number ∷ []) order_retired
-    order_dropped (things.Value kind value) f = order_anyway retired w.channels w.links w.place w.wrote w.random w.moment (w.notes ++ Freed number ∷ []) order_retired
+    order_dropped (things.End end) f = order_anyway retired (drop retired (things.End end)).channels w.links w.place w.random w.moment (w.notes ++ Freed number ∷ []) order_retired
+    order_dropped (things.Listener link) f = order_anyway retired w.channels (drop retired (things.Listener link)).links w.place w.random w.moment (w.notes ++ Freed number ∷ []) order_retired
+    order_dropped (things.Socket link) f = order_anyway retired w.channels (drop retired (things.Socket link)).links w.place w.random w.moment (w.notes ++ Freed number ∷ []) order_retired
+    order_dropped (things.Value kind value) f = order_anyway retired w.channels w.links w.place w.random w.moment (w.notes ++ Freed number ∷ []) order_retired
 
   pub order_release : (w : World V) (number : ℕ) → IsInOrder w → ((x : Entry Thing) → entry_of w number ≡ Some x → bundle_of x.thing ≡ None) → IsInOrder (release w number)
   order_release w number o none = at (entry_of w number) refl

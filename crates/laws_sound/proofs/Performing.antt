@@ -104,7 +104,7 @@ module _ {V : Type 0} where
       one end = record {
         noted = λ n. refl;
         good = record {
-          order = order_anyway u (waiting end).channels u.links u.place u.wrote u.random u.moment u.notes g.order;
+          order = order_anyway u (waiting end).channels u.links u.place u.random u.moment u.notes g.order;
           sockets = g.sockets;
           waits = all_push (waits_well u.coroutines) u.channels.waits (record { who = who; clause = index; end = end; want = want_of x }) g.waits m;
           kept = g.kept;

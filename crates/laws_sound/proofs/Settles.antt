@@ -32,27 +32,27 @@ module _ {V : Type 0} where
       ∙ ap (λ r. if_some (clause_fault w (end_of_clause x) (want_of x)) r (λ e. Some (answers.Chosen index (Some e) None))) (choice_same v w h (index + 1) xs)
 
   -- the same but for what answers of no link don't look at
-  abbrev pub changed : World V → List (Coroutine V) → Links → Place → List ℕ → Stream → ℕ → List Note → World V
-  changed w ds l place wrote random moment notes = record w { coroutines = ds; links = l; place = place; wrote = wrote; random = random; moment = moment; notes = notes }
+  abbrev pub changed : World V → List (Coroutine V) → Links → Place → Stream → ℕ → List Note → World V
+  changed w ds l place random moment notes = record w { coroutines = ds; links = l; place = place; random = random; moment = moment; notes = notes }
 
-  pub answer_same : (w : World V) (ds : List (Coroutine V)) (l : Links) (place : Place) (wrote : List ℕ) (random : Stream) (moment : ℕ) (notes : List Note) (n : ℕ) (call : Call) → may_wait call ≡ true → answer_of (changed w ds l place wrote random moment notes) n call ≡ answer_of w n call
-  answer_same w ds l place wrote random moment notes n (calls.Msleep deadline) e = refl
-  answer_same w ds l place wrote random moment notes n (calls.Hclose number) e = refl
-  answer_same w ds l place wrote random moment notes n (calls.BundleWait number deadline) e = refl
-  answer_same w ds l place wrote random moment notes n (calls.Chsend number bytes deadline) e = refl
-  answer_same w ds l place wrote random moment notes n (calls.Chrecv number size deadline) e = refl
-  answer_same w ds l place wrote random moment notes n (calls.Choose deadline all) e = ap (λ o. option_or (when (is_cancelled w n) (Fault Ecanceled)) (option_or None o)) (choice_same (changed w ds l place wrote random moment notes) w (λ number want. refl) 0 all)
-  answer_same w ds l place wrote random moment notes n _ e = cc
+  pub answer_same : (w : World V) (ds : List (Coroutine V)) (l : Links) (place : Place) (random : Stream) (moment : ℕ) (notes : List Note) (n : ℕ) (call : Call) → may_wait call ≡ true → answer_of (changed w ds l place random moment notes) n call ≡ answer_of w n call
+  answer_same w ds l place random moment notes n (calls.Msleep deadline) e = refl
+  answer_same w ds l place random moment notes n (calls.Hclose number) e = refl
+  answer_same w ds l place random moment notes n (calls.BundleWait number deadline) e = refl
+  answer_same w ds l place random moment notes n (calls.Chsend number bytes deadline) e = refl
+  answer_same w ds l place random moment notes n (calls.Chrecv number size deadline) e = refl
+  answer_same w ds l place random moment notes n (calls.Choose deadline all) e = ap (λ o. option_or (when (is_cancelled w n) (Fault Ecanceled)) (option_or None o)) (choice_same (changed w ds l place random moment notes) w (λ number want. refl) 0 all)
+  answer_same w ds l place random moment notes n _ e = cc
 
   due_same : (w v : World V) (n : ℕ) (o : Option Call) → ((call : Call) → may_wait call ≡ true → answer_of v n call ≡ answer_of w n call) → if_some o true may_wait ≡ true → ◌≡◌ {A = Option (ℕ × Call × Answer)} (if_some o None (λ call. if_some (answer_of v n call) None (λ a. Some (n, call, a)))) (if_some o None (λ call. if_some (answer_of w n call) None (λ a. Some (n, call, a))))
   due_same w v n None same e = refl
   due_same w v n (Some call) same e = ap (λ r. if_some r None (λ a. Some (n, call, a))) (same call e)
 
   -- and so is the first answer that is due
-  pub first_same : (w : World V) (ds : List (Coroutine V)) (l : Links) (place : Place) (wrote : List ℕ) (random : Stream) (moment : ℕ) (notes : List Note) (cs : List (Coroutine V)) → list_all waits_linkless cs ≡ true → first_some (answer_due (changed w ds l place wrote random moment notes)) cs ≡ first_some (answer_due w) cs
-  first_same w ds l place wrote random moment notes [] e = refl
-  first_same w ds l place wrote random moment notes (c ∷ cs) e =
-      let v = changed w ds l place wrote random moment notes in
+  pub first_same : (w : World V) (ds : List (Coroutine V)) (l : Links) (place : Place) (random : Stream) (moment : ℕ) (notes : List Note) (cs : List (Coroutine V)) → list_all waits_linkless cs ≡ true → first_some (answer_due (changed w ds l place random moment notes)) cs ≡ first_some (answer_due w) cs
+  first_same w ds l place random moment notes [] e = refl
+  first_same w ds l place random moment notes (c ∷ cs) e =
+      let v = changed w ds l place random moment notes in
       let h = and_parts (waits_linkless c) (list_all waits_linkless cs) e in
-      ap (λ o. option_or o (first_some (answer_due v) cs)) (due_same w v c.number (pending_call c.mode) (answer_same w ds l place wrote random moment notes c.number) h.0)
-      ∙ ap (λ o. option_or (answer_due w c) o) (first_same w ds l place wrote random moment notes cs h.1)
+      ap (λ o. option_or o (first_some (answer_due v) cs)) (due_same w v c.number (pending_call c.mode) (answer_same w ds l place random moment notes c.number) h.0)
+      ∙ ap (λ o. option_or (answer_due w c) o) (first_same w ds l place random moment notes cs h.1)

@@ -56,7 +56,7 @@ bundle_is (things.Value kind value) name e = cc
 
 module _ {V : Type 0} where
   near_anyway : (w : World V) (who : ℕ) (number : ℕ) → Nearly w who → Nearly (note w (Freed number)) who
-  near_anyway w who number near = record { fits = fits_anyway w w.channels w.links w.place w.wrote w.random w.moment (w.notes ++ Freed number ∷ []) near.fits; closings = near.closings; waiters = near.waiters; endings = near.endings }
+  near_anyway w who number near = record { fits = fits_anyway w w.channels w.links w.place w.random w.moment (w.notes ++ Freed number ∷ []) near.fits; closings = near.closings; waiters = near.waiters; endings = near.endings }
 
   -- the test of who is pending in `hclose`, in other scopes and with other closings
   closing_kept : (w v : World V) (c : Coroutine V) → ((number : ℕ) (x : Closing) → find (is_dead_as number) w.closings ≡ Some x → owns w.scopes c.number x.bundle ≡ true → (find (is_dead_as number) v.closings ≡ Some x) × (owns v.scopes c.number x.bundle ≡ true)) → has_closing w c ≡ true → has_closing v c ≡ true

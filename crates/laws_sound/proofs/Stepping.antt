@@ -13,6 +13,7 @@ use Rattle.dill_scope.specs.declared.forest.Bundle.{Bundle}
 use Rattle.dill_scope.specs.Scopes as scopes
 use Rattle.dill_scope.proofs.Growing.{opening_is_forest}
 use Rattle.dill_base.specs.Maps.{if_some, change}
+use Rattle.dill_rules.specs.Links.{rested}
 use Rattle.dill_rules.specs.declared.coroutine.Coroutine.{Coroutine}
 use Rattle.dill_rules.specs.declared.coroutine.Mode.{Mode}
 use Rattle.dill_rules.specs.declared.coroutine.Mode.TheVariants as modes
@@ -147,7 +148,7 @@ module _ {V : Type 0} where
 
   pub order_root_closed : (w : World V) → IsOrderly w → IsOrderly (root_closed w)
   order_root_closed w g = record {
-    order = order_anyway (record w { scopes = scopes.close w.scopes 0 }) w.channels w.links at_start [] w.random w.moment [] (order_closed w 0 g.order);
+    order = order_anyway (record w { scopes = scopes.close w.scopes 0 }) w.channels (rested w.links) at_start w.random w.moment [] (order_closed w 0 g.order);
     sockets = g.sockets;
     waits = g.waits;
     kept = g.kept;
@@ -158,7 +159,7 @@ module _ {V : Type 0} where
       let begun = begins k.world g in
       let heated = fold heat_ready (begin k.world) ready in
       let h = does_good (begin k.world) heated begun (besides (begin k.world) heated (heat_all_besides ready (begin k.world)) begun.order) in
-      record { order = order_anyway heated heated.channels heated.links at_start [] heated.random (max k.world.moment told) heated.notes h.order; sockets = h.sockets; waits = h.waits; kept = h.kept }
+      record { order = order_anyway heated heated.channels (rested heated.links) at_start heated.random (max k.world.moment told) heated.notes h.order; sockets = h.sockets; waits = h.waits; kept = h.kept }
 
   order_opening : (view : V) → IsInOrder (opening_kept view).world
   order_opening view = record {

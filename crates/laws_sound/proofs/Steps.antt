@@ -10,6 +10,7 @@ use Rattle.dill_calls.specs.declared.word.Word.TheVariants as words
 use Rattle.rand_core.specs.Stream.{Stream}
 use Rattle.dill_handles.specs.Handles as handles
 use Rattle.dill_base.specs.Maps.{if_some, first_some}
+use Rattle.dill_rules.specs.Links.{rested}
 use Rattle.dill_rules.specs.declared.coroutine.Coroutine.{Coroutine}
 use Rattle.dill_rules.specs.Answers.{answer_of}
 use Rattle.dill_rules.specs.Giving.{give}
@@ -101,7 +102,7 @@ module _ {V : Type 0} (u : Stream) where
   -- ---- effects
 
   take_thing_lent : (w : World V) (thing : Thing) (owner : ℕ) → IsLinkless w → Lent u (take_thing ((lent u) w) thing owner) (take_thing w thing owner)
-  take_thing_lent w (things.Bundle name) owner l = record { same = refl; linkless = linkless_with w (take_thing w (things.Bundle name) owner) refl refl refl (λ h. h) (λ h. h) l }
+  take_thing_lent w (things.Bundle name) owner l = record { same = refl; linkless = linkless_with w (take_thing w (things.Bundle name) owner) refl refl (λ h. h) (λ h. h) l }
   take_thing_lent w (things.End end) owner l = here w l
   take_thing_lent w (things.Listener link) owner l = here w l
   take_thing_lent w (things.Socket link) owner l = here w l
@@ -117,7 +118,7 @@ module _ {V : Type 0} (u : Stream) where
       (λ x. note (take_thing (record w { handles = handles.renumber w.handles number x.thing owner }) x.thing owner) (Moved number (handles.next_number w.handles))) (here w l)
       (λ x e.
       let less : World V = record w { handles = handles.renumber w.handles number x.thing owner } in
-      let moved : IsLinkless less = linkless_with w less refl refl refl
+      let moved : IsLinkless less = linkless_with w less refl refl
       (λ h. all_append is_linkless_entry (without (handles.is_entry number) w.handles.entries) (record { number = handles.next_number w.handles; thing = x.thing; owner = owner } ∷ []) (all_without is_linkless_entry (handles.is_entry number) w.handles.entries h) (and_from (is_linkless_thing x.thing) true (thing_linkless w number x l e) refl))
       (λ h. h) l in
       and_so (take_thing ((lent u) less) x.thing owner) (take_thing less x.thing owner) (λ v. note v (Moved number (handles.next_number w.handles))) (take_thing_lent less x.thing owner moved)
@@ -126,7 +127,7 @@ module _ {V : Type 0} (u : Stream) where
   drop_lent : (w : World V) (thing : Thing) → is_linkless_thing thing ≡ true → IsLinkless w → Lent u (drop ((lent u) w) thing) (drop w thing)
   drop_lent w (things.Bundle name) e l = here w l
   drop_lent w (things.Value kind value) e l = here w l
-  drop_lent w (things.End end) e l = record { same = refl; linkless = linkless_with w (drop w (things.End end)) refl refl refl (λ h. h) (λ h. h) l }
+  drop_lent w (things.End end) e l = record { same = refl; linkless = linkless_with w (drop w (things.End end)) refl refl (λ h. h) (λ h. h) l }
   drop_lent w (things.Listener link) e l = cc
   drop_lent w (things.Socket link) e l = cc
 
@@ -157,19 +158,19 @@ module _ {V : Type 0} (u : Stream) where
   give_first_lent : (w : World V) → IsLinkless w → Lent u (give_first ((lent u) w)) (give_first w)
   give_first_lent w l =
       let r = some_lent (first_some (answer_due w) w.coroutines) ((lent u) w) w (λ x. give ((lent u) w) x.0 x.1 x.2) (λ x. give w x.0 x.1 x.2) (here w l) (λ x e. give_lent w x.0 x.1 x.2 (first_waits w w.coroutines x l.calls e) l) in
-      record { same = ap (λ o. if_some o ((lent u) w) (λ x. give ((lent u) w) x.0 x.1 x.2)) (first_same w w.coroutines w.links w.place w.wrote u w.moment w.notes w.coroutines l.calls) ∙ r.same; linkless = r.linkless }
+      record { same = ap (λ o. if_some o ((lent u) w) (λ x. give ((lent u) w) x.0 x.1 x.2)) (first_same w w.coroutines w.links w.place u w.moment w.notes w.coroutines l.calls) ∙ r.same; linkless = r.linkless }
 
   keep_end_lent : (w : World V) (c : Coroutine V) → IsLinkless w → Lent u (keep_end ((lent u) w) c) (keep_end w c)
   keep_end_lent w c l =
       if_lent (c.number == 1) (from_start (record ((lent u) w) { ended = Some (outcome_of c.mode) })) ((lent u) w) (from_start (record w { ended = Some (outcome_of c.mode) })) w
-      (record { same = refl; linkless = record { links = l.links; place = refl; wrote = refl; things = l.things; calls = l.calls } }) (here w l)
+      (record { same = refl; linkless = record { links = ap rested l.links; place = refl; things = l.things; calls = l.calls } }) (here w l)
 
   leave_lent : (w : World V) (c : Coroutine V) → IsLinkless w → Lent u (leave ((lent u) w) c) (leave w c)
   leave_lent w c l =
       let k = keep_end_lent w c l in
       record {
         same = ap (λ (v : World V). record v { coroutines = (leave w c).coroutines; scopes = (leave w c).scopes }) k.same;
-        linkless = linkless_with (keep_end w c) (leave w c) refl refl refl (λ h. h) (λ h. all_without waits_linkless (is_coroutine c.number) w.coroutines l.calls) k.linkless;
+        linkless = linkless_with (keep_end w c) (leave w c) refl refl (λ h. h) (λ h. all_without waits_linkless (is_coroutine c.number) w.coroutines l.calls) k.linkless;
       }
 
   finish_lent : (w : World V) (c : Coroutine V) → IsLinkless w → Lent u (finish ((lent u) w) c) (finish w c)
@@ -195,7 +196,7 @@ module _ {V : Type 0} (u : Stream) where
       let within = settle_within n w in
       and_so (settle_within n ((lent u) w)) within pass_all (within_lent n w l)
       (λ r. record {
-        same = pass_linkless ((lent u) within) (linkless_with within ((lent u) within) refl refl refl (λ h. h) (λ h. h) r) ∙ ap (lent u) (sym (pass_linkless within r));
+        same = pass_linkless ((lent u) within) (linkless_with within ((lent u) within) refl refl (λ h. h) (λ h. h) r) ∙ ap (lent u) (sym (pass_linkless within r));
         linkless = subst IsLinkless (sym (pass_linkless within r)) r;
       })
 

@@ -12,6 +12,7 @@ use Rattle.dill_calls.specs.Program.{Program, Move, Calls, Ends}
 use Rattle.rand_core.specs.Stream.{Stream}
 use Rattle.dill_handles.specs.Handles as handles
 use Rattle.dill_base.specs.Maps.{if_some}
+use Rattle.dill_rules.specs.Links.{rested}
 use Rattle.dill_rules.specs.declared.coroutine.Coroutine.{Coroutine}
 use Rattle.dill_rules.specs.declared.coroutine.Mode.TheVariants as modes
 use Rattle.dill_rules.specs.declared.thing.Thing.{Thing}
@@ -60,14 +61,14 @@ module _ {V : Type 0} (u : Stream) where
   make_channel_lent w who l =
       let ends = channels.next_ends w.channels in
       let more : World V = record w { channels = channels.make w.channels } in
-      let first = make_linkless more (things.End ends.0) who refl (linkless_with w more refl refl refl (λ h. h) (λ h. h) l) in
+      let first = make_linkless more (things.End ends.0) who refl (linkless_with w more refl refl (λ h. h) (λ h. h) l) in
       record { same = refl; linkless = reply_linkless (make (make more (things.End ends.0) who) (things.End ends.1) who) who words.Chmake (Pair (next_number w) (next_number w + 1)) (make_linkless (make more (things.End ends.0) who) (things.End ends.1) who refl first) }
 
   done_lent : (w : World V) (who end : ℕ) → IsLinkless w → Lent u (done_at ((lent u) w) who end) (done_at w who end)
   done_lent w who end l =
       let ended : World V = record w { channels = channels.done w.channels end } in
       if_lent u (has_ended w.channels end (Send [])) (reply ((lent u) w) who words.Chdone (Fault Epipe)) (reply ((lent u) ended) who words.Chdone (Number 0)) (reply w who words.Chdone (Fault Epipe)) (reply ended who words.Chdone (Number 0))
-      (replied u w who words.Chdone (Fault Epipe) l) (replied u ended who words.Chdone (Number 0) (linkless_with w ended refl refl refl (λ h. h) (λ h. h) l))
+      (replied u w who words.Chdone (Fault Epipe) l) (replied u ended who words.Chdone (Number 0) (linkless_with w ended refl refl (λ h. h) (λ h. h) l))
 
   first_done_blind : (w : World V) (who index : ℕ) (xs : List Clause) → first_done ((lent u) w) who index xs ≡ first_done w who index xs
   first_done_blind w who index [] = refl
@@ -78,7 +79,7 @@ module _ {V : Type 0} (u : Stream) where
   wait_all_lent w who index (x ∷ xs) l =
       and_so u (wait_at ((lent u) w) who index x) (wait_at w who index x) (λ v. wait_all v who (index + 1) xs)
       (some_lent u (end_named w (end_of_clause x)) ((lent u) w) w (λ end. record ((lent u) w) { channels = channels.wait w.channels (record { who = who; clause = index; end = end; want = want_of x }) })
-      (λ end. record w { channels = channels.wait w.channels (record { who = who; clause = index; end = end; want = want_of x }) }) (here u w l) (λ end e. record { same = refl; linkless = linkless_with w _ refl refl refl (λ h. h) (λ h. h) l }))
+      (λ end. record w { channels = channels.wait w.channels (record { who = who; clause = index; end = end; want = want_of x }) }) (here u w l) (λ end e. record { same = refl; linkless = linkless_with w _ refl refl (λ h. h) (λ h. h) l }))
       (λ r. wait_all_lent (wait_at w who index x) who (index + 1) xs r)
 
   met_lent : (w : World V) (who : ℕ) (call : Call) (index : ℕ) (m : Meeting) → IsLinkless w → Lent u (meet ((lent u) w) who call index m) (meet w who call index m)
@@ -146,7 +147,7 @@ module _ {V : Type 0} (u : Stream) where
     perform_lent w who view _ e l = cc
 
     late_blind : (w : World V) (who : ℕ) (call : Call) → may_wait call ≡ true → is_too_late ((lent u) w) who call ≡ is_too_late w who call
-    late_blind w who call e = ap (λ o. is_late w.moment call && (not (uses_link (word_of call)) && is_none o)) (answer_same w w.coroutines w.links w.place w.wrote u w.moment w.notes who call e)
+    late_blind w who call e = ap (λ o. is_late w.moment call && (not (uses_link (word_of call)) && is_none o)) (answer_same w w.coroutines w.links w.place u w.moment w.notes who call e)
 
     late_lent : (w : World V) (who : ℕ) (call : Call) → may_wait call ≡ true → IsLinkless w → Lent u (if is_too_late ((lent u) w) who call then reply ((lent u) w) who (word_of call) (late_answer call) else (lent u) w) (if is_too_late w who call then reply w who (word_of call) (late_answer call) else w)
     late_lent w who call e l =
@@ -161,7 +162,7 @@ module _ {V : Type 0} (u : Stream) where
     done_with : (w : World V) (who : ℕ) (view : V) (call : Call) → is_of_link (word_of call) ≡ false → IsLinkless w → Lent u (done p ((lent u) w) who view call) (done p w who view call)
     done_with w who view call e l =
         let k = keep_for w call in
-        and_so u (perform p ((lent u) k) who view call) (perform p k who view call) (λ v. meet_deadline v who) (perform_lent k who view call e (linkless_with w k refl refl refl (λ h. h) (λ h. h) l)) (λ r. meet_lent (perform p k who view call) who r)
+        and_so u (perform p ((lent u) k) who view call) (perform p k who view call) (λ v. meet_deadline v who) (perform_lent k who view call e (linkless_with w k refl refl (λ h. h) (λ h. h) l)) (λ r. meet_lent (perform p k who view call) who r)
 
     enter_lent : (lacks : Bool) (w : World V) (who : ℕ) (view : V) (call : Call) → is_of_link (word_of call) ≡ false → IsLinkless w → Lent u (enter p lacks ((lent u) w) who view call) (enter p lacks w who view call)
     enter_lent lacks w who view call e l = at (refuse p w who view call)
@@ -178,7 +179,7 @@ module _ {V : Type 0} (u : Stream) where
         (λ r. record { same = refl; linkless = set_mode_linkless (close_all w who) who (modes.Ending outcome) refl r })
 
     resume_linkless : (w : World V) (who : ℕ) (view : V) → IsLinkless w → IsLinkless (resume w who view)
-    resume_linkless w who view linkless = linkless_with w (resume w who view) refl refl refl (λ h. h) (all_change waits_linkless (is_coroutine who) (as_running view) w.coroutines (λ c e. refl)) linkless
+    resume_linkless w who view linkless = linkless_with w (resume w who view) refl refl (λ h. h) (all_change waits_linkless (is_coroutine who) (as_running view) w.coroutines (λ c e. refl)) linkless
 
     make_move_lent : (lacks : Bool) (w : World V) (who : ℕ) (view : V) (move : Move) → MovesLinkless (view, move) → IsLinkless w → Lent u (make_move p lacks ((lent u) w) who view move) (make_move p lacks w who view move)
     make_move_lent lacks w who view (Calls call) e l = enter_lent lacks w who view (entered w.moment call) (entered_linkless w.moment call e) l
@@ -216,4 +217,4 @@ module _ {V : Type 0} where
   expire_one_linkless w who l = (expire_one_lent w.random w who l).linkless
 
   pub closed_linkless : (w : World V) → IsLinkless w → IsLinkless (root_closed w)
-  closed_linkless w linkless = record { links = linkless.links; place = refl; wrote = refl; things = linkless.things; calls = linkless.calls }
+  closed_linkless w linkless = record { links = ap rested linkless.links; place = refl; things = linkless.things; calls = linkless.calls }

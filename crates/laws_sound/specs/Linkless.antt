@@ -1,5 +1,5 @@
 -- Worlds in which no links are there, and programs that make no call of a link.
-use Rattle.std.specs.Prelude.{◌≡◌, ◌≤◌, [], Bool, true, false}
+use Rattle.std.specs.Prelude.{◌≡◌, ◌≤◌, Bool, true, false}
 use Rattle.std.specs.List.{list_all}
 use Rattle.dill_calls.specs.declared.call.Call.{Call}
 use Rattle.dill_calls.specs.declared.call.Call.TheVariants as calls
@@ -43,7 +43,6 @@ waits_linkless c = if_some (pending_call c.mode) true may_wait
 pub record IsLinkless {V : Type 0} (w : World V) : Type 0 where
   pub links : w.links ≡ no_links
   pub place : w.place ≡ at_start
-  pub wrote : w.wrote ≡ []
   pub things : list_all is_linkless_entry w.handles.entries ≡ true
   pub calls : list_all waits_linkless w.coroutines ≡ true
 
