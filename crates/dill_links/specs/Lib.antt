@@ -1,4 +1,2 @@
-pub mod Stored
 pub mod Changing
 pub mod Lending
-pub mod Laws
