@@ -87,8 +87,8 @@ impl Stack {
         }
     }
 
-    // The refusal of a client's handshake.
-    fn offer_fault(&self, resource: &[u8], host: &[u8]) -> Option<Errno>
+    /// The refusal of a client's handshake.
+    pub fn offer_fault(&self, resource: &[u8], host: &[u8]) -> Option<Errno>
         ensures { result ≡ offer_fault resource.now host.now self.now.held }
     {
         let own = head_fault(resource, host);
@@ -122,9 +122,9 @@ impl Stack {
         }
     }
 
-    // The refusal of a server's handshake.
+    /// The refusal of a server's handshake.
     #[tactic(auto, unfolding(crate::specs::Attaching::greet_fault))]
-    fn greet_fault(&self) -> Option<Errno>
+    pub fn greet_fault(&self) -> Option<Errno>
         ensures { result ≡ greet_fault false false self.now.held }
     {
         first_fault(false, false, self.is_done(), self.is_broken(), false)
