@@ -3,7 +3,11 @@
 #![tactic(auto)]
 
 mod asking;
+mod entering;
 mod faults;
+mod looking;
 
 pub use asking::{asked, message_of};
+pub use entering::{attach, detach_start, greet, queue};
 pub use faults::{Faults, refuses};
+pub use looking::{after_send, is_receive, is_send, look_of, look_on, stack_lookless};
