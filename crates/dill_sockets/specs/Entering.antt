@@ -5,6 +5,7 @@ use Rattle.dill_base.specs.declared.errno.Errno.{Errno}
 use Rattle.dill_base.specs.declared.errno.NoMemory.{NoMemory}
 use Rattle.dill_base.specs.Maps.{if_some}
 use Rattle.dill_calls.specs.declared.call.Call.{Call}
+use Rattle.dill_calls.specs.declared.word.Word.{Word}
 use Rattle.dill_calls.specs.CallTable.{word_of}
 use Rattle.dill_http.specs.Heads.{Said, line_of}
 use Rattle.dill_http.specs.Lines.{crlf}
@@ -20,9 +21,21 @@ use Rattle.dill_rules.specs.Linking.{if_ok, with_random}
 abbrev pub line_due : Said → Stream → Held → Result (Held × Stream) Errno
 line_due said random s = with_random random (line (is_first said) (line_of said ++ crlf) s)
 
+-- what a call queues that sends a line
+abbrev pub said_due : Call → Stream → Held → Result (Held × Stream) Errno
+said_due call random s = if_some (line_said call) (Ok (s, random)) (λ said. line_due said random s)
+
+-- the end of the sending direction
+abbrev pub end_due : Word → Stream → Held → Result (Held × Stream) Errno
+end_due word random s = if is_end word then done random s else Ok (s, random)
+
+-- what a call queues that sends no message
+abbrev pub other_due : Call → Stream → Held → Result (Held × Stream) Errno
+other_due call random s = if_some (line_said call) (end_due (word_of call) random s) (λ said. line_due said random s)
+
 -- what a send or an end queues
 abbrev pub queue_due : Call → Stream → Held → Result (Held × Stream) Errno
-queue_due call random s = if_some (message_of call) (if_some (line_said call) (if is_end (word_of call) then done random s else Ok (s, random)) (λ said. line_due said random s)) (λ m. frame m random s)
+queue_due call random s = if_some (message_of call) (other_due call random s) (λ m. frame m random s)
 
 -- what a layer is put on
 abbrev pub layer_due : Layer → Stream → Held → Result (Held × Stream) Errno

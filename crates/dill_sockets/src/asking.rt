@@ -1,7 +1,7 @@
-ghost use Rattle.std.specs.Prelude.{◌≡◌, option_copied};
-ghost use Rattle.dill_rules.specs.Directions.{asked, message_of, side_of};
+ghost use Rattle.std.specs.Prelude.{◌≡◌, is_some, option_copied};
+ghost use Rattle.dill_rules.specs.Directions.{asked, message_of, line_said, is_end, side_of};
 
-use dill_calls::Call;
+use dill_calls::{Call, Word};
 use dill_stack::Want;
 use dill_ws::Side;
 
@@ -35,4 +35,23 @@ pub(crate) fn side_of(client: bool) -> Side
     ensures { result ≡ side_of client }
 {
     if client { Side::Client } else { Side::Server }
+}
+
+/// Whether the call ends the sending direction.
+pub(crate) fn is_end(word: Word) -> bool
+    ensures { result ≡ is_end word }
+{
+    matches!(word, Word::TcpDone | Word::TermDone | Word::HttpDone)
+}
+
+/// Whether the call sends a line.
+pub(crate) fn says_line(call: &Call) -> bool
+    ensures { result ≡ is_some (line_said call.now) }
+{
+    matches!(
+        call,
+        Call::HttpSendrequest(_, _, _, _)
+            | Call::HttpSendstatus(_, _, _, _)
+            | Call::HttpSendfield(_, _, _, _)
+    )
 }

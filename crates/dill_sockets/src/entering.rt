@@ -8,18 +8,18 @@ ghost use Rattle.dill_http.specs.Writing as heads;
 ghost use Rattle.dill_stack.specs.declared.layer.Layer.TheVariants as layers;
 ghost use Rattle.dill_stack.specs.declared.parting.Parting.TheVariants as partings;
 ghost use Rattle.dill_stack.specs.Doing.{Changes, Sends};
-ghost use Rattle.dill_stack.specs.Interface.{Held, is_sent, frame, done, detach_start, expect_greet};
+ghost use Rattle.dill_stack.specs.Interface.{Held, is_sent, frame, detach_start, expect_greet};
 ghost use Rattle.dill_stack.specs.Refusals.{is_allowed_parting};
 ghost use Rattle.dill_stack.specs.Rooms.{Stocked};
 ghost use Rattle.dill_stack.specs.Standing.{FitsBelow};
-ghost use Rattle.dill_rules.specs.Directions.{layer_of, parting_of, is_first, is_handshake, side_of};
+ghost use Rattle.dill_rules.specs.Directions.{layer_of, parting_of, is_first, is_handshake};
 ghost use Rattle.dill_rules.specs.Linking.{greet_by, with_random};
-ghost use Rattle.dill_sockets.specs.Entering.{Enters, IsLack, queue_due, line_due, attach_due, layer_due, detach_due};
+ghost use Rattle.dill_sockets.specs.Entering.{Enters, IsLack, queue_due, other_due, end_due, said_due, line_due, attach_due, layer_due, detach_due};
 ghost use Rattle.dill_sockets.specs.Faults.{spelling_fault};
 
-use crate::asking::side_of;
+use crate::asking::{is_end, message_of, says_line, side_of};
 use dill_base::{Errno, NoMemory, Octets, WriteFault};
-use dill_calls::Call;
+use dill_calls::{Call, Word};
 use dill_frames::PrefixForm;
 use dill_http::{write_field, write_request, write_status};
 use dill_stack::{Layer, Parting, Stack, StackFault};
@@ -41,9 +41,37 @@ pub fn queue<R: Rng>(
     requires spelled { spelling_fault call.now ≡ None }
     ensures { Enters (queue_due call.now (R.stream keys.old) stack.old.held) result stack.old stack.new (R.stream keys.old) (R.stream keys.new) }
 {
+    match message_of(call) {
+        Some(message) => queue_message(message, stack, keys),
+        None => queue_other(alloc, call, stack, keys),
+    }
+}
+
+/// The same of a call that sends no message.
+fn queue_other<R: Rng>(
+    alloc: Global,
+    call: &Call,
+    stack: &mut Stack,
+    keys: &mut R,
+) -> Result<(), NoMemory>
+    requires sent { is_sent stack.old.held ≡ true }
+    requires spelled { spelling_fault call.now ≡ None }
+    ensures { Enters (other_due call.now (R.stream keys.old) stack.old.held) result stack.old stack.new (R.stream keys.old) (R.stream keys.new) }
+{
+    if says_line(call) {
+        queue_said(alloc, call, stack)
+    } else {
+        queue_end(call.word(), stack, keys)
+    }
+}
+
+/// The line of a call is queued, if it has one.
+fn queue_said(alloc: Global, call: &Call, stack: &mut Stack) -> Result<(), NoMemory>
+    requires sent { is_sent stack.old.held ≡ true }
+    requires spelled { spelling_fault call.now ≡ None }
+    ensures { (random : Stream) → Enters (said_due call.now random stack.old.held) result stack.old stack.new random random }
+{
     match call {
-        Call::Bsend(_, bytes, _) => queue_message(bytes.as_slice(), stack, keys),
-        Call::Msend(_, bytes, _) => queue_message(bytes.as_slice(), stack, keys),
         Call::HttpSendrequest(_, command, resource, _) => {
             let line = write_request(alloc, command.as_slice(), resource.as_slice());
             queue_line(true, line, stack)
@@ -55,9 +83,6 @@ pub fn queue<R: Rng>(
             let line = write_field(alloc, name.as_slice(), value.as_slice());
             queue_line(false, line, stack)
         }
-        Call::TcpDone(_, _) => queue_end(stack, keys),
-        Call::TermDone(_, _) => queue_end(stack, keys),
-        Call::HttpDone(_, _) => queue_end(stack, keys),
         _ => Ok(()),
     }
 }
@@ -93,11 +118,13 @@ fn queue_status(alloc: Global, code: u64, reason: &[u8], stack: &mut Stack) -> R
     queue_line(true, line, stack)
 }
 
-fn queue_end<R: Rng>(stack: &mut Stack, keys: &mut R) -> Result<(), NoMemory>
+fn queue_end<R: Rng>(word: Word, stack: &mut Stack, keys: &mut R) -> Result<(), NoMemory>
     requires sent { is_sent stack.old.held ≡ true }
-    ensures { Enters (done (R.stream keys.old) stack.old.held) result stack.old stack.new (R.stream keys.old) (R.stream keys.new) }
+    ensures { Enters (end_due word (R.stream keys.old) stack.old.held) result stack.old stack.new (R.stream keys.old) (R.stream keys.new) }
 {
-    let _ = stack.done(keys);
+    if is_end(word) {
+        let _ = stack.done(keys);
+    }
     Ok(())
 }
 

@@ -1,20 +1,20 @@
-ghost use Rattle.std.specs.Prelude.{◌≡◌, ◌==◌, length, option_to_list};
+ghost use Rattle.std.specs.Prelude.{◌≡◌, ◌==◌, length, false, None, option_to_list, if◌then◌else◌};
 ghost use Rattle.std.specs.List.{list_any};
 ghost use Rattle.dill_http.specs.Heads.{Status};
 ghost use Rattle.dill_http.specs.Writing.{fault_of};
 ghost use Rattle.dill_ws.specs.Closing.{is_close_code};
 ghost use Rattle.dill_stack.specs.declared.layer.Layer.TheVariants as layers;
 ghost use Rattle.dill_stack.specs.declared.parting.Parting.TheVariants as partings;
-ghost use Rattle.dill_stack.specs.Interface.{Held, attach_fault, detach_fault};
+ghost use Rattle.dill_stack.specs.Interface.{Held, done_fault, attach_fault, detach_fault};
 ghost use Rattle.dill_stack.specs.Refusals.{is_allowed_parting};
-ghost use Rattle.dill_rules.specs.Directions.{side_of};
+ghost use Rattle.dill_rules.specs.Directions.{is_end, side_of};
 ghost use Rattle.dill_rules.specs.Refusals.{place_of, is_same};
 ghost use Rattle.dill_rules.specs.Sockets.{faults_by};
 ghost use Rattle.dill_sockets.specs.Faults.{both};
 
-use crate::asking::side_of;
+use crate::asking::{is_end, side_of};
 use dill_base::Errno;
-use dill_calls::Call;
+use dill_calls::{Call, Word};
 use dill_frames::PrefixForm;
 use dill_http::{field_fault, request_fault, status_fault};
 use dill_stack::{Layer, Parting, Stack, Want};
@@ -91,7 +91,28 @@ impl Faults {
                 one(stack.offer_fault(resource.as_slice(), host.as_slice()))
             }
             Call::WsAttachServer(_, _, _) => one(stack.greet_fault()),
-            _ => one(None),
+            Call::Pass(word, _) => one(end_fault(*word, busy, stack)),
+            Call::Print(_)
+            | Call::Now
+            | Call::Yield
+            | Call::Msleep(_)
+            | Call::Hmake(_, _)
+            | Call::Hquery(_, _)
+            | Call::Hown(_)
+            | Call::Hclose(_)
+            | Call::Bundle
+            | Call::Go(_, _)
+            | Call::BundleGo(_, _, _)
+            | Call::BundleWait(_, _)
+            | Call::Chmake
+            | Call::Chsend(_, _, _)
+            | Call::Chrecv(_, _, _)
+            | Call::Chdone(_)
+            | Call::Choose(_, _)
+            | Call::TcpListen(_, _)
+            | Call::TcpAccept(_, _)
+            | Call::TcpConnect(_, _)
+            | Call::TcpClose(_, _) => one(None),
         }
     }
 
@@ -161,6 +182,16 @@ fn is_same_some(e: Errno, fault: Option<Errno>) -> bool
     }
 }
 
+/// The refusal of an end; all other words have none.
+fn end_fault(word: Word, busy: bool, stack: &Stack) -> Option<Errno>
+    ensures { result ≡ (if is_end word then done_fault busy stack.now.held else None) }
+{
+    if is_end(word) {
+        return stack.done_fault(busy);
+    }
+    None
+}
+
 /// The refusal of a status line; no code of more than three digits has a spelling.
 fn code_fault(code: u64, reason: &[u8]) -> Option<Errno>
     ensures { result ≡ fault_of (Status code reason.now) }
@@ -172,6 +203,7 @@ fn code_fault(code: u64, reason: &[u8]) -> Option<Errno>
 }
 
 /// The refusal of an attach of messages behind a length.
+#[tactic(auto, unfolding(dill_stack::specs::Refusals::attach_fault))]
 fn prefix_fault(size: u64, little: bool, stack: &Stack) -> Option<Errno>
     ensures { result ≡ attach_fault (layers.Prefix (record { size = size; little = little })) false stack.now.held }
 {
@@ -211,6 +243,7 @@ fn is_allowed_close(code: u64, reason: &[u8]) -> bool
 }
 
 /// The refusal of a detach with a close frame.
+#[tactic(auto, unfolding(dill_stack::specs::Refusals::detach_fault))]
 fn close_fault(code: u64, reason: &[u8]) -> Option<Errno>
     ensures { (s : Held) → result ≡ detach_fault (partings.Close code reason.now) false s }
 {

@@ -1,7 +1,7 @@
 ghost use Rattle.std.specs.Prelude.{◌≡◌, ◌≤◌, true, None, IfSome, is_some};
 ghost use Rattle.rand_core.specs.Stream.{Stream};
 ghost use Rattle.dill_stack.specs.Answering.{HasRoom};
-ghost use Rattle.dill_stack.specs.Held.{Expects};
+ghost use Rattle.dill_stack.specs.declared.task.Task.TheVariants.{Expects};
 ghost use Rattle.dill_stack.specs.Interface.{is_sent, limit_of_want};
 ghost use Rattle.dill_rules.specs.Directions.{is_send, is_receive, is_handshake, asked, parting_of};
 ghost use Rattle.dill_rules.specs.Giving as giving;
