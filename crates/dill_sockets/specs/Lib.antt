@@ -1,3 +1,4 @@
 pub mod Faults
 pub mod Entering
 pub mod Looking
+pub mod Free

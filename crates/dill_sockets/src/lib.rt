@@ -5,9 +5,11 @@
 mod asking;
 mod entering;
 mod faults;
+mod laws;
 mod looking;
 
 pub use asking::{asked, message_of};
 pub use entering::{attach, detach_start, greet, queue};
 pub use faults::{Faults, refuses};
+pub use laws::free_calls;
 pub use looking::{after_send, is_receive, is_send, look_of, look_on, stack_lookless};
