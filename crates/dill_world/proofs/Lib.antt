@@ -8,6 +8,5 @@ pub mod Gathered
 pub mod Leaving
 pub mod LinedUp
 pub mod Picking
-pub mod Quiet
 pub mod Releasing
 pub mod Running

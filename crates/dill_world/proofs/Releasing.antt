@@ -3,19 +3,19 @@ use Rattle.std.proofs.Common.{◌≡◌, ◌∙◌, ℕ, suc, ◌+◌, ◌≤◌
 use Rattle.std.proofs.lemmas.List.{append-nil, reverse-append}
 use Rattle.dill_calls.specs.declared.ran.Note.{Note}
 use Rattle.dill_calls.specs.declared.ran.Note.TheVariants.{Freed}
-use Rattle.dill_chan.specs.Channels.{Channels, drop_end}
+use Rattle.dill_chan.specs.Channels.{Channels}
 use Rattle.dill_handles.specs.Handles as handles
 use Rattle.dill_handles.specs.Handles.{Handles}
 use Rattle.dill_handles.specs.declared.entry.Entry.{Entry}
 use Rattle.dill_base.specs.Maps.{if_some, without}
 use Rattle.dill_rules.specs.declared.thing.Thing.{Thing}
 use Rattle.dill_rules.specs.declared.thing.Thing.TheVariants as things
-use Rattle.dill_rules.specs.Answers.{end_of}
+use Rattle.dill_rules.specs.Links.{Links}
 use Rattle.dill_rules.specs.World.{note}
 use Rattle.dill_rules.specs.Owning.{drop, release}
 use Rattle.dill_rules.specs.Settling.{release_all}
 use Rattle.dill_world.specs.Store.{Store, world_of}
-use Rattle.dill_world.specs.Releases.{freed, owned_number, falling, retire_all, retire_noted, drop_named, drop_all, drop_noted}
+use Rattle.dill_world.specs.Releases.{freed, owned_number, falling, retire_all, retire_noted, drop_end_of, drop_named, drop_all, drop_noted, close_link, close_named, close_all_named, close_noted}
 use Rattle.dill_world.proofs.Closing.{bit, times, numbers, without_times, without_length, itself}
 
 times_append : (k : ℕ) (ms ns : List ℕ) → times k (ms ++ ns) ≡ times k ms + times k ns
@@ -57,6 +57,10 @@ pub noted_dropped : (ns : List ℕ) (h : Handles Thing) (c : Channels) → drop_
 noted_dropped [] h c = refl
 noted_dropped (n ∷ ns) h c = noted_dropped ns (handles.retire h n) (drop_named h c n)
 
+pub noted_closed : (ns : List ℕ) (h : Handles Thing) (l : Links) → close_noted h l (freed ns) ≡ close_all_named h l ns
+noted_closed [] h l = refl
+noted_closed (n ∷ ns) h l = noted_closed ns (handles.retire h n) (close_named h l n)
+
 found_at : (n : ℕ) (e : Entry Thing) (es : List (Entry Thing)) (b : Bool) → (e.number == n) ≡ b → 1 ≤ bit b + times n (numbers es) → (1 ≤ times n (numbers es) → (x : Entry Thing) × (find (handles.is_entry n) es ≡ Some x)) → (x : Entry Thing) × (cond b (Some e) (find (handles.is_entry n) es) ≡ Some x)
 found_at n e es true t h again = (e, refl)
 found_at n e es false t h again = again (omega (arith, h))
@@ -66,8 +70,8 @@ found n [] h = absurd (omega (arith, h))
 found n (e ∷ es) h = found_at n e es (e.number == n) refl h (found n es)
 
 module _ {V : Type 0} where
-  -- an end alone is more than its number
-  thing_gone : (k : Store V) (thing : Thing) → drop (world_of k) thing ≡ world_of (record k { channels = if_some (end_of thing) k.channels (drop_end k.channels) })
+  -- an end and a link are more than their numbers
+  thing_gone : (k : Store V) (thing : Thing) → drop (world_of k) thing ≡ world_of (record k { channels = drop_end_of k.channels thing; links = close_link k.links thing })
   thing_gone k (things.Bundle name) = refl
   thing_gone k (things.End end) = refl
   thing_gone k (things.Listener link) = refl
@@ -76,9 +80,9 @@ module _ {V : Type 0} where
 
   -- a store in which these numbers have been released
   abbrev pub released : Store V → List ℕ → Store V
-  released k ns = record k { handles = retire_all k.handles ns; channels = drop_all k.handles k.channels ns; notes = k.notes ++ freed ns }
+  released k ns = record k { handles = retire_all k.handles ns; channels = drop_all k.handles k.channels ns; links = close_all_named k.handles k.links ns; notes = k.notes ++ freed ns }
 
-  one_released : (k : Store V) (n : ℕ) (o : Option (Entry Thing)) (x : Entry Thing) → o ≡ Some x → if_some o (world_of k) (λ y. note (drop (record (world_of k) { handles = handles.retire k.handles n }) y.thing) (Freed n)) ≡ world_of (record k { handles = handles.retire k.handles n; channels = if_some o k.channels (λ y. if_some (end_of y.thing) k.channels (drop_end k.channels)); notes = k.notes ++ Freed n ∷ [] })
+  one_released : (k : Store V) (n : ℕ) (o : Option (Entry Thing)) (x : Entry Thing) → o ≡ Some x → if_some o (world_of k) (λ y. note (drop (record (world_of k) { handles = handles.retire k.handles n }) y.thing) (Freed n)) ≡ world_of (record k { handles = handles.retire k.handles n; channels = if_some o k.channels (λ y. drop_end_of k.channels y.thing); links = if_some o k.links (λ y. close_link k.links y.thing); notes = k.notes ++ Freed n ∷ [] })
   one_released k n None x e = cc
   one_released k n (Some y) x e = ap (λ w. note w (Freed n)) (thing_gone (record k { handles = handles.retire k.handles n }) y.thing)
 
@@ -87,7 +91,7 @@ module _ {V : Type 0} where
   releases (n ∷ ns) k within =
       let there : 1 ≤ times n (numbers k.handles.entries) = omega (arith, within n, itself n) in
       let less : (m : ℕ) → times m ns ≤ times m (numbers (without (handles.is_entry n) k.handles.entries)) = λ m. omega (arith, within m, without_times m n k.handles.entries there) in
-      let next : Store V = record k { handles = handles.retire k.handles n; channels = drop_named k.handles k.channels n; notes = k.notes ++ Freed n ∷ [] } in
+      let next : Store V = record k { handles = handles.retire k.handles n; channels = drop_named k.handles k.channels n; links = close_named k.handles k.links n; notes = k.notes ++ Freed n ∷ [] } in
       let it : (x : Entry Thing) × (find (handles.is_entry n) k.handles.entries ≡ Some x) = found n k.handles.entries there in
       ap (λ w. fold release w ns) (one_released k n (find (handles.is_entry n) k.handles.entries) it.0 it.1)
       ∙ releases ns next less
@@ -110,12 +114,13 @@ falling_more who e es =
 
 module _ {V : Type 0} where
   -- what the code has of it is the world that the definition has
-  pub released_world : (who : ℕ) (k : Store V) (h : Handles Thing) (c : Channels) (all part : List Note) → all ≡ k.notes ++ freed (falling who k.handles.entries) → part ≡ freed (falling who k.handles.entries) → h ≡ retire_noted k.handles part → c ≡ drop_noted k.handles k.channels part → world_of (record k { handles = h; channels = c; notes = all }) ≡ release_all (world_of k) who
-  released_world who k h c all part a p e f =
+  pub released_world : (who : ℕ) (k : Store V) (h : Handles Thing) (c : Channels) (l : Links) (all part : List Note) → all ≡ k.notes ++ freed (falling who k.handles.entries) → part ≡ freed (falling who k.handles.entries) → h ≡ retire_noted k.handles part → c ≡ drop_noted k.handles k.channels part → l ≡ close_noted k.handles k.links part → world_of (record k { handles = h; channels = c; links = l; notes = all }) ≡ release_all (world_of k) who
+  released_world who k h c l all part a p e f i =
       let ns = falling who k.handles.entries in
       let same : h ≡ retire_all k.handles ns = e ∙ ap (retire_noted k.handles) p ∙ noted_freed ns k.handles in
       let gone : c ≡ drop_all k.handles k.channels ns = f ∙ ap (drop_noted k.handles k.channels) p ∙ noted_dropped ns k.handles k.channels in
-      rw (a, same, gone) (sym (releases ns k (falling_within who k.handles.entries)))
+      let closed : l ≡ close_all_named k.handles k.links ns = i ∙ ap (close_noted k.handles k.links) p ∙ noted_closed ns k.handles k.links in
+      rw (a, same, gone, closed) (sym (releases ns k (falling_within who k.handles.entries)))
 
 length_freed : (ns : List ℕ) → length (freed ns) ≡ length ns
 length_freed [] = refl

@@ -6,5 +6,6 @@ pub mod Lined
 pub mod Releases
 pub mod Steps
 pub mod Store
+pub mod Tops
 pub mod Twins
 pub mod Ways

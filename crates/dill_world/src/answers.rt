@@ -93,7 +93,7 @@ pub(crate) fn copy_whole(alloc: Global, answer: &Answer) -> Result<Answer, NoMem
 }
 
 /// The end of a channel that a thing is.
-fn end_of(thing: Thing) -> Option<u64>
+pub(crate) fn end_of(thing: Thing) -> Option<u64>
     ensures { result ≡ answers.end_of thing }
 {
     match thing {

@@ -1,6 +1,7 @@
 ghost use Rattle.std.specs.Prelude.{◌≡◌, ◌+◌, ◌<◌, ◌≤◌, List, ◌∷◌, ◌++◌, length, vec_capacity, find};
 ghost use Rattle.std.specs.Option.{option_to_list};
 ghost use Rattle.dill_base.specs.Maps.{if_some};
+ghost use Rattle.dill_handles.specs.Handles.{retire};
 ghost use Rattle.dill_rules.specs.Owning as owning;
 ghost use Rattle.dill_rules.specs.Settling as settling;
 ghost use Rattle.dill_rules.specs.Settling.{placed};
@@ -8,10 +9,11 @@ ghost use Rattle.dill_rules.specs.declared.coroutine.Closing.{Closing};
 ghost use Rattle.dill_world.specs.Closings.{closing_of, closings_of, retire_each, close_each};
 ghost use Rattle.dill_world.specs.Freeings.{drop_each, notes_of, is_owned_closing, others_of};
 ghost use Rattle.dill_world.specs.Gathering.{spot, gathered};
-ghost use Rattle.dill_world.specs.Releases.{freed, owned_number, falling, retire_noted_one, retire_noted, drop_noted_one, drop_noted};
+ghost use Rattle.dill_world.specs.Releases.{freed, owned_number, falling, retire_noted_one, retire_noted, drop_named, drop_noted_one, drop_noted, close_named, close_noted_one, close_noted};
 ghost use Rattle.dill_world.specs.Steps.{left};
 ghost use Rattle.dill_world.specs.Store.{world_of};
 
+use crate::owning::let_go;
 use crate::rows::find_dead_as;
 use crate::taking::bundle_of;
 use crate::world::World;
@@ -19,6 +21,7 @@ use dill_base::Errno;
 use dill_calls::Note;
 use dill_chan::Channels;
 use dill_handles::{Entry, Handles};
+use dill_links::Links;
 use dill_rules::{Closing, Mode, Thing};
 use dill_scope::Scopes;
 
@@ -95,25 +98,51 @@ fn note_freed(entries: &[Entry<Thing>], who: u64, notes: &mut Vec<Note>)
     }
 }
 
-/// The number that a note says was released is dead, and the end that it named is gone.
-fn release_one_noted(handles: &mut Handles<Thing>, channels: &mut Channels, note: Note)
-    ensures handles { handles.new ≡ retire_noted_one handles.old note }
-    ensures channels { channels.new.channels ≡ drop_noted_one handles.old channels.old.channels note }
+/// A number is dead, and what it named is released.
+fn release_number(
+    handles: &mut Handles<Thing>,
+    channels: &mut Channels,
+    links: &mut Links,
+    number: u64,
+)
+    ensures handles { handles.new ≡ retire handles.old number }
+    ensures channels { channels.new.channels ≡ drop_named handles.old channels.old.channels number }
+    ensures links { links.new ≡ close_named handles.old links.old number }
 {
-    if let Note::Freed(number) = note {
-        if let Some(Thing::End(end)) = handles.retire(number) {
-            channels.remove(end);
-        }
+    if let Some(thing) = handles.retire(number) {
+        let_go(channels, links, thing);
     }
 }
 
-/// The numbers that notes say were released are dead, and the ends that they named are gone.
-fn release_noted(handles: &mut Handles<Thing>, channels: &mut Channels, notes: &[Note])
+/// The number that a note says was released is dead, and what it named is released.
+fn release_one_noted(
+    handles: &mut Handles<Thing>,
+    channels: &mut Channels,
+    links: &mut Links,
+    note: Note,
+)
+    ensures handles { handles.new ≡ retire_noted_one handles.old note }
+    ensures channels { channels.new.channels ≡ drop_noted_one handles.old channels.old.channels note }
+    ensures links { links.new ≡ close_noted_one handles.old links.old note }
+{
+    if let Note::Freed(number) = note {
+        release_number(handles, channels, links, number);
+    }
+}
+
+/// The numbers that notes say were released are dead, and what they named is released.
+fn release_noted(
+    handles: &mut Handles<Thing>,
+    channels: &mut Channels,
+    links: &mut Links,
+    notes: &[Note],
+)
     ensures handles { handles.new ≡ retire_noted handles.old notes.now }
     ensures channels { channels.new.channels ≡ drop_noted handles.old channels.old.channels notes.now }
+    ensures links { links.new ≡ close_noted handles.old links.old notes.now }
 {
     for note in notes {
-        release_one_noted(handles, channels, *note);
+        release_one_noted(handles, channels, links, *note);
     }
 }
 
@@ -208,7 +237,12 @@ impl<B: Drop> World<B> {
     {
         let first = self.notes.as_slice().len();
         note_freed(self.handles.as_slice(), who, &mut self.notes);
-        release_noted(&mut self.handles, &mut self.channels, &self.notes[first..]);
+        release_noted(
+            &mut self.handles,
+            &mut self.channels,
+            &mut self.links,
+            &self.notes[first..],
+        );
     }
 
     /// The bundles of a coroutine begin to close.

@@ -1,15 +1,21 @@
-ghost use Rattle.std.specs.Prelude.{◌≡◌, map, not, option_copied};
+ghost use Rattle.std.specs.Prelude.{◌≡◌, false, map, not, option_copied};
 ghost use Rattle.std.specs.List.{list_any};
 ghost use Rattle.dill_rules.specs.Naming.{gifts_of, end_of_clause};
 ghost use Rattle.dill_rules.specs.Owning.{entry_of};
+ghost use Rattle.dill_base.specs.Maps.{if_some};
+ghost use Rattle.dill_rules.specs.Directions as directions;
 ghost use Rattle.dill_rules.specs.Kinds as kinds;
 ghost use Rattle.dill_world.specs.Store.{world_of};
+ghost use Rattle.dill_world.specs.Tops.{is_top};
 
-use crate::naming::{args_of, clauses_of, end_of_clause, kind_needed, needs_top};
+use crate::naming::{
+    args_of, clauses_of, end_of_clause, is_top, kind_needed, kind_of_top, needed_top,
+};
 use crate::world::World;
 use dill_calls::{Arg, Call, Clause};
 use dill_handles::Entry;
 use dill_rules::Thing;
+use dill_stack::Top;
 
 /// The value of an application's handle, and 0 of every other.
 pub fn value_of(thing: Thing) -> u64
@@ -29,7 +35,26 @@ impl<B> World<B> {
         self.handles().entry(number)
     }
 
-    /// The kind of a thing; that of a socket is its top's, and 0 as long as there are none.
+    /// What stands on top of a link.
+    fn top_on(&self, link: u64) -> Option<Top>
+        ensures { result ≡ kinds.top_on (world_of self.now) link }
+    {
+        match self.links().find(link) {
+            None => None,
+            Some(found) => Some(found.stack().top()),
+        }
+    }
+
+    fn kind_on(&self, link: u64) -> u64
+        ensures { result ≡ if_some (kinds.top_on (world_of self.now) link) 0 directions.kind_of_top }
+    {
+        match self.top_on(link) {
+            None => 0,
+            Some(top) => kind_of_top(top),
+        }
+    }
+
+    /// The kind of a thing; that of a socket is its top's.
     pub fn kind_of(&self, thing: Thing) -> u64
         ensures { result ≡ kinds.kind_of (world_of self.now) thing }
     {
@@ -37,7 +62,7 @@ impl<B> World<B> {
             Thing::Bundle(_) => 1,
             Thing::End(_) => 2,
             Thing::Listener(_) => 3,
-            Thing::Socket(_) => 0,
+            Thing::Socket(link) => self.kind_on(link),
             Thing::Value(kind, _) => kind,
         }
     }
@@ -104,12 +129,42 @@ impl<B> World<B> {
         }
     }
 
+    fn has_on_top(&self, needed: Top, link: u64) -> bool
+        ensures { result ≡ if_some (kinds.top_on (world_of self.now) link) false (is_top needed) }
+    {
+        match self.top_on(link) {
+            None => false,
+            Some(top) => is_top(needed, top),
+        }
+    }
+
+    fn has_top(&self, needed: Top, thing: Thing) -> bool
+        ensures { result ≡ kinds.has_top (world_of self.now) (is_top needed) thing }
+    {
+        match thing {
+            Thing::Socket(link) => self.has_on_top(needed, link),
+            _ => false,
+        }
+    }
+
+    fn is_other_top_than(&self, needed: Top, number: u64) -> bool
+        ensures { result ≡ if_some (entry_of (world_of self.now) number) false (λ x. not (kinds.has_top (world_of self.now) (is_top needed) x.thing)) }
+    {
+        match self.entry_of(number) {
+            None => false,
+            Some(found) => !self.has_top(needed, found.thing),
+        }
+    }
+
     fn is_other_top(&self, call: &Call) -> bool
         ensures { result ≡ kinds.is_other_top (world_of self.now) call.now }
     {
         match call.handle() {
             None => false,
-            Some(number) => needs_top(call) && !self.is_dead(number),
+            Some(number) => match needed_top(call) {
+                None => false,
+                Some(needed) => self.is_other_top_than(needed, number),
+            },
         }
     }
 

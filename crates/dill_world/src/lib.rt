@@ -1,5 +1,5 @@
 //! The rules of the machine as calls on what it keeps: each one equals its definition, and takes no memory where none is
-//! said to be wanting. Calls of links are no part of it.
+//! said to be wanting. It refuses what stacks refuse, and makes the `close` of a link due; a call of a link doesn't begin yet.
 #![tactic(auto)]
 
 mod answers;
@@ -9,6 +9,7 @@ mod kinds;
 mod lining;
 mod naming;
 mod owning;
+mod place;
 mod refusals;
 mod row;
 mod rows;
@@ -18,6 +19,7 @@ mod world;
 pub use answers::copy_answer;
 pub use kinds::value_of;
 pub use naming::{draws_of, told};
+pub use place::Place;
 pub use row::Row;
 pub use taking::{is_ending, pending_call};
 pub use world::World;

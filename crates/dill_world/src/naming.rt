@@ -1,15 +1,17 @@
-ghost use Rattle.std.specs.Prelude.{◌≡◌, ◌+◌, ◌<◌, ◌≤◌, ◌^◌, ◌==◌, ◌∷◌, [], length, map, is_some, IfOk};
+ghost use Rattle.std.specs.Prelude.{◌≡◌, ◌+◌, ◌<◌, ◌≤◌, ◌^◌, ◌==◌, ◌∷◌, [], length, map, option_map, IfOk};
 ghost use Rattle.std.specs.List.{list_any};
 ghost use Rattle.dill_base.specs.Maps.{if_some};
-ghost use Rattle.dill_rules.specs.Naming.{gifts_of, gifts, chosen, end_of_clause, taken_by, draws_of, bears};
+ghost use Rattle.dill_rules.specs.Naming.{gifts_of, gifts, chosen, end_of_clause, taken_by, draws_of, bears, links};
 ghost use Rattle.dill_rules.specs.Effects.{told};
-ghost use Rattle.dill_rules.specs.Directions.{is_send, is_receive, needs_top};
+ghost use Rattle.dill_rules.specs.Directions.{is_send, is_receive, kind_of_top, needs_top};
 ghost use Rattle.dill_rules.specs.Kinds.{kind_needed};
 ghost use Rattle.dill_rules.specs.Refusals.{is_accept, has_twice};
 ghost use Rattle.dill_rules.specs.Taking.{is_on, is_alone_on};
+ghost use Rattle.dill_world.specs.Tops.{is_top};
 
 use dill_base::NoMemory;
 use dill_calls::{Arg, Call, Clause, Word};
+use dill_stack::Top;
 use std::alloc::Global;
 
 /// The arguments with which a call makes a coroutine, none of another call.
@@ -199,26 +201,51 @@ pub fn kind_needed(call: &Call) -> Option<u64>
     }
 }
 
-/// Whether a layer of the call's own has to stand on top of its stack.
-pub fn needs_top(call: &Call) -> bool
-    ensures { result ≡ is_some (needs_top call.now) }
+/// What has to stand on top of its stack for a call that needs a layer of its own.
+pub fn needed_top(call: &Call) -> Option<Top>
+    ensures { needs_top call.now ≡ option_map is_top result }
 {
-    matches!(
-        call,
-        Call::PrefixDetach(_)
-            | Call::SuffixDetach(_)
-            | Call::TermDone(_, _)
-            | Call::TermDetach(_, _)
-            | Call::HttpSendrequest(_, _, _, _)
-            | Call::HttpSendstatus(_, _, _, _)
-            | Call::HttpSendfield(_, _, _, _)
-            | Call::HttpRecvrequest(_, _)
-            | Call::HttpRecvstatus(_, _)
-            | Call::HttpRecvfield(_, _)
-            | Call::HttpDone(_, _)
-            | Call::HttpDetach(_, _)
-            | Call::WsDetach(_, _, _, _)
-    )
+    match call {
+        Call::PrefixDetach(_) => Some(Top::Prefix),
+        Call::SuffixDetach(_) => Some(Top::Suffix),
+        Call::TermDone(_, _) => Some(Top::Term),
+        Call::TermDetach(_, _) => Some(Top::Term),
+        Call::HttpSendrequest(_, _, _, _) => Some(Top::Http),
+        Call::HttpSendstatus(_, _, _, _) => Some(Top::Http),
+        Call::HttpSendfield(_, _, _, _) => Some(Top::Http),
+        Call::HttpRecvrequest(_, _) => Some(Top::Http),
+        Call::HttpRecvstatus(_, _) => Some(Top::Http),
+        Call::HttpRecvfield(_, _) => Some(Top::Http),
+        Call::HttpDone(_, _) => Some(Top::Http),
+        Call::HttpDetach(_, _) => Some(Top::Http),
+        Call::WsDetach(_, _, _, _) => Some(Top::Ws),
+        _ => None,
+    }
+}
+
+/// Whether this layer stands on top; a stack without layers is none.
+pub fn is_top(needed: Top, top: Top) -> bool
+    ensures { result ≡ is_top needed top }
+{
+    match needed {
+        Top::Bytes => false,
+        Top::Prefix => matches!(top, Top::Prefix),
+        Top::Suffix => matches!(top, Top::Suffix),
+        Top::Term => matches!(top, Top::Term),
+        Top::Http => matches!(top, Top::Http),
+        Top::Ws => matches!(top, Top::Ws),
+    }
+}
+
+/// The kind of a socket by what stands on top: 4 a byte socket, 5 a message socket, 6 an HTTP socket.
+pub fn kind_of_top(top: Top) -> u64
+    ensures { result ≡ kind_of_top top }
+{
+    match top {
+        Top::Bytes => 4,
+        Top::Http => 6,
+        _ => 5,
+    }
 }
 
 /// Whether the call makes a coroutine.
@@ -226,6 +253,13 @@ pub fn bears(word: Word) -> bool
     ensures { result ≡ bears word }
 {
     matches!(word, Word::Go | Word::BundleGo)
+}
+
+/// Whether the call makes a link.
+pub fn links(word: Word) -> bool
+    ensures { result ≡ links word }
+{
+    matches!(word, Word::TcpListen | Word::TcpAccept | Word::TcpConnect)
 }
 
 /// Whether the call uses the sending direction of a socket.

@@ -5,14 +5,17 @@ ghost use Rattle.dill_chan.specs.Seats.{done_unless_ended};
 ghost use Rattle.dill_rules.specs.Naming as naming;
 ghost use Rattle.dill_rules.specs.Owning as owning;
 ghost use Rattle.dill_rules.specs.Effects as effects;
+ghost use Rattle.dill_rules.specs.Sockets.{link_of};
 ghost use Rattle.dill_rules.specs.Entering as entering;
 ghost use Rattle.dill_handles.specs.Handles as handles;
 ghost use Rattle.dill_calls.specs.declared.answer.Answer.TheVariants.{Number};
 ghost use Rattle.dill_calls.specs.declared.word.Word.TheVariants as words;
 ghost use Rattle.dill_rules.specs.declared.coroutine.Mode.TheVariants as modes;
 ghost use Rattle.dill_world.specs.Store.{world_of};
+ghost use Rattle.dill_world.specs.Releases.{drop_end_of, close_link};
 ghost use Rattle.dill_world.specs.Steps.{add_channel, bear_apart};
 
+use crate::answers::end_of;
 use crate::naming::draws_of;
 use crate::row::Row;
 use crate::rows::drop_closing;
@@ -20,6 +23,7 @@ use crate::world::World;
 use dill_base::NoMemory;
 use dill_calls::{Answer, Arg, Call, Note, Word};
 use dill_chan::Channels;
+use dill_links::{Change, Links};
 use dill_rules::{Closing, Mode, Thing};
 
 /// A coroutine that is about to start.
@@ -38,6 +42,44 @@ fn seat(channels: &mut Channels, number: u64) -> Result<(), NoMemory>
         return Ok(());
     }
     channels.sit(number)
+}
+
+/// The link of a listener or of a socket.
+pub fn link_of(thing: Thing) -> Option<u64>
+    ensures { result ≡ link_of thing }
+{
+    match thing {
+        Thing::Listener(link) => Some(link),
+        Thing::Socket(link) => Some(link),
+        _ => None,
+    }
+}
+
+/// The `close` of the link that a thing is on is due, if it is on one.
+fn close_link(links: &mut Links, thing: Thing)
+    ensures { links.new ≡ close_link links.old thing }
+{
+    if let Some(link) = link_of(thing) {
+        links.change(link, Change::Closes);
+    }
+}
+
+/// An end of a channel is gone, if a thing is one.
+fn drop_end_of(channels: &mut Channels, thing: Thing)
+    ensures { channels.new.channels ≡ drop_end_of channels.old.channels thing }
+{
+    if let Some(end) = end_of(thing) {
+        channels.remove(end);
+    }
+}
+
+/// A thing is released: an end of a channel is gone, and the `close` of a link is due.
+pub fn let_go(channels: &mut Channels, links: &mut Links, thing: Thing)
+    ensures channels { channels.new.channels ≡ drop_end_of channels.old.channels thing }
+    ensures links { links.new ≡ close_link links.old thing }
+{
+    drop_end_of(channels, thing);
+    close_link(links, thing);
 }
 
 impl<B: Drop> World<B> {
@@ -188,13 +230,11 @@ impl<B: Drop> World<B> {
         }
     }
 
-    /// What becomes of a thing that is released: an end of a channel is gone.
+    /// What becomes of a thing that is released: an end of a channel is gone, and the `close` of a link is due.
     fn drop_thing(&mut self, thing: Thing)
         ensures { world_of self.new ≡ owning.drop (world_of self.old) thing }
     {
-        if let Thing::End(end) = thing {
-            self.channels.remove(end);
-        }
+        let_go(&mut self.channels, &mut self.links, thing);
     }
 
     /// A number is dead, and its thing is gone. Of a dead number it changes nothing.

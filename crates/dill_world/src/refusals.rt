@@ -1,8 +1,10 @@
-ghost use Rattle.std.specs.Prelude.{◌≡◌, ◌&&◌, ◌||◌, false, not, length, find};
+ghost use Rattle.std.specs.Prelude.{◌≡◌, ◌&&◌, ◌||◌, false, not, length, find, None, option_map, option_copied};
 ghost use Rattle.std.specs.List.{list_any};
 ghost use Rattle.dill_calls.specs.CallTable.{word_of};
 ghost use Rattle.dill_base.specs.Maps.{if_some};
+ghost use Rattle.dill_rules.specs.Links.{look};
 ghost use Rattle.dill_rules.specs.Naming.{gifts_of};
+ghost use Rattle.dill_rules.specs.Sockets.{link_of, stack_of, faults_by};
 ghost use Rattle.dill_rules.specs.Refusals as refusals;
 ghost use Rattle.dill_rules.specs.Taking.{is_on};
 ghost use Rattle.dill_rules.specs.World.{pending_call};
@@ -10,15 +12,40 @@ ghost use Rattle.dill_world.specs.Store.{world_of};
 ghost use Rattle.dill_world.specs.Ways.{goes_by, is_taken_up};
 ghost use Rattle.dill_world.specs.declared.refusals.Way.TheVariants as ways;
 
-use crate::naming::{bears, draws_of, gives_twice, is_accept, is_on, is_receive, is_send};
+use crate::naming::{bears, draws_of, gives_twice, is_accept, is_on, is_receive, is_send, links};
+use crate::owning::link_of;
 use crate::row::Row;
 use crate::world::World;
 use dill_base::Errno;
 use dill_calls::{Arg, Body, Call, Clause, Word};
-use dill_rules::Mode;
+use dill_rules::{Mode, Thing};
+use dill_sockets::Faults;
+use dill_stack::Stack;
 
 /// The most bytes of a message, of an item of a channel and of a receive.
 const MOST_BYTES: usize = 1_048_576;
+
+/// The order of refusals; want of memory is the last.
+const ORDER: [Errno; 9] = [
+    Errno::Ecanceled,
+    Errno::Ebadf,
+    Errno::Enotsup,
+    Errno::Einval,
+    Errno::Ebusy,
+    Errno::Epipe,
+    Errno::Econnreset,
+    Errno::Emsgsize,
+    Errno::Emfile,
+];
+
+/// The order of a call that gives a stack up, before it does.
+const GIVING_ORDER: [Errno; 5] = [
+    Errno::Ebadf,
+    Errno::Enotsup,
+    Errno::Einval,
+    Errno::Ebusy,
+    Errno::Emfile,
+];
 
 /// A direction of a handle, of which one call at a time is pending.
 #[derive(Clone, Copy)]
@@ -114,6 +141,16 @@ fn is_invalid<B: Body>(body: &B, call: &Call) -> bool
     }
 }
 
+/// Whether a stack refuses so.
+fn is_one_of(faults: &Option<Faults>, errno: Errno) -> bool
+    ensures { result ≡ if_some faults.now false (list_any (refusals.is_same errno)) }
+{
+    match faults {
+        None => false,
+        Some(all) => all.has(errno),
+    }
+}
+
 impl<B> World<B> {
     fn is_called_off(&self, who: u64, call: &Call) -> bool
         ensures { result ≡ refusals.is_called_off (world_of self.now) who call.now }
@@ -178,51 +215,102 @@ impl<B> World<B> {
     fn is_short(&self, call: &Call) -> bool
         ensures { result ≡ refusals.is_short (world_of self.now) call.now }
     {
-        !self.handles().has_room(draws_of(call)) || (bears(call.word()) && self.has_no_coroutine())
+        let word = call.word();
+        !self.handles().has_room(draws_of(call))
+            || (bears(word) && self.has_no_coroutine())
+            || (links(word) && self.links().is_full())
+    }
+
+    /// The stack on the link that a thing is on.
+    fn stack_on(&self, thing: Thing) -> Option<&Stack>
+        ensures { option_map (λ s. s.held) (option_copied result) ≡ if_some (link_of thing) None (λ link. option_map (λ x. x.stack) (look self.now.links link)) }
+    {
+        match link_of(thing) {
+            None => None,
+            Some(link) => match self.links().find(link) {
+                None => None,
+                Some(found) => Some(found.stack()),
+            },
+        }
+    }
+
+    /// The stack that a call is on.
+    fn stack_of(&self, call: &Call) -> Option<&Stack>
+        ensures { option_map (λ s. s.held) (option_copied result) ≡ stack_of (world_of self.now) call.now }
+    {
+        match call.handle() {
+            None => None,
+            Some(number) => match self.entry_of(number) {
+                None => None,
+                Some(found) => self.stack_on(found.thing),
+            },
+        }
+    }
+
+    /// What the stack that a call is on refuses of it, if it is on one.
+    fn faults_of(&self, call: &Call) -> Option<Faults>
+        ensures { result ≡ option_map (faults_by call.now (refusals.is_in_use (world_of self.now) call.now)) (stack_of (world_of self.now) call.now) }
+    {
+        match self.stack_of(call) {
+            None => None,
+            Some(stack) => Some(Faults::of(call, self.is_in_use(call), stack)),
+        }
     }
 }
 
 impl<B: Body> World<B> {
-    /// Why a call that gives a stack up is refused.
-    fn refuse_giving(&self, who: u64, body: &B, call: &Call) -> Option<Errno>
-        ensures { result ≡ find (refusals.holds B.means (world_of self.now) who body.now call.now) refusals.giving_order }
+    /// Whether the condition of an errno holds, but for what a stack refuses.
+    fn holds_of_itself(&self, who: u64, body: &B, call: &Call, errno: Errno) -> bool
+        ensures { result ≡ refusals.holds_of_itself B.means (world_of self.now) who body.now call.now errno }
     {
-        if self.names_dead(call) {
-            return Some(Errno::Ebadf);
+        match errno {
+            Errno::Ecanceled => self.is_called_off(who, call),
+            Errno::Ebadf => self.names_dead(call),
+            Errno::Enotsup => self.names_other(call),
+            Errno::Einval => is_invalid(body, call),
+            Errno::Ebusy => self.is_busy(who, call),
+            Errno::Emfile => self.is_short(call),
+            _ => false,
         }
-        if self.names_other(call) {
-            return Some(Errno::Enotsup);
-        }
-        if is_invalid(body, call) {
-            return Some(Errno::Einval);
-        }
-        if self.is_busy(who, call) {
-            return Some(Errno::Ebusy);
-        }
-        if self.is_short(call) {
-            return Some(Errno::Emfile);
-        }
-        None
     }
 
-    /// Why any other call is refused.
-    fn refuse_other(&self, who: u64, body: &B, call: &Call) -> Option<Errno>
-        ensures { result ≡ find (refusals.holds B.means (world_of self.now) who body.now call.now) refusals.order }
+    /// Whether the condition of an errno holds, where the stack refuses so of the call.
+    fn holds(&self, who: u64, body: &B, call: &Call, faults: &Option<Faults>, errno: Errno) -> bool
+        requires { faults.now ≡ option_map (faults_by call.now (refusals.is_in_use (world_of self.now) call.now)) (stack_of (world_of self.now) call.now) }
+        ensures { result ≡ refusals.holds B.means (world_of self.now) who body.now call.now errno }
     {
-        if self.is_called_off(who, call) {
-            return Some(Errno::Ecanceled);
+        self.holds_of_itself(who, body, call, errno) || is_one_of(faults, errno)
+    }
+
+    /// The first errno of an order whose condition holds, where the stack refuses so of the call.
+    fn first_of(
+        &self,
+        who: u64,
+        body: &B,
+        call: &Call,
+        faults: &Option<Faults>,
+        order: &[Errno],
+    ) -> Option<Errno>
+        requires { faults.now ≡ option_map (faults_by call.now (refusals.is_in_use (world_of self.now) call.now)) (stack_of (world_of self.now) call.now) }
+        ensures { result ≡ find (refusals.holds B.means (world_of self.now) who body.now call.now) order.now }
+    {
+        for errno in order {
+            if self.holds(who, body, call, faults, *errno) {
+                return Some(*errno);
+            }
         }
-        self.refuse_giving(who, body, call)
+        None
     }
 
     /// Why the call of a coroutine with this program is refused at its entry, if it is; want of memory is no part of it.
     pub fn refuse(&self, who: u64, body: &B, call: &Call) -> Option<Errno>
         ensures { result ≡ refusals.refuse B.means (world_of self.now) who body.now call.now }
     {
+        let faults = self.faults_of(call);
         if call.word().gives_up() {
-            self.refuse_giving(who, body, call)
+            self.first_of(who, body, call, &faults, &GIVING_ORDER)
         } else {
-            self.refuse_other(who, body, call)
+            self.first_of(who, body, call, &faults, &ORDER)
         }
     }
 }

@@ -4,25 +4,27 @@ ghost use Rattle.dill_rules.specs.declared.coroutine.Mode.TheVariants as modes;
 ghost use Rattle.dill_world.specs.Twins.{answer_in};
 ghost use Rattle.dill_rules.specs.World as worlds;
 ghost use Rattle.dill_scope.specs.Scopes as scopes;
-ghost use Rattle.dill_world.specs.Store.{world_of, no_random, may_wait, is_plain_mode, is_short_answer, ArePlain};
+ghost use Rattle.dill_world.specs.Store.{world_of, no_random, place_of, may_wait, is_plain_mode, is_short_answer, ArePlain};
 ghost use Rattle.dill_rules.specs.Turning as turning;
 ghost use Rattle.dill_world.specs.Steps.{left, RunsOn, Resumed};
 
 use crate::answers::copy_answer;
+use crate::place::Place;
 use crate::row::Row;
 use crate::rows::{drop_coroutine, place_of, put_mode};
 use dill_base::{Errno, NoMemory};
 use dill_calls::{Answer, Body, Call, Next, Note, Word};
 use dill_chan::Channels;
 use dill_handles::Handles;
+use dill_links::Links;
 use dill_rules::{Closing, Mode, Thing};
 use dill_scope::Scopes;
 use std::alloc::Global;
 use std::marker::Model;
 
 /// All that a machine keeps but the order of the answers: the coroutines and the bundles that are closing in the order in
-/// which they came, the channels and who waits at them, the notes of this step, the moment in milliseconds, and how the program of
-/// `main` ended once it has.
+/// which they came, the channels and who waits at them, the links and the place in the round, the notes of this step, the moment in
+/// milliseconds, and how the program of `main` ended once it has.
 /// There is room for each note that the step can still take, and for each closing.
 #[derive(Drop)]
 pub struct World<B> {
@@ -31,6 +33,8 @@ pub struct World<B> {
     pub(crate) scopes: Scopes,
     pub(crate) closings: Vec<Closing>,
     pub(crate) channels: Channels,
+    pub(crate) links: Links,
+    pub(crate) place: Place,
     pub(crate) moment: u64,
     pub(crate) last_coroutine: u64,
     pub(crate) last_bundle: u64,
@@ -40,11 +44,11 @@ pub struct World<B> {
 
 impl<B> Model for World<B> {
     ghost use Rattle.std.specs.Prelude.{◌+◌, ◌≤◌, length, vec_capacity};
-    ghost use Rattle.dill_world.specs.Store.{Store, ArePlain};
+    ghost use Rattle.dill_world.specs.Store.{Store, place_of, ArePlain};
 
     ghost Value = { Store B };
 
-    ghost view = { λ w. record { coroutines = w.coroutines.items; handles = w.handles; scopes = w.scopes; closings = w.closings.items; channels = w.channels.channels; moment = w.moment; last_coroutine = w.last_coroutine; last_bundle = w.last_bundle; ended = w.ended; notes = w.notes.items } };
+    ghost view = { λ w. record { coroutines = w.coroutines.items; handles = w.handles; scopes = w.scopes; closings = w.closings.items; channels = w.channels.channels; links = w.links; place = place_of w.place; moment = w.moment; last_coroutine = w.last_coroutine; last_bundle = w.last_bundle; ended = w.ended; notes = w.notes.items } };
 
     ghost invariant = { λ w. (length w.notes.items + (length w.handles.entries + w.handles.kept + length w.closings.items) ≤ vec_capacity w.notes) × (length w.closings.items + (length w.handles.entries + w.handles.kept) ≤ vec_capacity w.closings) × (w.last_bundle ≤ w.handles.last) × ArePlain w.coroutines.items };
 }
@@ -98,6 +102,8 @@ impl<B> World<B> {
             scopes,
             closings: Vec::new(alloc),
             channels,
+            links: Links::new(alloc),
+            place: Place { kind: 0, number: 0 },
             moment: 0,
             last_coroutine: 1,
             last_bundle: 0,
@@ -143,6 +149,20 @@ impl<B> World<B> {
         ensures { result.now.channels ≡ self.now.channels }
     {
         &self.channels
+    }
+
+    /// The links, and the stacks on them.
+    pub fn links(&self) -> &Links
+        ensures { result.now ≡ self.now.links }
+    {
+        &self.links
+    }
+
+    /// The place in the round.
+    pub fn place(&self) -> Place
+        ensures { place_of result ≡ self.now.place }
+    {
+        self.place
     }
 
     /// The moment, in milliseconds.
@@ -197,6 +217,21 @@ impl<B: Drop> World<B> {
         self.moment = moment;
     }
 
+    /// The last ask of the round is another.
+    pub fn set_place(&mut self, place: Place)
+        ensures { world_of self.new ≡ record (world_of self.old) { place = place_of place } }
+    {
+        self.place = place;
+    }
+
+    /// A round begins: the place is before its first kind, and no link had its write in it.
+    pub fn restart(&mut self)
+        ensures { world_of self.new ≡ worlds.from_start (world_of self.old) }
+    {
+        self.place = Place { kind: 0, number: 0 };
+        self.links.rest();
+    }
+
     /// The root begins to close, so that everybody is cancelled.
     pub fn close_root(&mut self)
         ensures { world_of self.new ≡ record (world_of self.old) { scopes = scopes.close self.old.scopes 0 } }
@@ -244,7 +279,7 @@ impl<B: Drop> World<B> {
         self.set_mode(who, Mode::Pending(call));
     }
 
-    /// An ended coroutine is gone, and how `main` ended is kept.
+    /// An ended coroutine is gone. How `main` ended is kept, and a round begins then.
     pub fn leave(&mut self, who: u64, outcome: Option<Errno>)
         ensures { world_of self.new ≡ left (world_of self.old) who outcome }
     {
@@ -253,6 +288,7 @@ impl<B: Drop> World<B> {
         self.channels.rise(who);
         if who == 1 {
             self.ended = Some(outcome);
+            self.restart();
         }
     }
 }

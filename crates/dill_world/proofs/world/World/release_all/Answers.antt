@@ -17,4 +17,4 @@ returns g c =
     let a = rw c.as_slice.ensures at c.note_freed.ensures.items in
     let f = ap length c.as_slice-first.ensures.value in
     let p = part_behind c.self.inside.notes.items _ c.note_freed.new.notes.items (length c.as_slice-first.result.now) a f in
-    rw (← c.self.view_is) (released_world c.args.who _ c.release_noted.new.handles c.release_noted.new.channels.channels c.note_freed.new.notes.items _ a p (rw c.deref.ensures.value at c.release_noted.ensures.handles) (rw c.deref.ensures.value at c.release_noted.ensures.channels))
+    rw (← c.self.view_is) (released_world c.args.who _ c.release_noted.new.handles c.release_noted.new.channels.channels c.release_noted.new.links c.note_freed.new.notes.items _ a p (rw c.deref.ensures.value at c.release_noted.ensures.handles) (rw c.deref.ensures.value at c.release_noted.ensures.channels) (rw c.deref.ensures.value at c.release_noted.ensures.links))
