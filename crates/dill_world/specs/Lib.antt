@@ -2,6 +2,7 @@ pub mod Channeled
 pub mod Closings
 pub mod Freeings
 pub mod Gathering
+pub mod Lending
 pub mod Lined
 pub mod Releases
 pub mod Steps

@@ -7,6 +7,7 @@ mod channeling;
 mod ending;
 mod kinds;
 mod lining;
+mod linking;
 mod naming;
 mod owning;
 mod place;
