@@ -1,11 +1,10 @@
 -- A core, and the rules from the state that it stands for: nothing different is seen of the two.
-use Rattle.std.proofs.Common.{◌≡◌, ◌∙◌, ℕ, List, [], sym, ap, subst}
+use Rattle.std.proofs.Common.{◌≡◌, ◌∙◌, sym, ap, subst}
 use Rattle.rand_core.specs.Stream.{Stream}
 use Rattle.dill_calls.specs.Program.{Program, Begins}
-use Rattle.dill_rules.specs.Links.{Links}
 use Rattle.dill_rules.specs.Seen.{turn_seen}
 use Rattle.dill_rules.specs.State.{State, opening_state, expired, shut, woke}
-use Rattle.dill_rules.specs.World.{World, Place, at_start}
+use Rattle.dill_rules.specs.World.{World}
 use Rattle.laws_sound.specs.LinklessLaws.{KeepsLinkless, FollowsLinkless}
 use Rattle.laws_queue.specs.Kept.{Kept, opening_kept, kept_turn, kept_expired, kept_shut, kept_woke}
 use Rattle.laws_queue.specs.Laws.{KeepsWell}
@@ -20,14 +19,9 @@ use Rattle.dill_core.specs.CoreMachine.{core_machine}
 use Rattle.dill_core.specs.Holding.{Holding, kept_of, held_of, store_of}
 
 module _ {V : Type 0} where
-  -- a world without links and random numbers is stored whole
-  stored_world : (w : World V) → IsLinkless w → w.random ≡ no_random → world_of (store_of w) ≡ w
-  stored_world w linkless random =
-      let made : Links → Place → List ℕ → Stream → World V = λ l p o u. record w { links = l; place = p; wrote = o; random = u } in
-      ap (λ l. made l at_start [] no_random) (sym linkless.links)
-      ∙ ap (λ p. made w.links p [] no_random) (sym linkless.place)
-      ∙ ap (λ o. made w.links w.place o no_random) (sym linkless.wrote)
-      ∙ ap (λ u. made w.links w.place w.wrote u) (sym random)
+  -- a world without random numbers is stored whole
+  stored_world : (w : World V) → w.random ≡ no_random → world_of (store_of w) ≡ w
+  stored_world w random = ap (λ (u : Stream). record w { random = u }) (sym random)
 
 module _ {V : Type 0} (p : Program V) where
   -- a core stands for the state for which what it keeps does
@@ -38,7 +32,7 @@ module _ {V : Type 0} (p : Program V) where
   held : (k : Kept V) (s : State V) → IsWell p k → IsLinkless k.world → StandsFor k s → Stands (held_of k) s
   held k s well linkless stands =
       let random : k.world.random ≡ no_random = ap (λ (w : World V). w.random) stands.world in
-      let whole : kept_of (held_of k) ≡ k = ap (λ (w : World V). record k { world = w }) (stored_world k.world linkless random) in
+      let whole : kept_of (held_of k) ≡ k = ap (λ (w : World V). record k { world = w }) (stored_world k.world random) in
       (subst (IsWell p) (sym whole) well, subst (λ (l : Kept V). IsLinkless l.world) (sym whole) linkless, subst (λ (l : Kept V). StandsFor l s) (sym whole) stands)
 
   module _ (keeps : KeepsWell p) (stays : KeepsLinkless p) (follows : FollowsLinkless p) where

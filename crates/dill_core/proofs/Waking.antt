@@ -15,12 +15,13 @@ module _ {V : Type 0} where
       let same : heat_ready w one ≡ w = ap (λ l. record w { links = change_link l one.link (heated one.read one.write) }) none ∙ ap (λ l. record w { links = l }) (sym none) in
       ap (λ (x : World V). fold heat_ready x ready) same ∙ heats_none ready w none
 
-  -- after a wait the moment is the greatest that was told, and nothing else has changed
-  pub woken_held : (h : Holding V) (told : ℕ) (ready : List Ready) → kept_woke (kept_of h) told ready ≡ record (kept_of h) { world = record (begin (kept_of h).world) { moment = max h.world.moment told } }
-  woken_held h told ready =
-      ap (λ (w : World V). record (kept_of h) { world = record (from_start w) { moment = max h.world.moment told } }) (heats_none ready (begin (kept_of h).world) refl)
+  -- where there are no links, after a wait the moment is the greatest that was told, and a round begins
+  pub woken_held : (h : Holding V) (told : ℕ) (ready : List Ready) → h.world.links ≡ no_links → kept_woke (kept_of h) told ready ≡ record (kept_of h) { world = record (from_start (begin (kept_of h).world)) { moment = max h.world.moment told } }
+  woken_held h told ready none =
+      ap (λ (w : World V). record (kept_of h) { world = record (from_start w) { moment = max h.world.moment told } }) (heats_none ready (begin (kept_of h).world) none)
 
   -- the world once its moment is the greatest that was told
-  pub moved_world : (h : Holding V) (begun moved : Store V) (told moment : ℕ) → world_of begun ≡ begin (world_of h.world) → world_of moved ≡ record (world_of begun) { moment = moment } → moment ≡ max h.world.moment told
-      → world_of moved ≡ record (begin (world_of h.world)) { moment = max h.world.moment told }
-  moved_world h begun moved told moment b m e = m ∙ ap (λ (w : World V). record w { moment = moment }) b ∙ ap (λ n. record (begin (world_of h.world)) { moment = n }) e
+  pub moved_world : (h : Holding V) (begun restarted moved : Store V) (told moment : ℕ) → world_of begun ≡ begin (world_of h.world) → world_of restarted ≡ from_start (world_of begun) → world_of moved ≡ record (world_of restarted) { moment = moment } → moment ≡ max h.world.moment told
+      → world_of moved ≡ record (from_start (begin (world_of h.world))) { moment = max h.world.moment told }
+  moved_world h begun restarted moved told moment b r m e =
+      m ∙ ap (λ (w : World V). record w { moment = moment }) (r ∙ ap from_start b) ∙ ap (λ n. record (from_start (begin (world_of h.world))) { moment = n }) e

@@ -25,6 +25,8 @@ module _ {V : Type 0} where
     scopes = w.scopes;
     closings = w.closings;
     channels = w.channels;
+    links = w.links;
+    place = w.place;
     moment = w.moment;
     last_coroutine = w.last_coroutine;
     last_bundle = w.last_bundle;

@@ -100,6 +100,7 @@ impl<B: PlainBody> Core<B> {
         steps_keep_stable::<B>();
         let moment = self.world.moment().max(told);
         self.world.begin();
+        self.world.restart();
         self.world.set_moment(moment);
     }
 
@@ -172,6 +173,7 @@ impl<B: PlainBody> Core<B> {
         steps_keep_stable::<B>();
         self.early = self.ready.as_slice().len();
         self.world.begin();
+        self.world.restart();
         self.world.close_root();
         settle(&mut self.world);
         self.world.line_up(&mut self.ready);
