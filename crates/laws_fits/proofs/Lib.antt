@@ -1,0 +1,15 @@
+pub mod Layers
+pub mod Stacks
+pub mod Tidy
+pub mod Fits
+pub mod Acts
+pub mod Causes
+pub mod Giving
+pub mod Looking
+pub mod Tries
+pub mod Hearing
+pub mod Starts
+pub mod Refused
+pub mod Elsewhere
+pub mod Entering
+pub mod Steps

@@ -1,0 +1,7 @@
+//! That the stack of each link fits the calls that are pending on it, and what is asked of it. Definitions and laws; it
+//! holds no code.
+#![tactic(auto)]
+
+mod laws;
+
+pub use laws::steps_keep_fitting;
