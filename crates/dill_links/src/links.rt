@@ -68,7 +68,7 @@ fn remove_row(rows: &mut Vec<LinkRow>, number: u64)
     }
 }
 
-/// A round begins for each of these.
+/// None of these had a `write` since.
 fn rest_each(rows: &mut [LinkRow])
     ensures { rows.new ≡ map rested_link rows.old }
 {
@@ -161,7 +161,7 @@ impl Links {
         self.find(number).is_some()
     }
 
-    /// That becomes of a link, if it is there.
+    /// What becomes of a link, if it is there.
     pub fn change(&mut self, number: u64, change: Change)
         ensures { self.new ≡ change_link self.old number (changed_link change) }
     {
@@ -170,7 +170,7 @@ impl Links {
         }
     }
 
-    /// A round begins: no link has had its `write` in it.
+    /// What is asked goes on from before the first kind: no link had a `write` since.
     pub fn rest(&mut self)
         ensures { self.new ≡ rested self.old }
     {

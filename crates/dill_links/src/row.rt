@@ -137,7 +137,7 @@ impl LinkRow {
         self.closing
     }
 
-    /// That becomes of it.
+    /// What becomes of it.
     pub fn change(&mut self, change: Change)
         ensures { self.new ≡ changed_link change self.old }
     {
@@ -155,7 +155,7 @@ impl LinkRow {
         }
     }
 
-    /// A round begins.
+    /// It had no `write` since what is asked went on from before the first kind.
     pub(crate) fn rest(&mut self)
         ensures { self.new ≡ rested_link self.old }
     {

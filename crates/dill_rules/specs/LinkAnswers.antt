@@ -72,7 +72,7 @@ is_on_stack word = is_send word || (is_receive word || (is_handshake word || giv
 abbrev pub reads : Call → Bool
 reads call = is_on_stack (word_of call) && not (is_send (word_of call))
 
--- the call attaches a layer at its entry
+-- the call attaches a layer, and is answered at its entry
 abbrev pub attaches : Word → Bool
 attaches words.PrefixAttach = true
 attaches words.SuffixAttach = true

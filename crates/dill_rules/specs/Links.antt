@@ -65,7 +65,7 @@ reserved want x = record x { most = max x.most (limit_of_want want) }
 abbrev pub as_wrote : Link → Link
 as_wrote x = record x { wrote = true }
 
--- a round begins
+-- what is asked goes on from before the first kind: it had no `write` since
 abbrev pub rested_link : Link → Link
 rested_link x = record x { wrote = false }
 

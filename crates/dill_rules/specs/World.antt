@@ -86,7 +86,7 @@ module _ {V : Type 0} where
   abbrev pub note : World V → Note → World V
   note w one = record w { notes = w.notes ++ one ∷ [] }
 
-  -- A round begins: the place is before its first kind, and no link had a `write` in it.
+  -- What is asked goes on from before the first kind, and no link had a `write` since.
   abbrev pub from_start : World V → World V
   from_start w = record w { place = at_start; links = rested w.links }
 

@@ -37,7 +37,7 @@ other_due call random s = if_some (line_said call) (end_due (word_of call) rando
 abbrev pub queue_due : Call → Stream → Held → Result (Held × Stream) Errno
 queue_due call random s = if_some (message_of call) (other_due call random s) (λ m. frame m random s)
 
--- what a layer is put on
+-- the stack with the layer put on it
 abbrev pub layer_due : Layer → Stream → Held → Result (Held × Stream) Errno
 layer_due layer random s = with_random random (attach layer s)
 

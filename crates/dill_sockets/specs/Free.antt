@@ -1,4 +1,4 @@
--- What a call that isn't refused finds: its line has a spelling, its close frame may be sent, and its layer fits.
+-- What a call that isn't refused finds: its line has a spelling, its close frame may be sent, its layer fits, and a handshake finds no layers.
 use Rattle.std.specs.Prelude.{◌≡◌, ℕ, [], true, Some, None, IfSome}
 use Rattle.dill_calls.specs.declared.call.Call.{Call}
 use Rattle.dill_calls.specs.CallTable.{word_of}

@@ -48,7 +48,7 @@ abbrev pub FitsGiven : ReadOut → Sizes → Type 0
 FitsGiven (Given answer) r = FitsAnswer answer r
 FitsGiven said r = Unit {0}
 
--- An answer may take the room. Where there is none the room stays.
+-- An answer may take the room. Where there is no answer the room stays.
 abbrev pub KeepsRoom : ReadOut → (before now : Sizes) → Type 0
 KeepsRoom (Given answer) before now = Unit {0}
 KeepsRoom said before now = now ≡ before

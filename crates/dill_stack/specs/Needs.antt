@@ -26,7 +26,7 @@ need (Exact n) s = n
 need (Message limit) s = message_need limit s.layers
 need _ s = line_need
 
--- the greatest need of a handshake, of a detach, and of the end of a whole connection
+-- the greatest need of a handshake
 abbrev pub head_need : ℕ
 head_need = 16384
 

@@ -14,7 +14,7 @@ use Rattle.dill_rules.specs.Effects.{make, bear, add_bundle}
 use Rattle.dill_rules.specs.Turning.{as_running, resume}
 
 module _ {V : Type 0} where
-  -- how `main` ended is kept
+  -- how `main` ended is kept, and what is asked goes on from before the first kind then
   abbrev pub keep_outcome : World V → ℕ → Option Errno → World V
   keep_outcome w who outcome = if who == 1 then from_start (record w { ended = Some outcome }) else w
 

@@ -26,7 +26,7 @@ impl<B> World<B> {
 
 /// What changes links.
 impl<B: Drop> World<B> {
-    /// That becomes of a link, if it is there.
+    /// What becomes of a link, if it is there.
     pub fn change_link(&mut self, link: u64, change: Change)
         ensures { world_of self.new ≡ sockets.on_link (world_of self.old) link (changed_link change) }
     {

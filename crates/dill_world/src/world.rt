@@ -224,7 +224,7 @@ impl<B: Drop> World<B> {
         self.place = place;
     }
 
-    /// A round begins: the place is before its first kind, and no link had its write in it.
+    /// What is asked goes on from before the first kind, and no link had a write since.
     pub fn restart(&mut self)
         ensures { world_of self.new ≡ worlds.from_start (world_of self.old) }
     {
@@ -279,7 +279,7 @@ impl<B: Drop> World<B> {
         self.set_mode(who, Mode::Pending(call));
     }
 
-    /// An ended coroutine is gone. How `main` ended is kept, and a round begins then.
+    /// An ended coroutine is gone. How `main` ended is kept, and what is asked goes on from before the first kind then.
     pub fn leave(&mut self, who: u64, outcome: Option<Errno>)
         ensures { world_of self.new ≡ left (world_of self.old) who outcome }
     {
