@@ -7,6 +7,7 @@ pub mod Freeing
 pub mod Gathered
 pub mod Leaving
 pub mod LinedUp
+pub mod Looked
 pub mod Picking
 pub mod Releasing
 pub mod Running

@@ -4,6 +4,7 @@ pub mod Freeings
 pub mod Gathering
 pub mod Lending
 pub mod Lined
+pub mod Looks
 pub mod Releases
 pub mod Steps
 pub mod Store
