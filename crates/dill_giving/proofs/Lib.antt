@@ -1,0 +1,5 @@
+mod Answered
+mod Asking
+mod Changing
+mod Named
+mod Unseen

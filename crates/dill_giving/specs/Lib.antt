@@ -1,0 +1,5 @@
+pub mod Finding
+pub mod Asking
+pub mod Entering
+pub mod Answering
+pub mod Releasing
