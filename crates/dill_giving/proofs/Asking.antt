@@ -1,5 +1,5 @@
 -- What a call asks of the stack of its link, done on the link.
-use Rattle.std.proofs.Common.{◌≡◌, ◌∙◌, ℕ, List, Bool, true, false, Option, Some, None, is_some, Result, Ok, Err, OnOk, OnErr, refl, sym, ap, subst, if◌then◌else◌}
+use Rattle.std.proofs.Common.{◌≡◌, ◌∙◌, ℕ, List, Bool, true, false, Option, Some, None, Result, Ok, Err, OnOk, OnErr, ap, if◌then◌else◌}
 use Rattle.rand_core.specs.Stream.{Stream}
 use Rattle.dill_base.specs.declared.errno.Errno.{Errno}
 use Rattle.dill_base.specs.declared.errno.NoMemory.{NoMemory}
@@ -8,47 +8,21 @@ use Rattle.dill_calls.specs.declared.call.Call.{Call}
 use Rattle.dill_calls.specs.CallTable.{word_of, named_by}
 use Rattle.dill_http.specs.Heads.{Said}
 use Rattle.dill_links.specs.Lending.{set_row}
-use Rattle.dill_stack.specs.declared.layer.Layer.{Layer}
 use Rattle.dill_stack.specs.declared.parting.Parting.{Parting}
 use Rattle.dill_stack.specs.Interface.{Held, frame, done, detach_start}
-use Rattle.dill_rules.specs.Directions.{message_of, line_said, is_end, layer_of, parting_of}
+use Rattle.dill_rules.specs.Directions.{message_of, line_said, is_end, parting_of}
 use Rattle.dill_rules.specs.Links.{Link, look, with_stack}
-use Rattle.dill_rules.specs.Linking.{if_ok, greet_by, put, ask_stack, queue, queue_end, queue_line, queue_message, put_layer, attach_layer}
-use Rattle.dill_rules.specs.Owning.{move}
+use Rattle.dill_rules.specs.Linking.{if_ok, greet_by, put, ask_stack, queue, queue_end, queue_line, queue_message}
 use Rattle.dill_rules.specs.Sockets.{stack_of}
 use Rattle.dill_rules.specs.World.{World}
 use Rattle.dill_stack.specs.Rooms.{Stocked}
 use Rattle.dill_links.specs.Lending.{stack_of as stocked_on}
-use Rattle.dill_sockets.specs.Entering.{Enters, line_due, layer_due, attach_due, queue_due, detach_due}
+use Rattle.dill_sockets.specs.Entering.{Enters, line_due, attach_due, queue_due, detach_due}
 use Rattle.dill_giving.specs.Entering.{IsPut, IsLeft, Puts, Asks, lent, start_handshake, start_leaving}
 use Rattle.dill_giving.specs.Finding.{link_at}
-use Rattle.dill_giving.proofs.Named.{put_there, put_same, stack_there, stack_lost}
+use Rattle.dill_giving.proofs.Named.{put_there, put_same, stack_there}
 
 module _ {V : Type 0} (w : World V) (call : Call) where
-  -- no link is there, and nothing is asked
-  lost_at : (o : Option ℕ) (so : Option Held) (f : Stream → Held → Result (Held × Stream) Errno) → so ≡ None → if_some o w (λ number. if_some so w (λ s. if_ok (f w.random s) w (put w number))) ≡ w
-  lost_at None so f e = refl
-  lost_at (Some number) so f e = rw e refl
-
-  pub ask_lost : (f : Stream → Held → Result (Held × Stream) Errno) → link_at w (named_by call) ≡ None → ask_stack w call f ≡ w
-  ask_lost f e = lost_at (named_by call) (stack_of w call) f (stack_lost w call e)
-
-  queue_lost_at : (o : Option (List ℕ)) (l : Option Said) (b : Bool) → link_at w (named_by call) ≡ None → if_some o (if_some l (if b then queue_end w call else w) (queue_line w call)) (queue_message w call) ≡ w
-  queue_lost_at (Some m) l b e = ask_lost (λ random s. frame m random s) e
-  queue_lost_at None (Some said) b e = ask_lost (λ random s. line_due said random s) e
-  queue_lost_at None None true e = ask_lost done e
-  queue_lost_at None None false e = refl
-
-  pub queue_lost : link_at w (named_by call) ≡ None → queue w call ≡ w
-  queue_lost e = queue_lost_at (message_of call) (line_said call) (is_end (word_of call)) e
-
-  leaving_lost_at : (o : Option Parting) → link_at w (named_by call) ≡ None → if_some o w (λ parting. ask_stack w call (λ random s. detach_start parting random s)) ≡ w
-  leaving_lost_at None e = refl
-  leaving_lost_at (Some parting) e = ask_lost (λ random s. detach_start parting random s) e
-
-  pub leaving_lost : link_at w (named_by call) ≡ None → start_leaving w call ≡ w
-  leaving_lost e = leaving_lost_at (parting_of call) e
-
   -- the link that is there has done what was asked
   module _ (link : ℕ) (x y : Link) (random left : Stream) (at : link_at w (named_by call) ≡ Some link) (there : look w.links link ≡ Some x) where
     refused : ◌≡◌ {A = Held × Stream} (y.stack, left) (x.stack, random) → y ≡ record x { stack = y.stack } → lent left (record w { links = set_row w.links link y }) ≡ lent random w
@@ -113,30 +87,6 @@ module _ {V : Type 0} (w : World V) (call : Call) where
     pub layer_err : (result : Result (Unit {0}) NoMemory) → Puts (attach_due call w.random x.stack) result x y w.random w.random → OnErr result (record w { links = set_row w.links link y } ≡ w)
     layer_err (Ok done) p = tt
     layer_err (Err lack) p = put_same w link x y there p.same
-
-  -- the layer of an attach, and the number after it
-  attached_at : (who number : ℕ) (o : Option Layer) → is_some o ≡ true → move (ask_stack w call (λ random s. if_some o (Ok (s, random)) (λ layer. layer_due layer random s))) number who ≡ if_some o w (λ layer. move (put_layer w call layer) number who)
-  attached_at who number None e = cc
-  attached_at who number (Some layer) e = refl
-
-  named_layer : (who number : ℕ) (o : Option ℕ) → o ≡ Some number → if_some (layer_of call) w (λ layer. move (put_layer w call layer) number who) ≡ if_some o w (λ n. if_some (layer_of call) w (λ layer. move (put_layer w call layer) n who))
-  named_layer who number o e = subst (λ p. if_some (layer_of call) w (λ layer. move (put_layer w call layer) number who) ≡ if_some p w (λ n. if_some (layer_of call) w (λ layer. move (put_layer w call layer) n who))) (sym e) refl
-
-  pub attached : (who number : ℕ) → named_by call ≡ Some number → is_some (layer_of call) ≡ true → move (ask_stack w call (attach_due call)) number who ≡ attach_layer w who call
-  attached who number named has = attached_at who number (layer_of call) has ∙ named_layer who number (named_by call) named
-
-  no_layer_at : (who : ℕ) (o : Option ℕ) (l : Option Layer) → is_some l ≡ false → if_some o w (λ number. if_some l w (λ layer. move (put_layer w call layer) number who)) ≡ w
-  no_layer_at who None l e = refl
-  no_layer_at who (Some number) None e = refl
-  no_layer_at who (Some number) (Some layer) e = cc
-
-  pub no_layer : (who : ℕ) → is_some (layer_of call) ≡ false → attach_layer w who call ≡ w
-  no_layer who e = no_layer_at who (named_by call) (layer_of call) e
-
--- the same where there is nothing to be done with what there may be
-pub either_way : {A B : Type 0} (o : Option A) (b : B) → if_some o b (λ a. b) ≡ b
-either_way None b = refl
-either_way (Some a) b = refl
 
 -- what is done to the stack on a link is done to the link
 pub puts : (due : Result (Held × Stream) Errno) (result : Result (Unit {0}) NoMemory) (x : Link) (s : Stocked) (random left : Stream) → Enters due result (stocked_on x) s random left → Puts due result x (record x { stack = s.held; most = s.most }) random left

@@ -1,5 +1,5 @@
 -- What becomes of the one that a test finds, or of none.
-use Rattle.std.proofs.Common.{◌≡◌, ◌∙◌, Bool, true, false, List, [], ◌∷◌, find, refl, ap, cond, Option, Some, None}
+use Rattle.std.proofs.Common.{◌≡◌, Bool, true, false, List, [], ◌∷◌, find, refl, ap, cond, Some, None}
 use Rattle.dill_base.specs.Maps.{change}
 
 module _ {X : Type 0} (test : X → Bool) where

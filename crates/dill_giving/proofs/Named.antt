@@ -57,20 +57,9 @@ module _ {V : Type 0} (w : World V) where
   stack_on_there None link x e there = cc
   stack_on_there (Some number) link x e there = there_at (link_number w number) link x e there
 
-  gone_at : (o : Option ℕ) → if_some o None (λ n. if is_some (look w.links n) then Some n else None) ≡ None → option_map (λ x. x.stack) (if_some o None (look w.links)) ≡ None
-  gone_at None e = refl
-  gone_at (Some n) e = ap (option_map (λ x. x.stack)) (is_absent (look w.links n) n e)
-
-  stack_on_lost : (handle : Option ℕ) → link_at w handle ≡ None → stack_on handle ≡ None
-  stack_on_lost None e = refl
-  stack_on_lost (Some number) e = gone_at (link_number w number) e
-
   -- the stack that the call is on is that of the link
   pub stack_there : (call : Call) (link : ℕ) (x : Link) → link_at w (named_by call) ≡ Some link → look w.links link ≡ Some x → stack_of w call ≡ Some x.stack
   stack_there call link x e there = stack_on_there (named_by call) link x e there
-
-  pub stack_lost : (call : Call) → link_at w (named_by call) ≡ None → stack_of w call ≡ None
-  stack_lost call e = stack_on_lost (named_by call) e
 
   -- the link of the handle that the call names
   pub named_there : (call : Call) (handle at : Option ℕ) (link : ℕ) → handle ≡ named_by call → at ≡ link_at w handle → at ≡ Some link → link_at w (named_by call) ≡ Some link

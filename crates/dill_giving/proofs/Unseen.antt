@@ -1,5 +1,5 @@
 -- What is answered without a look needs none.
-use Rattle.std.proofs.Common.{◌≡◌, ◌∙◌, ℕ, Bool, true, false, not, ◌&&◌, ◌||◌, Option, Some, None, IfSome, refl, sym, ap, subst, if◌then◌else◌}
+use Rattle.std.proofs.Common.{◌≡◌, ℕ, Bool, true, false, not, ◌&&◌, ◌||◌, Option, Some, None, IfSome, refl, subst, if◌then◌else◌}
 use Rattle.std.specs.Option.{option_or}
 use Rattle.dill_base.specs.declared.errno.Errno.TheVariants.{Ecanceled, Ebadf, Econnreset}
 use Rattle.dill_base.specs.Maps.{if_some}
@@ -11,19 +11,19 @@ use Rattle.dill_calls.specs.declared.word.Word.{Word}
 use Rattle.dill_calls.specs.declared.word.Word.TheVariants as words
 use Rattle.dill_calls.specs.CallTable.{word_of, blocks, gives_up, named_by}
 use Rattle.dill_stack.specs.Interface.{is_sent, has_ended}
-use Rattle.dill_rules.specs.Answers.{when, own_answer, lost_its_number, answer_of}
+use Rattle.dill_rules.specs.Answers.{when, own_answer, lost_its_number}
 use Rattle.dill_rules.specs.Directions.{is_send, is_receive, is_handshake}
 use Rattle.dill_rules.specs.Entering.{late_answer}
-use Rattle.dill_rules.specs.LinkAnswers.{is_tcp_done, is_tcp_close, is_on_stack, is_broken_for, zero_when, link_answer}
+use Rattle.dill_rules.specs.LinkAnswers.{is_tcp_done, is_tcp_close, is_on_stack, is_broken_for, zero_when}
 use Rattle.dill_rules.specs.Links.{Link}
 use Rattle.dill_rules.specs.Lookless.{stack_lookless, link_lookless, own_lookless, lookless_of}
 use Rattle.dill_rules.specs.Sockets.{link_named}
 use Rattle.dill_rules.specs.Taking.{is_cancelled}
 use Rattle.dill_rules.specs.World.{World}
-use Rattle.dill_world.specs.Store.{may_wait, is_short_answer}
-use Rattle.dill_giving.specs.Answering.{has_few_clauses, may_read, needs_no_look, NoLooks}
+use Rattle.dill_world.specs.Store.{is_short_answer}
+use Rattle.dill_giving.specs.Answering.{may_read, needs_no_look, NoLooks}
 
-pub always : (b : Bool) → (if b then true else true) ≡ true
+always : (b : Bool) → (if b then true else true) ≡ true
 always true = refl
 always false = refl
 
@@ -118,35 +118,6 @@ module _ {V : Type 0} (w : World V) where
   one_unseen word (Some b) a all e =
       let same : b ≡ a = cc in
       subst (λ x. needs_no_look word x ≡ true) same all
-
-  short_named : (call : Call) (o : Option Link) → IfSome (if_some o None (stack_lookless call)) (λ a. is_short_answer a ≡ true)
-  short_named call None = tt
-  short_named call (Some x) = short_lookless call x
-
-link_none : {V : Type 0} (w : World V) (call : Call) → is_on_stack (word_of call) ≡ false → link_answer w call ≡ None
-link_none w call e = rw e refl
-
--- a call that waits for a link, and isn't answered by its stack, has no answer of its own
-pub own_none : {V : Type 0} (w : World V) (call : Call) → has_few_clauses call ≡ true → may_wait call ≡ false → is_on_stack (word_of call) ≡ false → own_answer w call ≡ None
-own_none w (calls.Hclose number) few e f = cc
-own_none w (calls.BundleWait number deadline) few e f = cc
-own_none w (calls.Chsend number bytes deadline) few e f = cc
-own_none w (calls.Chrecv number size deadline) few e f = cc
-own_none w (calls.Choose deadline all) few e f = cc
-own_none w call few e f = link_none w call f
-
--- a call that waits for none is answered of itself
-pub off_stack : (call : Call) → may_wait call ≡ true → is_on_stack (word_of call) ≡ false
-off_stack (calls.Msleep deadline) e = refl
-off_stack (calls.Hclose number) e = refl
-off_stack (calls.BundleWait number deadline) e = refl
-off_stack (calls.Chsend number bytes deadline) e = refl
-off_stack (calls.Chrecv number size deadline) e = refl
-off_stack (calls.Choose deadline all) e = refl
-off_stack _ e = cc
-
-pub as_answered : {V : Type 0} (w : World V) (who : ℕ) (call : Call) → may_wait call ≡ true → answer_of w who call ≡ lookless_of w who call
-as_answered w who call e = ap (λ b. option_or (when (blocks (word_of call) && is_cancelled w who) (Fault Ecanceled)) (option_or (when (lost_its_number w call) (Fault Ebadf)) (if b then link_lookless w call else own_answer w call))) (sym (off_stack call e))
 
 unseen_late : (call : Call) → needs_no_look (word_of call) (late_answer call) ≡ true
 unseen_late (calls.Msleep deadline) = refl
