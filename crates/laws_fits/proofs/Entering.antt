@@ -82,14 +82,21 @@ gives_shakes (calls.WsAttachServer m text deadline) n e f = cc
 gives_shakes (calls.Pass word fault) n e f = cc
 gives_shakes _ n e f = refl
 
--- a call that queues is met in a round
-late_off : (moment : ℕ) (call : Call) (n : ℕ) → named_by call ≡ Some n → queues call ≡ true → is_late moment call ≡ true → uses_link (word_of call) ≡ true
+-- a call on a stack that has a deadline is met in a round
+late_off : (moment : ℕ) (call : Call) (n : ℕ) → named_by call ≡ Some n → is_on_stack (word_of call) ≡ true → is_late moment call ≡ true → uses_link (word_of call) ≡ true
+late_off moment (calls.TcpDone m deadline) n e f g = refl
+late_off moment (calls.TcpClose m deadline) n e f g = refl
 late_off moment (calls.Bsend m bytes deadline) n e f g = refl
+late_off moment (calls.Brecv m size deadline) n e f g = refl
 late_off moment (calls.Msend m bytes deadline) n e f g = refl
+late_off moment (calls.Mrecv m limit deadline) n e f g = refl
 late_off moment (calls.TermDone m deadline) n e f g = refl
 late_off moment (calls.HttpSendrequest m command resource deadline) n e f g = refl
 late_off moment (calls.HttpSendstatus m code reason deadline) n e f g = refl
 late_off moment (calls.HttpSendfield m name value deadline) n e f g = refl
+late_off moment (calls.HttpRecvrequest m deadline) n e f g = refl
+late_off moment (calls.HttpRecvstatus m deadline) n e f g = refl
+late_off moment (calls.HttpRecvfield m deadline) n e f g = refl
 late_off moment (calls.HttpDone m deadline) n e f g = refl
 late_off moment (calls.WsAttachClient m text resource host deadline) n e f g = refl
 late_off moment (calls.WsAttachServer m text deadline) n e f g = refl
@@ -184,6 +191,22 @@ module _ {V : Type 0} where
       at None = refl
       at (Some c) = by c (is_too_late v who c)
 
+  -- a call on a stack isn't too late at its entry
+  pub met_same : (v : World V) (who : ℕ) (call : Call) (n : ℕ) → named_by call ≡ Some n → is_on_stack (word_of call) ≡ true → ((c : Call) → call_of v who ≡ Some c → c ≡ call) → meet_deadline v who ≡ v
+  met_same v who call n e on same = at (call_of v who) refl
+    where
+      late : (c : Call) → c ≡ call → (b : Bool) → is_too_late v who c ≡ b → (if b then reply v who (word_of c) (late_answer c) else v) ≡ v
+      late c s false f = refl
+      late c s true f =
+          let one = and_parts (is_late v.moment c) (not (uses_link (word_of c)) && is_none _) f in
+          let two = and_parts (not (uses_link (word_of c))) _ one.1 in
+          let bad : false ≡ true = ap not (sym (late_off v.moment c n (ap named_by s ∙ e) (ap (λ m. is_on_stack (word_of m)) s ∙ on) one.0)) ∙ two.0 in
+          cc
+
+      at : (o : Option Call) → call_of v who ≡ o → if_some o v (λ c. if is_too_late v who c then reply v who (word_of c) (late_answer c) else v) ≡ v
+      at None f = refl
+      at (Some c) f = late c (same c f) (is_too_late v who c) refl
+
   still_pends : (u : World V) (who : ℕ) (call : Call) (n : ℕ) (one : Coroutine V) → coroutine_of u who ≡ Some one → named_by call ≡ Some n → queues call ≡ true → Pends (meet_deadline (pend u who call) who) who call
   still_pends u who call n one found e q = subst (λ z. Pends z who call) (sym is) there
     where
@@ -193,16 +216,11 @@ module _ {V : Type 0} where
       here : coroutine_of v who ≡ Some (with_mode (modes.Pending call) one)
       here = found_changed (is_coroutine who) (with_mode (modes.Pending call)) one u.coroutines (λ d. refl) found
 
-      late : (b : Bool) → is_too_late v who call ≡ b → (if b then reply v who (word_of call) (late_answer call) else v) ≡ v
-      late false f = refl
-      late true f =
-          let one = and_parts (is_late v.moment call) (not (uses_link (word_of call)) && is_none _) f in
-          let two = and_parts (not (uses_link (word_of call))) _ one.1 in
-          let bad : false ≡ true = ap not (sym (late_off v.moment call n e q one.0)) ∙ two.0 in
-          cc
+      pending : call_of v who ≡ Some call
+      pending = ap (λ o. if_some o None (λ (c : Coroutine V). pending_call c.mode)) here
 
       is : meet_deadline v who ≡ v
-      is = ap (λ o. if_some (if_some o None (λ c. pending_call c.mode)) v (λ c. if is_too_late v who c then reply v who (word_of c) (late_answer c) else v)) here ∙ late (is_too_late v who call) refl
+      is = met_same v who call n e (queues_on call q) (λ c f. some_same (call_of v who) c call f pending)
 
       there : Pends v who call
       there = record { one = with_mode (modes.Pending call) one; there = find_in (is_coroutine who) v.coroutines (with_mode (modes.Pending call) one) here; number = found_number (λ (d : Coroutine V). d.number) who u.coroutines one found; mode = refl }

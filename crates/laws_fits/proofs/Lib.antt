@@ -13,3 +13,6 @@ pub mod Refused
 pub mod Elsewhere
 pub mod Entering
 pub mod Steps
+pub mod Rooms
+pub mod Keepers
+pub mod Called

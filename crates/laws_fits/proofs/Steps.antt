@@ -106,7 +106,7 @@ module _ {V : Type 0} where
       sym (ap (λ q. if_some q true (λ call. if is_on_stack (word_of call) then if_some (named_by call) true (is_no_bundle w.handles) else true)) p.mode ∙ ap (λ b. if b then if_some (named_by more) true (is_no_bundle w.handles) else true) on ∙ ap (λ q. if_some q true (is_no_bundle w.handles)) e)
       ∙ all_in (is_socketed w.handles) w.coroutines p.one g.sockets p.there
 
-  lasts_of : (w : World V) → IsOrderly w → LooksApart w → IsFitting w → Lasts w
+  pub lasts_of : (w : World V) → IsOrderly w → LooksApart w → IsFitting w → Lasts w
   lasts_of w g a f = record { fits = f; low = λ other more n p on e. low n (and_parts (nat_le n w.handles.last) _ (socketed w other more n g p on e)).0; apart = a; numbered = g.order.fits.numbered }
     where
       low : (n : ℕ) → nat_le n w.handles.last ≡ true → n ≤ w.handles.last
@@ -159,18 +159,9 @@ module _ {V : Type 0} where
 
   -- ---- a turn
 
-  module _ (p : Program V) (w : World V) (who : ℕ) (c : Coroutine V) (found : coroutine_of w who ≡ Some c) (answered : is_answered c.mode ≡ true) (order : IsOrderly w) (h : Lasts w) where
-    abbrev b : World V
-    b = begin w
-
-    lasts_b : Lasts b
-    lasts_b = begun_lasts w h
-
-    order_b : IsOrderly b
-    order_b = begins w order
-
+  module _ (p : Program V) (b : World V) (who : ℕ) (c : Coroutine V) (found : coroutine_of b who ≡ Some c) (answered : is_answered c.mode ≡ true) (order : IsOrderly b) (h : Lasts b) where
     idle : (more : Call) → Pends b who more → ⊥
-    idle more q = answered_idle c.mode more answered (found_in b who more c lasts_b.numbered found q)
+    idle more q = answered_idle c.mode more answered (found_in b who more c h.numbered found q)
 
     calls_b : (view : V) (other : ℕ) (more : Call) → Pends (resume b who view) other more → Pends b other more
     calls_b view other more q = (fewer_change b who (as_running view) (λ d. refl)).calls other more q
@@ -185,20 +176,20 @@ module _ {V : Type 0} where
           stacks = λ l x y i j d e s. inl (soft_same (Holds (resume b who view) queues l) x.stack y.stack s);
           fits = λ other more n l y q e nm i j. absurd q;
           low = λ other more n q e. absurd q;
-        }) (once_of b lasts_b.apart) (record { fits = lasts_b.fits; low = lasts_b.low })
+        }) (once_of b h.apart) (record { fits = h.fits; low = h.low })
       where
         who_is : (other : ℕ) → Some who ≡ Some other → who ≡ other
         who_is other g = cc
 
     apart_r : (view : V) → LooksApart (resume b who view)
-    apart_r view = fewer_apart b (resume b who view) (fewer_change b who (as_running view) (λ d. refl)) lasts_b.apart
+    apart_r view = fewer_apart b (resume b who view) (fewer_change b who (as_running view) (λ d. refl)) h.apart
 
     running : (view : V) (more : Call) → Pends (resume b who view) who more → ⊥
-    running view more q = unpended b.last_coroutine who (as_running view) (λ d. refl) (λ d. refl) b.coroutines more lasts_b.numbered q
+    running view more q = unpended b.last_coroutine who (as_running view) (λ d. refl) (λ d. refl) b.coroutines more h.numbered q
 
     bundles : (view : V) (other : ℕ) (more : Call) (n : ℕ) → Pends (resume b who view) other more → is_on_stack (word_of more) ≡ true → named_by more ≡ Some n → IsBundle b.handles.entries n → ⊥
     bundles view other more n q on e bundle =
-        let none = (and_parts (nat_le n b.handles.last) (list_all (λ x. not (x.number == n) || is_none (bundle_of x.thing)) b.handles.entries) (socketed b other more n order_b (calls_b view other more q) on e)).1 in
+        let none = (and_parts (nat_le n b.handles.last) (list_all (λ x. not (x.number == n) || is_none (bundle_of x.thing)) b.handles.entries) (socketed b other more n order (calls_b view other more q) on e)).1 in
         at (bundle.0.number == n) (ap (λ k. k == n) bundle.2 ∙ itself n) (bundle_of bundle.0.thing) bundle.3 (all_in (λ (x : Entry Thing). not (x.number == n) || is_none (bundle_of x.thing)) b.handles.entries bundle.0 none bundle.1)
       where
         at : (t : Bool) → t ≡ true → (o : Option ℕ) → is_some o ≡ true → (not t || is_none o) ≡ true → ⊥
@@ -235,7 +226,7 @@ module _ {V : Type 0} where
     first_same view call index (x ∷ xs) = ap (λ r. if is_waiting (meeting_of b who x) then r else Some (index, meeting_of b who x)) (first_same view call (index + 1) xs)
 
     meets : (view : V) (call : Call) → MeetsOff (keep_for (resume b who view) call) who call
-    meets view call index m e more q on = at (coroutine_of b m.other) refl (first_meets b who 0 index (clauses_of call) m (sym (first_same view call 0 (clauses_of call)) ∙ e) order_b)
+    meets view call index m e more q on = at (coroutine_of b m.other) refl (first_meets b who 0 index (clauses_of call) m (sym (first_same view call 0 (clauses_of call)) ∙ e) order)
       where
         off : (o : Option Call) → o ≡ Some more → if_some o false (λ d. is_channel (word_of d)) ≡ true → ⊥
         off None f g = cc
@@ -243,14 +234,14 @@ module _ {V : Type 0} where
 
         at : (o : Option (Coroutine V)) → coroutine_of b m.other ≡ o → if_some o false (λ d. is_meeting d.mode) ≡ true → ⊥
         at None f g = cc
-        at (Some d) f g = off (pending_call d.mode) (found_in b m.other more d lasts_b.numbered f (calls_b view m.other more (record { one = q.one; there = q.there; number = q.number; mode = q.mode }))) g
+        at (Some d) f g = off (pending_call d.mode) (found_in b m.other more d h.numbered f (calls_b view m.other more (record { one = q.one; there = q.there; number = q.number; mode = q.mode }))) g
 
-    calling : (view : V) (call : Call) → refuse p (resume b who view) who view call ≡ None → Caller (resume b who view) who call
+    pub calling : (view : V) (call : Call) → refuse p (resume b who view) who view call ≡ None → Caller (resume b who view) who call
     calling view call e = record {
       fits = resumed view;
       apart = apart_r view;
-      given = λ n x f. given_below n b.handles.last (λ up. live_low b n x order_b.order.fits f up);
-      names = λ n l q. names_number b n l order_b.order (record { entry = q.entry; there = q.there; number = q.number; link = q.link });
+      given = λ n x f. given_below n b.handles.last (λ up. live_low b n x order.order.fits f up);
+      names = λ n l q. names_number b n l order.order (record { entry = q.entry; there = q.there; number = q.number; link = q.link });
       one = as_running view c;
       found = change_here (as_running view) (λ d. refl) who b.coroutines c found;
       running = running view;
@@ -285,10 +276,10 @@ module _ {V : Type 0} where
             at true = ended new outcome
             at false = ended new outcome
 
-    go_on_lasts : (lack : Option LackPlace) → Lasts (go_on p lack b who c.body)
-    go_on_lasts lack =
-        let f = go_on_fits lack in
-        record { fits = f.fits; low = f.low; apart = go_on_apart p lack w who c.body h.apart; numbered = (go_on_goes p lack w who c order found answered).good.order.fits.numbered }
+  pub go_on_lasts : (p : Program V) (w : World V) (who : ℕ) (c : Coroutine V) (found : coroutine_of w who ≡ Some c) (answered : is_answered c.mode ≡ true) → IsOrderly w → Lasts w → (lack : Option LackPlace) → Lasts (go_on p lack (begin w) who c.body)
+  go_on_lasts p w who c found answered order h lack =
+      let f = go_on_fits p (begin w) who c found answered (begins w order) (begun_lasts w h) lack in
+      record { fits = f.fits; low = f.low; apart = go_on_apart p lack w who c.body h.apart; numbered = (go_on_goes p lack w who c order found answered).good.order.fits.numbered }
 
   -- ---- steps
 

@@ -15,7 +15,7 @@ use Rattle.dill_rules.specs.Giving.{is_connecting_for}
 use Rattle.dill_rules.specs.Refusals.{is_accept}
 use Rattle.dill_rules.specs.Trying.{Try, read_size, is_ending_send, is_idle, is_pending_on, open_links, next_link, closes, listen_of, listens, connect_of, connects, finishes, accepts, writes, shuts, is_needy, reads, tries, is_stopped, tries_now, is_next, next_try}
 use Rattle.dill_rules.specs.World.{World, pending_call}
-use Rattle.laws_looks.specs.Readers.{In, Rising}
+use Rattle.laws_looks.specs.Readers.{In, Pends, Rising}
 use Rattle.laws_looks.proofs.Lists.{itself, less_unequal, find_in, in_append, in_map, in_filter, in_picked}
 
 above_link : (low high : ℕ) (xs : List Link) (y : Link) → Rising low xs high → In y xs → low < y.number
@@ -59,8 +59,8 @@ module _ {V : Type 0} where
   -- by what is asked
   pub data Sorts (w : World V) (x : Try) : Type 0 where
     closing : (l : ℕ) → x.ask ≡ asks.Close l → Sorts w x
-    listening : (who : ℕ) (call : Call) → listen_of w who call ≡ Some x → Sorts w x
-    connecting : (who : ℕ) (call : Call) → connect_of w who call ≡ Some x → Sorts w x
+    listening : (who : ℕ) (call : Call) → Pends w who call → listen_of w who call ≡ Some x → Sorts w x
+    connecting : (who : ℕ) (call : Call) → Pends w who call → connect_of w who call ≡ Some x → Sorts w x
     finishing : Opened w (λ y. is_some (connector y.sort) && y.write_hot) (λ y. record { kind = 4; number = y.number; ask = asks.Finish y.number }) x → Sorts w x
     accepting : Opened w (λ y. is_listening y.sort && (y.read_hot && is_pending_on w is_accept y.number)) (λ y. record { kind = 5; number = y.number; ask = asks.Accept y.number (next_link w) }) x → Sorts w x
     writing : Opened w (λ y. is_stream y.sort && (y.write_hot && not (is_idle y.stack))) (λ y. record { kind = 6; number = y.number; ask = asks.Write y.number (offered y.stack) }) x → Sorts w x
@@ -70,23 +70,23 @@ module _ {V : Type 0} where
   closes_sort : (w : World V) (x : Try) → In x (closes w) → Sorts w x
   closes_sort w x i = let r = in_map (λ (y : Link). record { kind = 1; number = y.number; ask = asks.Close y.number }) (filter (λ (y : Link). y.closing) w.links.all) x i in closing r.0.number (ap (λ (z : Try). z.ask) r.2)
 
-  pending_sort : (w : World V) (x : Try) (f : ℕ → Call → Option Try) → In x (filter_map (λ (c : Coroutine V). if_some (pending_call c.mode) None (f c.number)) w.coroutines) → (who : ℕ) × (call : Call) × (f who call ≡ Some x)
-  pending_sort w x f i = let r = in_picked (λ (c : Coroutine V). if_some (pending_call c.mode) None (f c.number)) w.coroutines x i in at r.0.number (pending_call r.0.mode) r.2
+  pending_sort : (w : World V) (x : Try) (f : ℕ → Call → Option Try) → In x (filter_map (λ (c : Coroutine V). if_some (pending_call c.mode) None (f c.number)) w.coroutines) → (who : ℕ) × (call : Call) × Pends w who call × (f who call ≡ Some x)
+  pending_sort w x f i = let r = in_picked (λ (c : Coroutine V). if_some (pending_call c.mode) None (f c.number)) w.coroutines x i in at r.0 r.1 (pending_call r.0.mode) refl r.2
     where
-      at : (who : ℕ) (o : Option Call) → if_some o None (f who) ≡ Some x → (n : ℕ) × (call : Call) × (f n call ≡ Some x)
-      at who None e = cc
-      at who (Some call) e = (who, call, e)
+      at : (c : Coroutine V) → In c w.coroutines → (o : Option Call) → pending_call c.mode ≡ o → if_some o None (f c.number) ≡ Some x → (n : ℕ) × (call : Call) × Pends w n call × (f n call ≡ Some x)
+      at c j None g e = cc
+      at c j (Some call) g e = (c.number, call, record { one = c; there = j; number = refl; mode = g }, e)
 
   sorts : (w : World V) (x : Try) → In x (tries w) → Sorts w x
   sorts w x i = eight (in_append (closes w ++ listens w ++ connects w ++ finishes w ++ accepts w ++ writes w ++ shuts w) (reads w) x i)
     where
       two : In x (closes w) ⊎ In x (listens w) → Sorts w x
       two (inl j) = closes_sort w x j
-      two (inr j) = let r = pending_sort w x (listen_of w) j in listening r.0 r.1 r.2
+      two (inr j) = let r = pending_sort w x (listen_of w) j in listening r.0 r.1 r.2 r.3
 
       three : In x (closes w ++ listens w) ⊎ In x (connects w) → Sorts w x
       three (inl j) = two (in_append (closes w) (listens w) x j)
-      three (inr j) = let r = pending_sort w x (connect_of w) j in connecting r.0 r.1 r.2
+      three (inr j) = let r = pending_sort w x (connect_of w) j in connecting r.0 r.1 r.2 r.3
 
       four : In x (closes w ++ listens w ++ connects w) ⊎ In x (finishes w) → Sorts w x
       four (inl j) = three (in_append (closes w ++ listens w) (connects w) x j)
@@ -139,8 +139,8 @@ module _ {V : Type 0} where
     where
       at : Sorts w x → Opened w (λ y. is_some (connector y.sort) && y.write_hot) (λ y. record { kind = 4; number = y.number; ask = asks.Finish y.number }) x
       at (closing k g) = let bad : asks.Close k ≡ asks.Finish l = sym g ∙ f in cc
-      at (listening who call g) = let bad : true ≡ false = listen_ask w who call x (asks.Finish l) g f in cc
-      at (connecting who call g) = let bad : true ≡ false = connect_ask w who call x (asks.Finish l) g f in cc
+      at (listening who call q g) = let bad : true ≡ false = listen_ask w who call x (asks.Finish l) g f in cc
+      at (connecting who call q g) = let bad : true ≡ false = connect_ask w who call x (asks.Finish l) g f in cc
       at (finishing o) = o
       at (accepting o) = let bad : asks.Accept o.y.number (next_link w) ≡ asks.Finish l = ap (λ (z : Try). z.ask) (sym o.same) ∙ f in cc
       at (writing o) = let bad : asks.Write o.y.number (offered o.y.stack) ≡ asks.Finish l = ap (λ (z : Try). z.ask) (sym o.same) ∙ f in cc
@@ -153,8 +153,8 @@ module _ {V : Type 0} where
     where
       at : Sorts w x → Opened w (λ y. is_stream y.sort && (y.write_hot && not (is_idle y.stack))) (λ y. record { kind = 6; number = y.number; ask = asks.Write y.number (offered y.stack) }) x
       at (closing k g) = let bad : asks.Close k ≡ asks.Write l bytes = sym g ∙ f in cc
-      at (listening who call g) = let bad : true ≡ false = listen_ask w who call x (asks.Write l bytes) g f in cc
-      at (connecting who call g) = let bad : true ≡ false = connect_ask w who call x (asks.Write l bytes) g f in cc
+      at (listening who call q g) = let bad : true ≡ false = listen_ask w who call x (asks.Write l bytes) g f in cc
+      at (connecting who call q g) = let bad : true ≡ false = connect_ask w who call x (asks.Write l bytes) g f in cc
       at (finishing o) = let bad : asks.Finish o.y.number ≡ asks.Write l bytes = ap (λ (z : Try). z.ask) (sym o.same) ∙ f in cc
       at (accepting o) = let bad : asks.Accept o.y.number (next_link w) ≡ asks.Write l bytes = ap (λ (z : Try). z.ask) (sym o.same) ∙ f in cc
       at (writing o) = o
@@ -167,8 +167,8 @@ module _ {V : Type 0} where
     where
       at : Sorts w x → Opened w (λ y. is_stream y.sort && (y.read_hot && (not y.stack.receiving.done && (not y.stack.receiving.broken && is_needy w y)))) (λ y. record { kind = 8; number = y.number; ask = asks.Read y.number read_size }) x
       at (closing k g) = let bad : asks.Close k ≡ asks.Read l size = sym g ∙ f in cc
-      at (listening who call g) = let bad : true ≡ false = listen_ask w who call x (asks.Read l size) g f in cc
-      at (connecting who call g) = let bad : true ≡ false = connect_ask w who call x (asks.Read l size) g f in cc
+      at (listening who call q g) = let bad : true ≡ false = listen_ask w who call x (asks.Read l size) g f in cc
+      at (connecting who call q g) = let bad : true ≡ false = connect_ask w who call x (asks.Read l size) g f in cc
       at (finishing o) = let bad : asks.Finish o.y.number ≡ asks.Read l size = ap (λ (z : Try). z.ask) (sym o.same) ∙ f in cc
       at (accepting o) = let bad : asks.Accept o.y.number (next_link w) ≡ asks.Read l size = ap (λ (z : Try). z.ask) (sym o.same) ∙ f in cc
       at (writing o) = let bad : asks.Write o.y.number (offered o.y.stack) ≡ asks.Read l size = ap (λ (z : Try). z.ask) (sym o.same) ∙ f in cc

@@ -1,7 +1,9 @@
 ghost use Rattle.laws_fits.specs.Fitting.{StepsKeepFitting};
+ghost use Rattle.laws_fits.specs.Meeting.{EntriesFit, LooksFit, ReadsHaveRoom, RepliesAreKept};
 
 use dill_calls::Body;
-use dill_stack::again_laws;
+use dill_stack::{again_laws, need_laws};
+use laws_looks::{links_are_kept, needs_are_short};
 
 /// Between any two steps the stack of each link fits the calls that are pending on it, whatever is called and whatever the
 /// kernel replies: its layers stand and are formed, no byte of an item is queued but of a pending call that queues one, a
@@ -11,3 +13,31 @@ pub fn steps_keep_fitting<B: Body>()
 {
     again_laws();
 }
+
+/// A link that is read from is there, isn't closing, and has room for what comes: fewer bytes are unread on it than the
+/// call needs that is pending there.
+pub fn reads_have_room<B: Body>()
+    ensures { ReadsHaveRoom B }
+{
+    needs_are_short::<B>();
+    need_laws();
+}
+
+/// Where the reply to what is asked may make a link, one is kept, and where it may answer a handle, a number is.
+pub fn replies_are_kept<B: Body>()
+    ensures { RepliesAreKept B }
+{
+    links_are_kept::<B>();
+}
+
+/// A call that isn't refused finds layers that stand and are formed; and where it sends, shakes hands, gives its stack up or
+/// puts a layer on it, all that was queued has gone.
+pub fn entries_fit<B: Body>()
+    ensures { EntriesFit B.means }
+{}
+
+/// Behind a reply of the kernel, in a turn, and as a call is entered, each pending call may look at its stack: a receive has
+/// its room and its top, where a client's head is awaited nothing is queued, and a detach has a layer to leave.
+pub fn looks_fit<B: Body>()
+    ensures { LooksFit B.means }
+{}

@@ -4,4 +4,4 @@
 
 mod laws;
 
-pub use laws::steps_keep_fitting;
+pub use laws::{entries_fit, looks_fit, reads_have_room, replies_are_kept, steps_keep_fitting};
