@@ -1,7 +1,6 @@
 -- What a call finds at its entry, and that a world in which it is pending fits.
 use Rattle.std.proofs.Common.{◌≡◌, ◌∙◌, ◌⊎◌, inl, inr, ℕ, List, [], ◌∷◌, find, cond, Bool, true, false, ◌||◌, Option, Some, None, if◌then◌else◌, refl, sym, ap, subst}
 use Rattle.std.specs.Prelude.{is_some, option_map}
-use Rattle.dill_base.specs.declared.errno.Errno.{Errno}
 use Rattle.dill_base.specs.Maps.{if_some, change}
 use Rattle.dill_calls.specs.declared.call.Call.{Call}
 use Rattle.dill_calls.specs.declared.word.Word.{Word}
@@ -10,29 +9,30 @@ use Rattle.dill_calls.specs.CallTable.{word_of, named_by, blocks, gives_up}
 use Rattle.dill_calls.specs.Program.{Program}
 use Rattle.dill_scope.proofs.Numbered.{found_number}
 use Rattle.dill_stack.specs.declared.parting.Parting.{Parting}
-use Rattle.dill_stack.specs.Interface.{Held, detach_start}
+use Rattle.dill_stack.specs.Interface.{Held, detach_start, drop_unread}
 use Rattle.dill_rules.specs.declared.coroutine.Coroutine.{Coroutine}
 use Rattle.dill_rules.specs.declared.coroutine.Mode.{Mode}
 use Rattle.dill_rules.specs.declared.coroutine.Mode.TheVariants as modes
 use Rattle.dill_rules.specs.Directions.{is_send, is_receive, is_handshake, layer_of, parting_of}
-use Rattle.dill_rules.specs.Entering.{perform, perform_on_link, meet_deadline, done}
+use Rattle.dill_rules.specs.Entering.{perform_on_link, meet_deadline}
 use Rattle.dill_rules.specs.LinkAnswers.{is_on_stack}
 use Rattle.dill_rules.specs.Linking.{ask_stack, heat, reserve, greet_by, enter_send, enter_receive, enter_link, enter_handshake, enter_attach, given_up_at_once, give_stack_up, begin_detach, begin_giving_up, enter_giving_up}
-use Rattle.dill_rules.specs.Links.{Link, look}
+use Rattle.dill_rules.specs.Links.{Link, look, is_link, change_link, with_stack, heated}
 use Rattle.dill_rules.specs.Naming.{links, draws_of}
 use Rattle.dill_rules.specs.Owning.{take}
-use Rattle.dill_rules.specs.Sockets.{link_number, link_named}
+use Rattle.dill_rules.specs.Sockets.{link_number, link_named, stack_of, on_link as change_on, on_named}
 use Rattle.dill_rules.specs.Turning.{resume}
 use Rattle.dill_rules.specs.World.{World, is_coroutine, coroutine_of, call_of, with_mode, pend, pending_call}
 use Rattle.laws_looks.specs.OneLook.{called, taken_for}
 use Rattle.laws_looks.proofs.Lists.{true_false, find_in}
 use Rattle.laws_looks.proofs.Restful.{named_link}
-use Rattle.laws_fits.specs.Fitting.{IsSolid, IsFitting}
-use Rattle.laws_fits.specs.Meeting.{Calling, uses_stack, MayEnter, EntriesFit, MayLook, LooksFit}
+use Rattle.laws_fits.specs.Fitting.{IsFitting}
+use Rattle.laws_fits.specs.Meeting.{Calling, MayEnter, EntriesFit, StacksStay, MayLook, LooksFit}
 use Rattle.laws_fits.proofs.Elsewhere.{Performs, on_link, elsewhere, performs}
 use Rattle.laws_fits.proofs.Entering.{Caller, met_same, quiet, done_fits}
 use Rattle.laws_fits.proofs.Fits.{Fitted, Lasts}
 use Rattle.laws_fits.proofs.Hearing.{heard_lasts}
+use Rattle.laws_fits.proofs.Tidy.{take_links_all, take_named}
 use Rattle.laws_fits.proofs.Steps.{lasts_of, calling, go_on_lasts}
 
 -- ---- words
@@ -79,6 +79,26 @@ either : (a b : Bool) → (a || b) ≡ true → (a ≡ true) ⊎ (b ≡ true)
 either true b e = inl refl
 either false b e = inr e
 
+-- ---- stacks
+
+-- a link that is hot has the stack that it had
+hot_stack : (read write : Bool) (l m : ℕ) (xs : List Link) → option_map (λ x. x.stack) (find (is_link m) (change (is_link l) (heated read write) xs)) ≡ option_map (λ x. x.stack) (find (is_link m) xs)
+hot_stack read write l m [] = refl
+hot_stack read write l m (x ∷ xs) = at (is_link l x) (hot_stack read write l m xs)
+  where
+    at : (b : Bool) → option_map (λ x. x.stack) (find (is_link m) (change (is_link l) (heated read write) xs)) ≡ option_map (λ x. x.stack) (find (is_link m) xs)
+        → option_map (λ x. x.stack) (find (is_link m) (cond b (heated read write x ∷ xs) (x ∷ change (is_link l) (heated read write) xs))) ≡ option_map (λ x. x.stack) (cond (is_link m x) (Some x) (find (is_link m) xs))
+    at true rest = here (is_link m x)
+      where
+        here : (d : Bool) → option_map (λ x. x.stack) (cond d (Some (heated read write x)) (find (is_link m) xs)) ≡ option_map (λ x. x.stack) (cond d (Some x) (find (is_link m) xs))
+        here true = refl
+        here false = refl
+    at false rest = here (is_link m x)
+      where
+        here : (d : Bool) → option_map (λ x. x.stack) (cond d (Some x) (find (is_link m) (change (is_link l) (heated read write) xs))) ≡ option_map (λ x. x.stack) (cond d (Some x) (find (is_link m) xs))
+        here true = refl
+        here false = rest
+
 -- ---- who is pending
 
 moded : {V : Type 0} (mode : Mode) (who : ℕ) (cs : List (Coroutine V)) (d : Coroutine V) → find (is_coroutine who) (change (is_coroutine who) (with_mode mode) cs) ≡ Some d → d.mode ≡ mode
@@ -104,6 +124,35 @@ module _ {V : Type 0} where
       at : (o : Option (Coroutine V)) → coroutine_of (pend u who call) who ≡ o → if_some o None (λ d. pending_call d.mode) ≡ Some c → c ≡ call
       at None f g = cc
       at (Some d) f g = pending_is d.mode call c (moded (modes.Pending call) who u.coroutines d f) g
+
+  heats : (w : World V) (call : Call) (read write : Bool) → stack_of (heat w call read write) call ≡ stack_of w call
+  heats w call read write = at (named_by call)
+    where
+      looked : (l : ℕ) (o : Option ℕ) → option_map (λ x. x.stack) (if_some o None (look (change_link w.links l (heated read write)))) ≡ option_map (λ x. x.stack) (if_some o None (look w.links))
+      looked l None = refl
+      looked l (Some m) = hot_stack read write l m w.links.all
+
+      linked : (n : ℕ) (o : Option ℕ) → option_map (λ x. x.stack) (link_named (if_some o w (λ l. change_on w l (heated read write))) n) ≡ option_map (λ x. x.stack) (link_named w n)
+      linked n None = refl
+      linked n (Some l) = looked l (link_number w n)
+
+      at : (o : Option ℕ) → if_some o None (λ n. option_map (λ x. x.stack) (link_named (if_some o w (λ n. on_named w n (heated read write))) n)) ≡ if_some o None (λ n. option_map (λ x. x.stack) (link_named w n))
+      at None = refl
+      at (Some n) = linked n (link_number w n)
+
+  takes : (w : World V) (who : ℕ) (call : Call) → stack_of (if_some (named_by call) w (λ n. take w n who)) call ≡ stack_of w call
+  takes w who call = at (named_by call)
+    where
+      at : (o : Option ℕ) → if_some o None (λ n. option_map (λ x. x.stack) (link_named (if_some o w (λ n. take w n who)) n)) ≡ if_some o None (λ n. option_map (λ x. x.stack) (link_named w n))
+      at None = refl
+      at (Some n) =
+          ap (λ o. option_map (λ (x : Link). x.stack) (if_some o None (look (take w n who).links))) (take_named w n who n)
+          ∙ ap (λ q. option_map (λ (x : Link). x.stack) (if_some (link_number w n) None (look q))) (take_links_all w n who)
+
+  leaves : (w : World V) (who : ℕ) (call : Call) (parting : Parting) → parting_of call ≡ Some parting → stack_of (taken_for w who call) call ≡ stack_of w call
+  leaves w who call parting e =
+      let v = if_some (named_by call) w (λ n. take w n who) in
+      ap (λ q. stack_of (if_some q (if_some (named_by call) v (λ n. on_named v n (with_stack drop_unread))) (λ parting. v)) call) e ∙ takes w who call
 
   -- ---- a call that is entered
 
@@ -213,3 +262,6 @@ looks_fit p = record {
   handshakes = λ w who view call n h e f. handshakes p w who view call h n e f;
   gives_up = λ w who view call n h e f none. giving p w who view call h n e f none;
 }
+
+pub stacks_stay : (V : Type 0) → StacksStay V
+stacks_stay V = record { heats = heats; takes = takes; leaves = leaves }

@@ -18,15 +18,15 @@ use Rattle.dill_rules.specs.LinkAnswers.{is_tcp_close}
 use Rattle.dill_rules.specs.Links.{Link, is_listening, connector}
 use Rattle.dill_rules.specs.Naming.{links}
 use Rattle.dill_rules.specs.Refusals.{is_accept}
-use Rattle.dill_rules.specs.Trying.{Try, is_pending_on, next_link, listen_of, connect_of, next_try}
+use Rattle.dill_rules.specs.Trying.{Try, is_pending_on, next_link, listen_of, connect_of}
 use Rattle.dill_rules.specs.World.{World, is_coroutine, call_of, pending_call}
 use Rattle.laws_queue.specs.Well.{bit, is_at, Numbered}
 use Rattle.laws_sound.specs.Orderly.{gives_number, kept_by, weigh, IsOrderly}
 use Rattle.laws_looks.specs.Readers.{In, Pends}
-use Rattle.laws_looks.specs.Keeping.{connects_for, is_connect, connects, KeepsLinks, LinksAreKept}
+use Rattle.laws_looks.specs.Keeping.{is_connect, connects, KeepsLinks, LinksAreKept}
 use Rattle.laws_looks.proofs.Lists.{itself, find_in}
 use Rattle.laws_looks.proofs.Quieted.{found_of}
-use Rattle.laws_fits.specs.Meeting.{may_link, may_handle, RepliesAreKept}
+use Rattle.laws_fits.specs.Meeting.{may_link, for_handle, RepliesAreKept}
 use Rattle.laws_fits.proofs.Rooms.{awaited}
 use Rattle.laws_fits.proofs.Tries.{Sorts, closing, listening, connecting, finishing, accepting, writing, shutting, reading, next_sort}
 
@@ -125,15 +125,15 @@ module _ {V : Type 0} where
       at None h t = cc
       at (Some c) h t = by c h (pending_call c.mode) refl t
 
-  handling : (w : World V) (x : Try) → IsOrderly w → KeepsLinks w → Sorts w x → may_handle x.ask ≡ true → 1 ≤ w.handles.kept
-  handling w x g k (closing l e) m = let bad : false ≡ true = ap may_handle (sym e) ∙ m in cc
+  handling : (w : World V) (x : Try) → IsOrderly w → KeepsLinks w → Sorts w x → for_handle x.ask ≡ true → 1 ≤ w.handles.kept
+  handling w x g k (closing l e) m = let bad : false ≡ true = ap for_handle (sym e) ∙ m in cc
   handling w x g k (listening who call q e) m = number_kept w who call g q (listen_links w who call x e).0
   handling w x g k (connecting who call q e) m = number_kept w who call g q (free_links w who call x e).0
   handling w x g k (finishing o) m = connected w o.y g k o.there o.«open» (connector o.y.sort) refl (and_parts (is_some (connector o.y.sort)) o.y.write_hot o.passes).0
   handling w x g k (accepting o) m = let r = linking w x (accepting o) (ap (λ (z : Try). may_link z.ask) o.same) in number_kept w r.who r.call g r.pends r.links_it
-  handling w x g k (writing o) m = let bad : false ≡ true = ap (λ (z : Try). may_handle z.ask) (sym o.same) ∙ m in cc
-  handling w x g k (shutting o) m = let bad : false ≡ true = ap (λ (z : Try). may_handle z.ask) (sym o.same) ∙ m in cc
-  handling w x g k (reading o) m = let bad : false ≡ true = ap (λ (z : Try). may_handle z.ask) (sym o.same) ∙ m in cc
+  handling w x g k (writing o) m = let bad : false ≡ true = ap (λ (z : Try). for_handle z.ask) (sym o.same) ∙ m in cc
+  handling w x g k (shutting o) m = let bad : false ≡ true = ap (λ (z : Try). for_handle z.ask) (sym o.same) ∙ m in cc
+  handling w x g k (reading o) m = let bad : false ≡ true = ap (λ (z : Try). for_handle z.ask) (sym o.same) ∙ m in cc
 
   pub replies_are_kept : LinksAreKept V → RepliesAreKept V
   replies_are_kept law = record {

@@ -1,4 +1,4 @@
--- A link that is read from has room for what comes.
+-- A link that is read from has room for what comes, and one that is written to offers what goes.
 use Rattle.std.proofs.Common.{◌≡◌, ◌∙◌, ℕ, ◌≤◌, ◌<◌, ◌==◌, List, [], ◌∷◌, length, Bool, true, false, not, ◌&&◌, Option, Some, None, if◌then◌else◌, refl, sym, ap, arith}
 use Rattle.std.specs.Prelude.{is_some}
 use Rattle.std.proofs.lemmas.Bool.{and_parts}
@@ -15,7 +15,7 @@ use Rattle.dill_stack.specs.declared.want.Want.{Want}
 use Rattle.dill_stack.specs.declared.task.Task.{Task}
 use Rattle.dill_stack.specs.declared.task.Task.TheVariants.{Greets, Expects, Answers}
 use Rattle.dill_stack.specs.Formed.{IsFormed}
-use Rattle.dill_stack.specs.Interface.{Held, Looked, is_sent, drop_unread, needs_bytes, unread_bound}
+use Rattle.dill_stack.specs.Interface.{Held, Looked, is_sent, drop_unread, needs_bytes, offered, unread_bound}
 use Rattle.dill_stack.specs.Layers.{Placed, Prefix, Suffix, Term, Http, Ws, HasMessages, IsStanding}
 use Rattle.dill_stack.specs.Needs.{NeedLaws, wants_bytes, wants_head}
 use Rattle.dill_stack.specs.Standing.{IsBounded, IsDroppable}
@@ -24,7 +24,7 @@ use Rattle.dill_rules.specs.Directions.{asked, parting_of}
 use Rattle.dill_rules.specs.LinkAnswers.{still, look_of, reads}
 use Rattle.dill_rules.specs.Links.{Link, look, is_stream}
 use Rattle.dill_rules.specs.Sockets.{link_number}
-use Rattle.dill_rules.specs.Trying.{Try, read_size, may_need, is_awaited_on, pending_on, is_pending_on, is_needy, next_try}
+use Rattle.dill_rules.specs.Trying.{Try, read_size, may_need, is_awaited_on, pending_on, is_pending_on, is_needy}
 use Rattle.dill_rules.specs.World.{World, pending_call}
 use Rattle.laws_queue.specs.Lending.{no_random}
 use Rattle.laws_looks.specs.Readers.{In, Pends}
@@ -33,8 +33,8 @@ use Rattle.laws_looks.specs.Short.{Awaits, NeedsAreShort}
 use Rattle.laws_looks.proofs.Lists.{equal_is, first_in}
 use Rattle.laws_looks.proofs.Restful.{named_link}
 use Rattle.laws_fits.specs.Fitting.{is_greeting, shakes, IsSolid, FitsCall, IsFitting}
-use Rattle.laws_fits.specs.Meeting.{HasRoom, ReadsHaveRoom}
-use Rattle.laws_fits.proofs.Tries.{Opened, link_found, read_try}
+use Rattle.laws_fits.specs.Meeting.{ReadsHaveRoom, WritesAreOffered}
+use Rattle.laws_fits.proofs.Tries.{link_found, write_try, read_try}
 
 -- ---- layers
 
@@ -176,3 +176,11 @@ module _ {V : Type 0} where
         «open» = o.«open»;
         room = room needs short w o.y calm fits there o.«open» five.0 (awaited w may_need o.y.number five.1);
       }
+
+  pub writes_are_offered : WritesAreOffered V
+  writes_are_offered w x link bytes apart e f =
+      let o = write_try w x link bytes e f in
+      let it : asks.Write o.y.number (offered o.y.stack) ≡ asks.Write link bytes = ap (λ (z : Try). z.ask) (sym o.same) ∙ f in
+      let number : o.y.number ≡ link = cc in
+      let same : offered o.y.stack ≡ bytes = cc in
+      record { x = o.y; there = ap (look w.links) (sym number) ∙ link_found 0 w.links.last w.links.all o.y apart.rising o.there; «open» = o.«open»; offered = same }

@@ -1,5 +1,6 @@
 -- What is asked of a core where it makes calls on stacks, keeps links and gives numbers, and that it is so between two steps.
-use Rattle.std.specs.Prelude.{◌≡◌, ℕ, ◌≤◌, length, Bool, true, false, ◌||◌, Option, Some, None, is_some}
+use Rattle.std.specs.Prelude.{◌≡◌, ℕ, ◌≤◌, List, length, Bool, true, false, ◌||◌, Option, Some, None, is_some}
+use Rattle.dill_base.specs.Maps.{if_some}
 use Rattle.dill_calls.specs.declared.call.Call.{Call}
 use Rattle.dill_calls.specs.declared.ran.LackPlace.{LackPlace}
 use Rattle.dill_calls.specs.CallTable.{word_of, named_by}
@@ -8,14 +9,16 @@ use Rattle.dill_calls.specs.Program.{Program}
 use Rattle.dill_kernel.specs.declared.replies.KernelAsk.{KernelAsk}
 use Rattle.dill_kernel.specs.declared.replies.KernelAsk.TheVariants as asks
 use Rattle.dill_kernel.specs.declared.replies.KernelReply.{KernelReply}
+use Rattle.dill_stack.specs.declared.parting.Parting.{Parting}
 use Rattle.dill_stack.specs.Formed.{IsFormed}
-use Rattle.dill_stack.specs.Interface.{Held, is_sent, unread_bound}
+use Rattle.dill_stack.specs.Interface.{Held, is_sent, offered, unread_bound}
 use Rattle.dill_stack.specs.Layers.{IsStanding}
 use Rattle.dill_rules.specs.declared.coroutine.Coroutine.{Coroutine}
-use Rattle.dill_rules.specs.Directions.{is_send, is_receive, is_handshake, layer_of}
+use Rattle.dill_rules.specs.Directions.{is_send, is_receive, is_handshake, layer_of, parting_of}
 use Rattle.dill_rules.specs.Hearing.{heard}
-use Rattle.dill_rules.specs.Linking.{given_up_at_once, enter_receive, enter_handshake, begin_giving_up}
+use Rattle.dill_rules.specs.Linking.{heat, given_up_at_once, enter_receive, enter_handshake, begin_giving_up}
 use Rattle.dill_rules.specs.Links.{Link, look}
+use Rattle.dill_rules.specs.Owning.{take}
 use Rattle.dill_rules.specs.Refusals.{refuse}
 use Rattle.dill_rules.specs.Sockets.{link_named, stack_of}
 use Rattle.dill_rules.specs.Trying.{Try, next_try}
@@ -42,6 +45,17 @@ pub record HasRoom {V : Type 0} (w : World V) (link : ℕ) : Type 0 where
 abbrev pub ReadsHaveRoom : (V : Type 0) → Type 0
 ReadsHaveRoom V = (w : World V) (x : Try) (link size : ℕ) → IsCalm w → IsFitting w → next_try w ≡ Some x → x.ask ≡ asks.Read link size → HasRoom w link
 
+-- a link that isn't closing offers these bytes
+pub record Offers {V : Type 0} (w : World V) (link : ℕ) (bytes : List ℕ) : Type 0 where
+  pub x : Link
+  pub there : look w.links link ≡ Some x
+  pub «open» : x.closing ≡ false
+  pub offered : offered x.stack ≡ bytes
+
+-- so it is of each that is written to
+abbrev pub WritesAreOffered : (V : Type 0) → Type 0
+WritesAreOffered V = (w : World V) (x : Try) (link : ℕ) (bytes : List ℕ) → LooksApart w → next_try w ≡ Some x → x.ask ≡ asks.Write link bytes → Offers w link bytes
+
 -- its reply may make a link
 abbrev pub may_link : KernelAsk → Bool
 may_link (asks.Listen link address backlog) = true
@@ -49,17 +63,18 @@ may_link (asks.Connect link address) = true
 may_link (asks.Accept listener link) = true
 may_link _ = false
 
--- its reply may answer a handle
-abbrev pub may_handle : KernelAsk → Bool
-may_handle (asks.Listen link address backlog) = true
-may_handle (asks.Finish link) = true
-may_handle (asks.Accept listener link) = true
-may_handle _ = false
+-- it is asked for a call that is answered by a handle
+abbrev pub for_handle : KernelAsk → Bool
+for_handle (asks.Listen link address backlog) = true
+for_handle (asks.Connect link address) = true
+for_handle (asks.Finish link) = true
+for_handle (asks.Accept listener link) = true
+for_handle _ = false
 
 -- What a reply may make is kept: a link, and a number for its handle.
 pub record RepliesAreKept (V : Type 0) : Type 0 where
   pub links : (w : World V) (x : Try) → IsInOrder w → KeepsLinks w → next_try w ≡ Some x → may_link x.ask ≡ true → 1 ≤ w.links.kept
-  pub handles : (w : World V) (x : Try) → IsOrderly w → KeepsLinks w → next_try w ≡ Some x → may_handle x.ask ≡ true → 1 ≤ w.handles.kept
+  pub handles : (w : World V) (x : Try) → IsOrderly w → KeepsLinks w → next_try w ≡ Some x → for_handle x.ask ≡ true → 1 ≤ w.handles.kept
 
 -- ---- entries
 
@@ -86,6 +101,12 @@ pub record MayEnter (call : Call) (s : Held) : Type 0 where
 -- so it is of each call that isn't refused
 abbrev pub EntriesFit : {V : Type 0} → Program V → Type 0
 EntriesFit {V} p = (w : World V) (who : ℕ) (view : V) (call : Call) (s : Held) → Calling p w who view call → stack_of (called w who view call) call ≡ Some s → MayEnter call s
+
+-- The stack of a call is still the same where its link is hot or its number is taken, before all else that its entry does.
+pub record StacksStay (V : Type 0) : Type 0 where
+  pub heats : (w : World V) (call : Call) (read write : Bool) → stack_of (heat w call read write) call ≡ stack_of w call
+  pub takes : (w : World V) (who : ℕ) (call : Call) → stack_of (if_some (named_by call) w (λ n. take w n who)) call ≡ stack_of w call
+  pub leaves : (w : World V) (who : ℕ) (call : Call) (parting : Parting) → parting_of call ≡ Some parting → stack_of (taken_for w who call) call ≡ stack_of w call
 
 -- ---- looks
 

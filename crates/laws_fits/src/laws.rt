@@ -1,5 +1,12 @@
 ghost use Rattle.laws_fits.specs.Fitting.{StepsKeepFitting};
-ghost use Rattle.laws_fits.specs.Meeting.{EntriesFit, LooksFit, ReadsHaveRoom, RepliesAreKept};
+ghost use Rattle.laws_fits.specs.Meeting.{
+  EntriesFit,
+  LooksFit,
+  ReadsHaveRoom,
+  RepliesAreKept,
+  StacksStay,
+  WritesAreOffered,
+};
 
 use dill_calls::Body;
 use dill_stack::{again_laws, need_laws};
@@ -23,7 +30,13 @@ pub fn reads_have_room<B: Body>()
     need_laws();
 }
 
-/// Where the reply to what is asked may make a link, one is kept, and where it may answer a handle, a number is.
+/// A link that is written to is there, isn't closing, and offers what goes.
+pub fn writes_are_offered<B: Body>()
+    ensures { WritesAreOffered B }
+{}
+
+/// Where the reply to what is asked may make a link, one is kept; and where it is asked for a call that is answered by a
+/// handle, a number is.
 pub fn replies_are_kept<B: Body>()
     ensures { RepliesAreKept B }
 {
@@ -34,6 +47,11 @@ pub fn replies_are_kept<B: Body>()
 /// puts a layer on it, all that was queued has gone.
 pub fn entries_fit<B: Body>()
     ensures { EntriesFit B.means }
+{}
+
+/// The stack of a call is still the same where its link is hot or its number is taken, before all else that its entry does.
+pub fn stacks_stay<B: Body>()
+    ensures { StacksStay B }
 {}
 
 /// Behind a reply of the kernel, in a turn, and as a call is entered, each pending call may look at its stack: a receive has

@@ -4,4 +4,7 @@
 
 mod laws;
 
-pub use laws::{entries_fit, looks_fit, reads_have_room, replies_are_kept, steps_keep_fitting};
+pub use laws::{
+    entries_fit, looks_fit, reads_have_room, replies_are_kept, stacks_stay, steps_keep_fitting,
+    writes_are_offered,
+};
