@@ -72,15 +72,15 @@ module _ {V : Type 0} where
       let there : find (is_coroutine who) w.coroutines ≡ Some p.one = subst (λ k. find (is_coroutine k) w.coroutines ≡ Some p.one) p.number (found_of 0 w.last_coroutine w.coroutines p.one n p.there) in
       ap (λ o. if_some o None (λ (c : Coroutine V). pending_call c.mode)) there ∙ p.mode
 
-  -- who waits for a link or for its handle, without a link or in no connect
-  record Links (w : World V) : Type 0 where
+  -- who is pending in a call that makes a link, and has none yet
+  record Linker (w : World V) : Type 0 where
     who : ℕ
     call : Call
     pends : Pends w who call
     links_it : links (word_of call) ≡ true
     free : (is_connect (word_of call) ≡ false) ⊎ (find (is_connecting_for who) w.links.all ≡ None)
 
-  linking : (w : World V) (x : Try) → Sorts w x → may_link x.ask ≡ true → Links w
+  linking : (w : World V) (x : Try) → Sorts w x → may_link x.ask ≡ true → Linker w
   linking w x (closing l e) m = let bad : false ≡ true = ap may_link (sym e) ∙ m in cc
   linking w x (listening who call q e) m = let r = listen_links w who call x e in record { who = who; call = call; pends = q; links_it = r.0; free = inl r.1 }
   linking w x (connecting who call q e) m = let r = free_links w who call x e in record { who = who; call = call; pends = q; links_it = r.0; free = inr (none_found (is_connecting_for who) w.links.all r.1) }

@@ -183,4 +183,4 @@ module _ {V : Type 0} where
       let it : asks.Write o.y.number (offered o.y.stack) ≡ asks.Write link bytes = ap (λ (z : Try). z.ask) (sym o.same) ∙ f in
       let number : o.y.number ≡ link = cc in
       let same : offered o.y.stack ≡ bytes = cc in
-      record { x = o.y; there = ap (look w.links) (sym number) ∙ link_found 0 w.links.last w.links.all o.y apart.rising o.there; «open» = o.«open»; offered = same }
+      record { x = o.y; there = ap (look w.links) (sym number) ∙ link_found 0 w.links.last w.links.all o.y apart.rising o.there; «open» = o.«open»; offers = same }

@@ -35,7 +35,7 @@ use Rattle.laws_fits.specs.Fitting.{IsSolid, FitsCall, IsFitting}
 -- ---- asks of the kernel
 
 -- a link that isn't closing, with room for another 4,096 bytes
-pub record HasRoom {V : Type 0} (w : World V) (link : ℕ) : Type 0 where
+pub record IsRoomy {V : Type 0} (w : World V) (link : ℕ) : Type 0 where
   pub x : Link
   pub there : look w.links link ≡ Some x
   pub «open» : x.closing ≡ false
@@ -43,14 +43,14 @@ pub record HasRoom {V : Type 0} (w : World V) (link : ℕ) : Type 0 where
 
 -- so it is of each that is read from
 abbrev pub ReadsHaveRoom : (V : Type 0) → Type 0
-ReadsHaveRoom V = (w : World V) (x : Try) (link size : ℕ) → IsCalm w → IsFitting w → next_try w ≡ Some x → x.ask ≡ asks.Read link size → HasRoom w link
+ReadsHaveRoom V = (w : World V) (x : Try) (link size : ℕ) → IsCalm w → IsFitting w → next_try w ≡ Some x → x.ask ≡ asks.Read link size → IsRoomy w link
 
 -- a link that isn't closing offers these bytes
 pub record Offers {V : Type 0} (w : World V) (link : ℕ) (bytes : List ℕ) : Type 0 where
   pub x : Link
   pub there : look w.links link ≡ Some x
   pub «open» : x.closing ≡ false
-  pub offered : offered x.stack ≡ bytes
+  pub offers : offered x.stack ≡ bytes
 
 -- so it is of each that is written to
 abbrev pub WritesAreOffered : (V : Type 0) → Type 0

@@ -1,5 +1,5 @@
-//! That the stack of each link fits the calls that are pending on it, and what is asked of it. Definitions and laws; it
-//! holds no code.
+//! That the stack of each link fits the calls that are pending on it, and that so each call on a stack finds what it
+//! requires. Definitions and laws; it holds no code.
 #![tactic(auto)]
 
 mod laws;
