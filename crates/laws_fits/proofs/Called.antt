@@ -7,7 +7,6 @@ use Rattle.dill_calls.specs.declared.word.Word.{Word}
 use Rattle.dill_calls.specs.declared.word.Word.TheVariants as words
 use Rattle.dill_calls.specs.CallTable.{word_of, named_by, blocks, gives_up}
 use Rattle.dill_calls.specs.Program.{Program}
-use Rattle.dill_scope.proofs.Numbered.{found_number}
 use Rattle.dill_stack.specs.declared.parting.Parting.{Parting}
 use Rattle.dill_stack.specs.Interface.{Held, detach_start, drop_unread}
 use Rattle.dill_rules.specs.declared.coroutine.Coroutine.{Coroutine}
@@ -23,15 +22,17 @@ use Rattle.dill_rules.specs.Owning.{take}
 use Rattle.dill_rules.specs.Sockets.{link_number, link_named, stack_of, on_link as change_on, on_named}
 use Rattle.dill_rules.specs.Turning.{resume}
 use Rattle.dill_rules.specs.World.{World, is_coroutine, coroutine_of, call_of, with_mode, pend, pending_call}
+use Rattle.laws_sound.proofs.Calling.{go_on_goes}
 use Rattle.laws_looks.specs.OneLook.{called, taken_for}
-use Rattle.laws_looks.proofs.Lists.{true_false, find_in}
+use Rattle.laws_looks.proofs.Lists.{true_false}
 use Rattle.laws_looks.proofs.Restful.{named_link}
 use Rattle.laws_fits.specs.Fitting.{IsFitting}
-use Rattle.laws_fits.specs.Meeting.{Calling, MayEnter, EntriesFit, StacksStay, MayLook, LooksFit}
+use Rattle.laws_fits.specs.Meeting.{Lasting, Calling, MayEnter, EntriesFit, StacksStay, MayLook, LooksFit}
 use Rattle.laws_fits.proofs.Elsewhere.{Performs, on_link, elsewhere, performs}
 use Rattle.laws_fits.proofs.Entering.{Caller, met_same, quiet, done_fits}
 use Rattle.laws_fits.proofs.Fits.{Fitted, Lasts}
 use Rattle.laws_fits.proofs.Hearing.{heard_lasts}
+use Rattle.laws_fits.proofs.Keepers.{pends_in}
 use Rattle.laws_fits.proofs.Tidy.{take_links_all, take_named}
 use Rattle.laws_fits.proofs.Steps.{lasts_of, calling, go_on_lasts}
 
@@ -154,6 +155,9 @@ module _ {V : Type 0} where
       let v = if_some (named_by call) w (λ n. take w n who) in
       ap (λ q. stack_of (if_some q (if_some (named_by call) v (λ n. on_named v n (with_stack drop_unread))) (λ parting. v)) call) e ∙ takes w who call
 
+  lasts_in : (w : World V) → Lasting w → Lasts w
+  lasts_in w h = lasts_of w h.order h.apart h.fits
+
   -- ---- a call that is entered
 
   module _ (p : Program V) (w : World V) (who : ℕ) (view : V) (call : Call) (h : Calling p w who view call) where
@@ -163,11 +167,8 @@ module _ {V : Type 0} where
     abbrev k : World V
     k = called w who view call
 
-    lasts : Lasts w
-    lasts = lasts_of w h.order h.apart h.fits
-
     caller : Caller r who call
-    caller = calling p w who h.one h.found h.answered h.order lasts view call h.refused
+    caller = calling p w who h.one h.found h.answered h.lasting.order (lasts_in w h.lasting) view call h.refused
 
     may_enter : (s : Held) → if_some (named_by call) None (λ n. option_map (λ x. x.stack) (link_named k n)) ≡ Some s → MayEnter call s
     may_enter s e = at (named_by call) refl e
@@ -235,20 +236,13 @@ module _ {V : Type 0} where
   -- ---- a call that is pending
 
   may_look : (w : World V) (who : ℕ) (call : Call) (n : ℕ) (x : Link) → IsFitting w → call_of w who ≡ Some call → named_by call ≡ Some n → link_named w n ≡ Some x → MayLook call x
-  may_look w who call n x h e f g = at (coroutine_of w who) refl e
+  may_look w who call n x h e f g = at (link_number w n) refl g
     where
-      linked : (c : Coroutine V) → coroutine_of w who ≡ Some c → pending_call c.mode ≡ Some call → (o : Option ℕ) → link_number w n ≡ o → if_some o None (look w.links) ≡ Some x → MayLook call x
-      linked c i m None j t = cc
-      linked c i m (Some l) j t =
-          let names = named_link w n l j in
-          record {
-            fits = h.calls who call n l x (record { one = c; there = find_in (is_coroutine who) w.coroutines c i; number = found_number (λ (d : Coroutine V). d.number) who w.coroutines c i; mode = m }) f names t;
-            solid = h.solid l x t (h.«open» n l x names t);
-          }
-
-      at : (o : Option (Coroutine V)) → coroutine_of w who ≡ o → if_some o None (λ c. pending_call c.mode) ≡ Some call → MayLook call x
-      at None i m = cc
-      at (Some c) i m = linked c i m (link_number w n) refl g
+      at : (o : Option ℕ) → link_number w n ≡ o → if_some o None (look w.links) ≡ Some x → MayLook call x
+      at None i t = cc
+      at (Some l) i t =
+          let names = named_link w n l i in
+          record { fits = h.calls who call n l x (pends_in w who call e) f names t; solid = h.solid l x t (h.«open» n l x names t) }
 
 pub entries_fit : {V : Type 0} (p : Program V) → EntriesFit p
 entries_fit p w who view call s h e = may_enter p w who view call h s e
@@ -256,8 +250,10 @@ entries_fit p w who view call s h e = may_enter p w who view call h s e
 pub looks_fit : {V : Type 0} (p : Program V) → LooksFit p
 looks_fit p = record {
   looks = may_look;
-  hears = λ w x said g a f e. (heard_lasts w x said e (lasts_of w g a f)).fits;
-  turns = λ lack w who c g a f found answered. (go_on_lasts p w who c found answered g (lasts_of w g a f) lack).fits;
+  hears = λ w x said h e. (heard_lasts w x said e (lasts_in w h)).fits;
+  turns = λ lack w who c h found answered.
+      let v = go_on_lasts p w who c found answered h.order (lasts_in w h) lack in
+      record { order = (go_on_goes p lack w who c h.order found answered).good; apart = v.apart; fits = v.fits };
   receives = λ w who view call n h e f. receives p w who view call h n e f;
   handshakes = λ w who view call n h e f. handshakes p w who view call h n e f;
   gives_up = λ w who view call n h e f none. giving p w who view call h n e f none;

@@ -2,7 +2,7 @@
 use Rattle.std.proofs.Common.{◌≡◌, ◌∙◌, ◌⊎◌, inl, inr, ℕ, ◌≤◌, ◌==◌, List, [], ◌∷◌, find, cond, Bool, true, false, not, ◌&&◌, ◌||◌, Option, Some, None, if◌then◌else◌, refl, sym, ap, subst, arith}
 use Rattle.std.specs.Prelude.{is_some}
 use Rattle.std.specs.List.{list_any}
-use Rattle.std.proofs.lemmas.Bool.{and_parts, or_parts}
+use Rattle.std.proofs.lemmas.Bool.{and_parts, or_parts, or_left}
 use Rattle.dill_base.specs.Maps.{if_some}
 use Rattle.dill_calls.specs.declared.call.Call.{Call}
 use Rattle.dill_calls.specs.declared.call.Call.TheVariants as calls
@@ -19,7 +19,7 @@ use Rattle.dill_rules.specs.Links.{Link, is_listening, connector}
 use Rattle.dill_rules.specs.Naming.{links}
 use Rattle.dill_rules.specs.Refusals.{is_accept}
 use Rattle.dill_rules.specs.Trying.{Try, is_pending_on, next_link, listen_of, connect_of}
-use Rattle.dill_rules.specs.World.{World, is_coroutine, call_of, pending_call}
+use Rattle.dill_rules.specs.World.{World, is_coroutine, coroutine_of, call_of, pending_call}
 use Rattle.laws_queue.specs.Well.{bit, is_at, Numbered}
 use Rattle.laws_sound.specs.Orderly.{gives_number, kept_by, weigh, IsOrderly}
 use Rattle.laws_looks.specs.Readers.{In, Pends}
@@ -94,12 +94,22 @@ module _ {V : Type 0} where
   linking w x (shutting o) m = let bad : false ≡ true = ap (λ (z : Try). may_link z.ask) (sym o.same) ∙ m in cc
   linking w x (reading o) m = let bad : false ≡ true = ap (λ (z : Try). may_link z.ask) (sym o.same) ∙ m in cc
 
-  number_kept : (w : World V) (who : ℕ) (call : Call) → IsOrderly w → Pends w who call → links (word_of call) ≡ true → 1 ≤ w.handles.kept
-  number_kept w who call g p l =
+  pub pends_in : (w : World V) (who : ℕ) (call : Call) → call_of w who ≡ Some call → Pends w who call
+  pends_in w who call e = at (coroutine_of w who) refl e
+    where
+      at : (o : Option (Coroutine V)) → coroutine_of w who ≡ o → if_some o None (λ c. pending_call c.mode) ≡ Some call → Pends w who call
+      at None f g = cc
+      at (Some c) f g = record { one = c; there = find_in (is_coroutine who) w.coroutines c f; number = found_number (λ (d : Coroutine V). d.number) who w.coroutines c f; mode = g }
+
+  number_kept : (w : World V) (who : ℕ) (call : Call) → IsOrderly w → Pends w who call → gives_number (word_of call) ≡ true → 1 ≤ w.handles.kept
+  number_kept w who call g p t =
       let most = weigh_in kept_by w.coroutines p.one p.there in
-      let one : kept_by p.one ≡ 1 = ap (λ o. if_some o 0 (λ c. bit (gives_number (word_of c)))) p.mode ∙ ap (λ b. bit (b || ((is_handshake (word_of call) || gives_up (word_of call)) && not (is_tcp_close (word_of call))))) l in
+      let one : kept_by p.one ≡ 1 = ap (λ o. if_some o 0 (λ c. bit (gives_number (word_of c)))) p.mode ∙ ap bit t in
       let few = g.kept in
       omega (arith, most, one, few)
+
+  link_kept : (w : World V) (who : ℕ) (call : Call) → IsOrderly w → Pends w who call → links (word_of call) ≡ true → 1 ≤ w.handles.kept
+  link_kept w who call g p l = number_kept w who call g p (or_left (links (word_of call)) ((is_handshake (word_of call) || gives_up (word_of call)) && not (is_tcp_close (word_of call))) l)
 
   -- who made a link that connects is pending
   connected : (w : World V) (y : Link) → IsOrderly w → KeepsLinks w → In y w.links.all → y.closing ≡ false → (o : Option ℕ) → connector y.sort ≡ o → is_some o ≡ true → 1 ≤ w.handles.kept
@@ -119,7 +129,7 @@ module _ {V : Type 0} where
       by : (c : Coroutine V) → find (is_coroutine who) w.coroutines ≡ Some c → (o : Option Call) → pending_call c.mode ≡ o → if_some o false (λ call. is_connect (word_of call)) ≡ true → 1 ≤ w.handles.kept
       by c h None j t = cc
       by c h (Some call) j t =
-          number_kept w who call g (record { one = c; there = find_in (is_coroutine who) w.coroutines c h; number = found_number (λ (d : Coroutine V). d.number) who w.coroutines c h; mode = j }) (connect_links (word_of call) t)
+          link_kept w who call g (record { one = c; there = find_in (is_coroutine who) w.coroutines c h; number = found_number (λ (d : Coroutine V). d.number) who w.coroutines c h; mode = j }) (connect_links (word_of call) t)
 
       at : (o : Option (Coroutine V)) → find (is_coroutine who) w.coroutines ≡ o → if_some o false (λ c. connects c.mode) ≡ true → 1 ≤ w.handles.kept
       at None h t = cc
@@ -127,10 +137,10 @@ module _ {V : Type 0} where
 
   handling : (w : World V) (x : Try) → IsOrderly w → KeepsLinks w → Sorts w x → for_handle x.ask ≡ true → 1 ≤ w.handles.kept
   handling w x g k (closing l e) m = let bad : false ≡ true = ap for_handle (sym e) ∙ m in cc
-  handling w x g k (listening who call q e) m = number_kept w who call g q (listen_links w who call x e).0
-  handling w x g k (connecting who call q e) m = number_kept w who call g q (free_links w who call x e).0
+  handling w x g k (listening who call q e) m = link_kept w who call g q (listen_links w who call x e).0
+  handling w x g k (connecting who call q e) m = link_kept w who call g q (free_links w who call x e).0
   handling w x g k (finishing o) m = connected w o.y g k o.there o.«open» (connector o.y.sort) refl (and_parts (is_some (connector o.y.sort)) o.y.write_hot o.passes).0
-  handling w x g k (accepting o) m = let r = linking w x (accepting o) (ap (λ (z : Try). may_link z.ask) o.same) in number_kept w r.who r.call g r.pends r.links_it
+  handling w x g k (accepting o) m = let r = linking w x (accepting o) (ap (λ (z : Try). may_link z.ask) o.same) in link_kept w r.who r.call g r.pends r.links_it
   handling w x g k (writing o) m = let bad : false ≡ true = ap (λ (z : Try). for_handle z.ask) (sym o.same) ∙ m in cc
   handling w x g k (shutting o) m = let bad : false ≡ true = ap (λ (z : Try). for_handle z.ask) (sym o.same) ∙ m in cc
   handling w x g k (reading o) m = let bad : false ≡ true = ap (λ (z : Try). for_handle z.ask) (sym o.same) ∙ m in cc
@@ -139,4 +149,5 @@ module _ {V : Type 0} where
   replies_are_kept law = record {
     links = λ w x g k e m. let r = linking w x (next_sort w x e) m in law w r.who r.call k (pended w r.who r.call g.fits.numbered r.pends) r.links_it r.free;
     handles = λ w x g k e m. handling w x g k (next_sort w x e) m;
+    answers = λ w who call g e t. number_kept w who call g (pends_in w who call e) t;
   }

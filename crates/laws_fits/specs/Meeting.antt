@@ -25,12 +25,18 @@ use Rattle.dill_rules.specs.Trying.{Try, next_try}
 use Rattle.dill_rules.specs.Turning.{resume, go_on}
 use Rattle.dill_rules.specs.World.{World, call_of, coroutine_of, is_answered, begin}
 use Rattle.laws_sound.specs.Order.{IsInOrder}
-use Rattle.laws_sound.specs.Orderly.{IsOrderly}
+use Rattle.laws_sound.specs.Orderly.{gives_number, IsOrderly}
 use Rattle.laws_looks.specs.Calm.{IsCalm}
 use Rattle.laws_looks.specs.Keeping.{KeepsLinks}
 use Rattle.laws_looks.specs.OneLook.{called, taken_for}
 use Rattle.laws_looks.specs.Readers.{LooksApart}
 use Rattle.laws_fits.specs.Fitting.{IsSolid, FitsCall, IsFitting}
+
+-- what lasts from step to step: a world in order, with one reader at most at each stack, and stacks that fit
+pub record Lasting {V : Type 0} (w : World V) : Type 0 where
+  pub order : IsOrderly w
+  pub apart : LooksApart w
+  pub fits : IsFitting w
 
 -- ---- asks of the kernel
 
@@ -71,18 +77,17 @@ for_handle (asks.Finish link) = true
 for_handle (asks.Accept listener link) = true
 for_handle _ = false
 
--- What a reply may make is kept: a link, and a number for its handle.
+-- What a reply may make is kept: a link, and a number for its handle. So is a number for whoever waits in a call that may be answered by a new one.
 pub record RepliesAreKept (V : Type 0) : Type 0 where
   pub links : (w : World V) (x : Try) → IsInOrder w → KeepsLinks w → next_try w ≡ Some x → may_link x.ask ≡ true → 1 ≤ w.links.kept
   pub handles : (w : World V) (x : Try) → IsOrderly w → KeepsLinks w → next_try w ≡ Some x → for_handle x.ask ≡ true → 1 ≤ w.handles.kept
+  pub answers : (w : World V) (who : ℕ) (call : Call) → IsOrderly w → call_of w who ≡ Some call → gives_number (word_of call) ≡ true → 1 ≤ w.handles.kept
 
 -- ---- entries
 
 -- a coroutine whose turn it is makes a call that isn't refused
 pub record Calling {V : Type 0} (p : Program V) (w : World V) (who : ℕ) (view : V) (call : Call) : Type 0 where
-  pub order : IsOrderly w
-  pub apart : LooksApart w
-  pub fits : IsFitting w
+  pub lasting : Lasting w
   pub one : Coroutine V
   pub found : coroutine_of w who ≡ Some one
   pub answered : is_answered one.mode ≡ true
@@ -118,9 +123,8 @@ pub record MayLook (call : Call) (x : Link) : Type 0 where
 -- So it is of each that is pending in a world that fits: behind a reply of the kernel, in a turn, and as a call is entered that isn't refused and looks at its stack.
 pub record LooksFit {V : Type 0} (p : Program V) : Type 0 where
   pub looks : (w : World V) (who : ℕ) (call : Call) (n : ℕ) (x : Link) → IsFitting w → call_of w who ≡ Some call → named_by call ≡ Some n → link_named w n ≡ Some x → MayLook call x
-  pub hears : (w : World V) (x : Try) (said : Option KernelReply) → IsOrderly w → LooksApart w → IsFitting w → next_try w ≡ Some x → IsFitting (heard w x said)
-  pub turns : (lack : Option LackPlace) (w : World V) (who : ℕ) (c : Coroutine V) → IsOrderly w → LooksApart w → IsFitting w → coroutine_of w who ≡ Some c → is_answered c.mode ≡ true
-      → IsFitting (go_on p lack (begin w) who c.body)
+  pub hears : (w : World V) (x : Try) (said : Option KernelReply) → Lasting w → next_try w ≡ Some x → IsFitting (heard w x said)
+  pub turns : (lack : Option LackPlace) (w : World V) (who : ℕ) (c : Coroutine V) → Lasting w → coroutine_of w who ≡ Some c → is_answered c.mode ≡ true → Lasting (go_on p lack (begin w) who c.body)
   pub receives : (w : World V) (who : ℕ) (view : V) (call : Call) (n : ℕ) → Calling p w who view call → named_by call ≡ Some n → is_receive (word_of call) ≡ true → IsFitting (enter_receive (called w who view call) who call)
   pub handshakes : (w : World V) (who : ℕ) (view : V) (call : Call) (n : ℕ) → Calling p w who view call → named_by call ≡ Some n → is_handshake (word_of call) ≡ true → IsFitting (enter_handshake (called w who view call) who call)
   pub gives_up : (w : World V) (who : ℕ) (view : V) (call : Call) (n : ℕ) → Calling p w who view call → named_by call ≡ Some n → table.gives_up (word_of call) ≡ true

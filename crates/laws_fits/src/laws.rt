@@ -36,7 +36,7 @@ pub fn writes_are_offered<B: Body>()
 {}
 
 /// Where the reply to what is asked may make a link, one is kept; and where it is asked for a call that is answered by a
-/// handle, a number is.
+/// handle, a number is. So is one for whoever waits in a call that may be answered by a new number.
 pub fn replies_are_kept<B: Body>()
     ensures { RepliesAreKept B }
 {
